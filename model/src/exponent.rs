@@ -1,0 +1,63 @@
+//! The exponent weights: the table that turns k, 0 to 1000, into a weight.
+
+/// The weights of k = 0 to 1000, in order.
+/// Follows 01: "The weight of k stands in a table of 1001 numbers: the first is
+/// 1,000,000,000, each next is 999/1000 of the one before, rounded down."
+pub fn table() -> Vec<u128> {
+    let mut weights = Vec::new();
+    let mut weight: u128 = 1_000_000_000;
+    for _k in 0..=1000 {
+        weights.push(weight);
+        weight = weight * 999 / 1000;
+    }
+    weights
+}
+
+#[cfg(test)]
+mod tests {
+    use super::*;
+
+    #[test]
+    fn marked_cases() {
+        let weights = table();
+        assert_eq!(weights[0], 1_000_000_000);
+        assert_eq!(weights[4], 996_005_996);
+    }
+
+    #[test]
+    fn first_weights() {
+        let first = [
+            1_000_000_000,
+            999_000_000,
+            998_001_000,
+            997_002_999,
+            996_005_996,
+        ];
+        assert_eq!(table()[..5], first);
+    }
+
+    #[test]
+    fn table_has_1001_weights() {
+        assert_eq!(table().len(), 1001);
+    }
+
+    #[test]
+    fn each_next_is_rounded_down() {
+        // next is the floor: 1000 * next <= 999 * before < 1000 * (next + 1)
+        let weights = table();
+        for k in 1..weights.len() {
+            let exact = 999 * weights[k - 1];
+            assert!(1000 * weights[k] <= exact);
+            assert!(exact < 1000 * (weights[k] + 1));
+        }
+    }
+
+    #[test]
+    fn weights_fall_and_stay_above_zero() {
+        let weights = table();
+        for k in 1..weights.len() {
+            assert!(weights[k] < weights[k - 1]);
+            assert!(weights[k] > 0);
+        }
+    }
+}

@@ -1,0 +1,6 @@
+//! The independent reference model, written from 01 (the requirement) alone.
+//! This file only declares the modules.
+
+pub mod exponent;
+pub mod product;
+pub mod sharing;

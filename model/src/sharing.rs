@@ -1,0 +1,205 @@
+//! Sharing an amount by weights: apportionment by largest remainders.
+
+use crate::product::divide_product;
+
+/// The shares of `t` by `weights`, in the order of the weights (rising operators).
+/// Follows 01: "Sharing T by weights: each gets T × weight / (sum of weights)
+/// rounded down; the units left over go one each to the largest remainders,
+/// ties to the lower operator. All weights 0: all get 0."
+pub fn share(t: u64, weights: &[u64]) -> Vec<u128> {
+    let mut sum: u128 = 0;
+    for &weight in weights {
+        sum += u128::from(weight);
+    }
+    if sum == 0 {
+        return vec![0; weights.len()];
+    }
+
+    let mut shares = Vec::new();
+    let mut remainders = Vec::new();
+    let mut left_over = u128::from(t);
+    for &weight in weights {
+        let (floor, remainder) = divide_product(t, weight, sum);
+        shares.push(floor);
+        remainders.push(remainder);
+        left_over -= floor;
+    }
+
+    // One unit at a time, to the largest remainder among the places that have
+    // had no unit yet; the strict comparison keeps the lower place on a tie.
+    let mut served = vec![false; weights.len()];
+    while left_over > 0 {
+        let mut chosen: Option<usize> = None;
+        for place in 0..weights.len() {
+            if served[place] {
+                continue;
+            }
+            match chosen {
+                None => chosen = Some(place),
+                Some(best) => {
+                    if remainders[place] > remainders[best] {
+                        chosen = Some(place);
+                    }
+                }
+            }
+        }
+        // The units left over are fewer than the places.
+        let place = chosen.expect("more units left over than places");
+        served[place] = true;
+        shares[place] += 1;
+        left_over -= 1;
+    }
+    shares
+}
+
+/// Answer to one line `T w0 w1 .. wk` of the subcommand `share`: the shares.
+/// Follows 01: "Sharing T by weights", the weights being those of rising operators.
+pub fn answer(numbers: &[u64]) -> Result<Vec<u128>, String> {
+    if numbers.len() < 2 {
+        return Err("expected an amount and at least one weight".to_string());
+    }
+    Ok(share(numbers[0], &numbers[1..]))
+}
+
+#[cfg(test)]
+mod tests {
+    use super::*;
+
+    const MAX: u64 = u64::MAX;
+
+    fn total(shares: &[u128]) -> u128 {
+        shares.iter().sum()
+    }
+
+    /// Checks a sharing against the words of 01, without making it again.
+    fn check(t: u64, weights: &[u64]) {
+        let shares = share(t, weights);
+        assert_eq!(shares.len(), weights.len());
+        let sum: u128 = weights.iter().map(|&w| u128::from(w)).sum();
+        if sum == 0 {
+            assert!(shares.iter().all(|&s| s == 0));
+            return;
+        }
+        assert_eq!(total(&shares), u128::from(t), "{t} by {weights:?}");
+
+        let mut remainders = Vec::new();
+        let mut extra = Vec::new();
+        for place in 0..weights.len() {
+            let product = u128::from(t) * u128::from(weights[place]);
+            let floor = product / sum;
+            assert!(
+                shares[place] == floor || shares[place] == floor + 1,
+                "{t} by {weights:?}"
+            );
+            remainders.push(product % sum);
+            extra.push(shares[place] > floor);
+        }
+        // A place with a spare unit comes before every place without one.
+        for with in 0..weights.len() {
+            for without in 0..weights.len() {
+                if extra[with] && !extra[without] {
+                    assert!(
+                        remainders[with] > remainders[without]
+                            || (remainders[with] == remainders[without] && with < without),
+                        "{t} by {weights:?}"
+                    );
+                }
+            }
+        }
+    }
+
+    #[test]
+    fn marked_case() {
+        assert_eq!(share(10, &[1, 1, 1]), vec![4, 3, 3]);
+    }
+
+    #[test]
+    fn all_weights_zero() {
+        assert_eq!(share(10, &[0]), vec![0]);
+        assert_eq!(share(10, &[0, 0, 0]), vec![0, 0, 0]);
+        assert_eq!(share(MAX, &[0, 0]), vec![0, 0]);
+        assert_eq!(share(0, &[0, 0]), vec![0, 0]);
+        assert_eq!(share(10, &[]), vec![]);
+    }
+
+    #[test]
+    fn nothing_to_share() {
+        assert_eq!(share(0, &[1, 2, 3]), vec![0, 0, 0]);
+    }
+
+    #[test]
+    fn one_place_takes_all() {
+        assert_eq!(share(10, &[7]), vec![10]);
+        assert_eq!(share(10, &[0, 7, 0]), vec![0, 10, 0]);
+    }
+
+    #[test]
+    fn ties_go_to_the_lower_place() {
+        assert_eq!(share(1, &[1, 1]), vec![1, 0]);
+        assert_eq!(share(11, &[1, 1, 1]), vec![4, 4, 3]);
+        assert_eq!(share(1, &[0, 1, 1]), vec![0, 1, 0]);
+        // Remainders 2, 4, 4 of 5: the first has no spare unit, though lower.
+        assert_eq!(share(2, &[1, 2, 2]), vec![0, 1, 1]);
+        // Remainders 1, 2, 2 of 5: one unit, two equal largest remainders.
+        assert_eq!(share(1, &[1, 2, 2]), vec![0, 1, 0]);
+    }
+
+    #[test]
+    fn spare_units_go_to_the_largest_remainders() {
+        // 10/6, 20/6, 30/6: floors 1, 3, 5 and remainders 4, 2, 0.
+        assert_eq!(share(10, &[1, 2, 3]), vec![2, 3, 5]);
+        // 3/10, 9/10, 18/10: floors 0, 0, 1 and remainders 3, 9, 8.
+        assert_eq!(share(3, &[1, 3, 6]), vec![0, 1, 2]);
+    }
+
+    #[test]
+    fn sixteen_places() {
+        let mut expected = vec![7; 4];
+        expected.extend(vec![6; 12]);
+        assert_eq!(share(100, &[1; 16]), expected);
+    }
+
+    #[test]
+    fn every_small_case() {
+        for t in 0..=12 {
+            for a in 0..=4 {
+                for b in 0..=4 {
+                    for c in 0..=4 {
+                        check(t, &[a, b, c]);
+                    }
+                }
+            }
+        }
+    }
+
+    #[test]
+    fn large_cases() {
+        let max = u128::from(MAX);
+        // 2^64 - 1 is three times 6148914691236517205.
+        let third = 6148914691236517205;
+        assert_eq!(share(MAX, &[MAX, MAX, MAX]), vec![third; 3]);
+        assert_eq!(
+            share(MAX - 1, &[MAX, MAX, MAX]),
+            vec![third, third, third - 1]
+        );
+        // The sum of weights is 2^64; remainders 1 and 2^64 - 1.
+        assert_eq!(share(MAX, &[MAX, 1]), vec![max - 1, 1]);
+        assert_eq!(share(MAX, &[1, MAX]), vec![1, max - 1]);
+        // An odd amount, equal weights.
+        assert_eq!(
+            share(MAX, &[MAX, MAX]),
+            vec![9223372036854775808, 9223372036854775807]
+        );
+        check(MAX, &[MAX; 16]);
+        check(MAX - 1, &[MAX, MAX - 1, MAX - 2, 1, 0]);
+        check(MAX, &[3, MAX, 0, MAX / 2, MAX / 3, 7]);
+        check(10_000_000_000_000_000_000, &[9_999_999_999_999_999_999, 2]);
+    }
+
+    #[test]
+    fn malformed_lines() {
+        assert!(answer(&[]).is_err());
+        assert!(answer(&[10]).is_err());
+        assert_eq!(answer(&[10, 1, 1, 1]), Ok(vec![4, 3, 3]));
+    }
+}
