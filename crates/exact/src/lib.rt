@@ -1,0 +1,52 @@
+// Quotient and remainder of a product that passes 64 bits, in steps of 64 bits (01: "Some products pass 64 bits; the
+// answer is exact all the same").
+ghost use mathlib.Core.Path.{_≡_};
+ghost use Prim.Native.Nat.{_+_, _*_, _/_, _%_, _^_, _<_, _≤_};
+
+// What a whole division gives.
+pub struct Division {
+    pub quotient: u64,
+    pub remainder: u64,
+}
+
+// t * w divided by s, exact over the whole numbers. Each wide product here shares t by a weight w of a sum s, so w ≤ s.
+pub fn divide_product(t: u64, w: u64, s: u64) -> Division
+    requires { ⌜ (0 < s) × (w ≤ s) × (s < 2 ^ 62) × (t < 2 ^ 62) ⌝ }
+    ensures { λ r. ⌜ (r .quotient ≡ t * w / s) × (r .remainder ≡ t * w % s) ⌝ }
+{
+    let mut k = 64 - u64::leading_zeros(t);
+    let mut d = Division {
+        quotient: 0,
+        remainder: 0,
+    };
+    while 0 < k {
+        k -= 1;
+        d = append_bit(d, (t >> k) % 2, w, s);
+    }
+    d
+}
+
+// The division of a product whose factor t is one bit longer: t doubled, and the bit added.
+fn append_bit(d: Division, bit: u64, w: u64, s: u64) -> Division
+    requires { ⌜ (bit < 2) × (w ≤ s) × (s < 2 ^ 62) × (d .remainder < s) × (d .quotient < 2 ^ 62) ⌝ }
+    ensures { λ r. ⌜ (r .remainder < s) × (r .quotient * s + r .remainder ≡ 2 * (d .quotient * s + d .remainder) + bit * w) ⌝ }
+{
+    let quotient = 2 * d.quotient;
+    let remainder = 2 * d.remainder + bit * w;
+    if remainder < s {
+        return Division {
+            quotient,
+            remainder,
+        };
+    }
+    if remainder - s < s {
+        return Division {
+            quotient: quotient + 1,
+            remainder: remainder - s,
+        };
+    }
+    Division {
+        quotient: quotient + 2,
+        remainder: remainder - s - s,
+    }
+}
