@@ -1,0 +1,41 @@
+#!/usr/bin/env bash
+# Compares what the test programs must print with what the independent model gives.
+# A stored output has a case a line, "input = answer"; the programs are held to it by rt ci, and the model is held to it here.
+set -euo pipefail
+cd "$(dirname "$0")/.."
+
+(cd model && cargo test --quiet --offline && cargo build --quiet --release --offline)
+model=model/target/release/model
+
+# The inputs of a stored output, answered by the model, in the layout of the stored output.
+answered() { # SUBCOMMAND FILE
+    paste -d '=' <(sed 's/=.*/=/; s/=$//' "$2") <(sed 's/ *=.*//' "$2" | "$model" "$1" | sed 's/^/ /')
+}
+
+agrees() { # SUBCOMMAND FILE
+    cmp --silent <(answered "$1" "$2") "$2"
+}
+
+hold() { # SUBCOMMAND FILE
+    if ! agrees "$1" "$2"; then
+        echo "tests/model.sh: $2 is not what the model gives; the first lines that differ:" >&2
+        diff <(answered "$1" "$2") "$2" | head -n 6 >&2
+        exit 1
+    fi
+    echo "model: $(wc -l <"$2") cases of $2 agree"
+}
+
+hold product crates/exact_test/stdout
+hold share crates/apportion_test/stdout
+cmp <("$model" table) crates/exponent_test/stdout
+echo "model: $(wc -l <crates/exponent_test/stdout) weights of crates/exponent_test/stdout agree"
+
+# The comparison can fail: one changed digit is noticed.
+wrong=$(mktemp)
+trap 'rm -f "$wrong"' EXIT
+sed '1s/4 3 3/3 4 3/' crates/apportion_test/stdout >"$wrong"
+if cmp --silent "$wrong" crates/apportion_test/stdout || agrees share "$wrong"; then
+    echo "tests/model.sh: a wrong answer was not noticed" >&2
+    exit 1
+fi
+echo "model: a wrong answer is noticed"
