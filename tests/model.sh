@@ -27,6 +27,7 @@ hold() { # SUBCOMMAND FILE
 
 hold product crates/exact_test/stdout
 hold share crates/apportion_test/stdout
+hold calls crates/book_test/stdout
 cmp <("$model" table) crates/exponent_test/stdout
 echo "model: $(wc -l <crates/exponent_test/stdout) weights of crates/exponent_test/stdout agree"
 

@@ -1,7 +1,8 @@
-//! The command line of the model: picks the subcommand, reads its lines of
-//! numbers and prints the answers, which the modules compute.
+//! The command line of the model: picks the subcommand, reads its lines and
+//! prints the answers, which the modules compute.
 
-use model::{exponent, product, sharing};
+use model::book::Book;
+use model::{exponent, product, script, sharing};
 use std::io::{self, BufRead, BufWriter, Write};
 use std::process::ExitCode;
 
@@ -24,26 +25,32 @@ fn main() -> ExitCode {
 
 fn dispatch(arguments: &[String], output: &mut impl Write) -> Result<(), String> {
     if arguments.len() != 1 {
-        return Err("expected one subcommand: share, product or table".to_string());
+        return Err("expected one subcommand: share, product, table or calls".to_string());
     }
     match arguments[0].as_str() {
-        "share" => answer_lines(io::stdin().lock(), output, sharing::answer),
-        "product" => answer_lines(io::stdin().lock(), output, product::answer),
+        "share" => answer_lines(io::stdin().lock(), output, on_numbers(sharing::answer)),
+        "product" => answer_lines(io::stdin().lock(), output, on_numbers(product::answer)),
         "table" => {
             for weight in exponent::table() {
-                print_numbers(output, &[weight])?;
+                print_line(output, &weight.to_string())?;
             }
             Ok(())
+        }
+        "calls" => {
+            let mut book = Book::fresh();
+            answer_lines(io::stdin().lock(), output, |line| {
+                script::answer(&mut book, line)
+            })
         }
         other => Err(format!("unknown subcommand {other:?}")),
     }
 }
 
-/// Answers each line of numbers; empty lines and lines starting with `#` are skipped.
+/// Answers each line by one line; empty lines and lines starting with `#` are skipped.
 fn answer_lines(
     input: impl BufRead,
     output: &mut impl Write,
-    answer: fn(&[u64]) -> Result<Vec<u128>, String>,
+    mut answer: impl FnMut(&str) -> Result<String, String>,
 ) -> Result<(), String> {
     for (index, line) in input.lines().enumerate() {
         let in_line = |message: String| format!("line {}: {message}", index + 1);
@@ -51,11 +58,21 @@ fn answer_lines(
         if line.is_empty() || line.starts_with('#') {
             continue;
         }
-        let numbers = read_numbers(&line).map_err(in_line)?;
-        let answers = answer(&numbers).map_err(in_line)?;
-        print_numbers(output, &answers)?;
+        let answered = answer(&line).map_err(in_line)?;
+        print_line(output, &answered)?;
     }
     Ok(())
+}
+
+/// Turns an answer to numbers into an answer to a line of them.
+fn on_numbers(
+    answer: fn(&[u64]) -> Result<Vec<u128>, String>,
+) -> impl Fn(&str) -> Result<String, String> {
+    move |line| {
+        let answers = answer(&read_numbers(line)?)?;
+        let words: Vec<String> = answers.iter().map(|number| number.to_string()).collect();
+        Ok(words.join(" "))
+    }
 }
 
 /// Decimal numbers below 2^64 with single spaces between them.
@@ -73,10 +90,9 @@ fn read_numbers(line: &str) -> Result<Vec<u64>, String> {
     Ok(numbers)
 }
 
-fn print_numbers(output: &mut impl Write, numbers: &[u128]) -> Result<(), String> {
-    let words: Vec<String> = numbers.iter().map(|number| number.to_string()).collect();
+fn print_line(output: &mut impl Write, line: &str) -> Result<(), String> {
     output
-        .write_all(format!("{}\n", words.join(" ")).as_bytes())
+        .write_all(format!("{line}\n").as_bytes())
         .map_err(|error| error.to_string())
 }
 
@@ -89,7 +105,7 @@ mod tests {
         answer: fn(&[u64]) -> Result<Vec<u128>, String>,
     ) -> (String, Result<(), String>) {
         let mut output = Vec::new();
-        let result = answer_lines(input.as_bytes(), &mut output, answer);
+        let result = answer_lines(input.as_bytes(), &mut output, on_numbers(answer));
         (String::from_utf8(output).unwrap(), result)
     }
 

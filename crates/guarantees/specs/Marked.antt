@@ -2,9 +2,27 @@
 -- Assumes nothing.
 use mathlib.Core.Path.{_≡_}
 use mathlib.Core.List.{List, [], _∷_}
+use mathlib.Core.List.{reverse}
 use Prim.Native.Nat.{ℕ}
+use lib.IntN.{pos}
+use lib.ListN.{getD}
 use Rattle.apportion.specs.Share.{share}
 use Rattle.exponent.specs.Weight.{weightOf}
+use Rattle.calls.specs.declared.Call.{Call}
+use Rattle.calls.specs.declared.Call.the-variants.{Join, Interruption, Amount}
+use Rattle.calls.specs.declared.Answer.the-variants.{Yes}
+use Rattle.calls.specs.Answers.{Said, yes-said, counted-in, left-out-under, refused-by, said}
+use Rattle.book.specs.Book.{freshBook, figureOf}
+use Rattle.book.specs.Calls.{filedAnswers}
+use Rattle.book.specs.Demand.{bookOf}
+
+-- what the last of some calls on a fresh book is answered
+abbrev pub lastSaid : List Call → Said
+lastSaid calls = said (getD (reverse (filedAnswers freshBook calls)) 0 Yes)
+
+-- operator 0 files an interruption of its own MV network with one cabin
+abbrev pub lasting : ℕ → ℕ → Call
+lasting start end = Interruption 0 0 0 0 (pos start) (pos end) 1
 
 abbrev pub marked : List (Type 0)
 marked =
@@ -13,6 +31,17 @@ marked =
     -- "the table's weight for k = 4 is 996,005,996 (k = 0 has the first)"
     ∷ (weightOf 4 ≡ 996005996)
     ∷ (weightOf 0 ≡ 1000000000)
+    -- "180 s is short, 181 s counts"
+    ∷ (lastSaid (Join 0 ∷ lasting 0 180 ∷ []) ≡ left-out-under [])
+    ∷ (lastSaid (Join 0 ∷ lasting 0 181 ∷ []) ≡ counted-in 0)
+    -- "end 31,535,999 is year 0, 31,536,000 year 1"
+    ∷ (lastSaid (Join 0 ∷ lasting 31535000 31535999 ∷ []) ≡ counted-in 0)
+    ∷ (lastSaid (Join 0 ∷ lasting 31535000 31536000 ∷ []) ≡ counted-in 1)
+    -- "end 94,608,000 gives 5"
+    ∷ (lastSaid (Join 0 ∷ lasting 94607000 94608000 ∷ []) ≡ refused-by 5)
+    -- "a figure of exactly 10^11 is taken"
+    ∷ (lastSaid (Join 0 ∷ Amount 0 0 4 0 100000000000 ∷ []) ≡ yes-said)
+    ∷ (figureOf (bookOf (Join 0 ∷ Amount 0 0 4 0 100000000000 ∷ [])) 0 0 4 ≡ 100000000000)
     ∷ []
 
 -- every statement of a list holds

@@ -1,0 +1,274 @@
+-- Every list of calls leaves a book that holds what the history holds, with the history's answers (specs/Demand.antt).
+-- Assumes nothing.
+use Prim.Native.Nat.{ℕ, _/_, _%_, _<_}
+use mathlib.Core.Path.{_≡_, refl, sym, ap, ap₂, subst, _∙_}
+use mathlib.Core.Logic.{_⊎_, inl, inr}
+use mathlib.Core.Bool.{Bool, true, false, cond, not, _||_}
+use mathlib.Core.List.{List, [], _∷_}
+use native.Mathlib.Omega.{arith}
+use lib.Dec.{leb, eqb}
+use lib.ListN.{length, getD, getD-replicate}
+use lib.Seq.{ext-getD}
+use borrow.Author.Tests.{le-leb}
+use Rattle.book.specs.declared.Book.{Book}
+use Rattle.book.specs.declared.Filed.{Filed}
+use Rattle.calls.specs.declared.Call.{Call}
+use Rattle.calls.specs.declared.Call.the-variants.{Join, Setting, Interruption, Amount, Mark, Rates, Index}
+use Rattle.calls.specs.declared.Refusal.{Refusal}
+use Rattle.calls.specs.declared.Reason.the-variants.{Short, Planned, Coupled, Exceptional}
+use Rattle.calls.specs.declared.Answer.{Answer}
+use Rattle.calls.specs.declared.Answer.the-variants.{Yes, Counted, LeftOut, Refused}
+use Rattle.calls.specs.Limits.{operators, years, figures, settings, indicators, indexNumbers, indexLeast, indexMost}
+use Rattle.book.specs.Book.{freshBook, isJoined, isMarked, settingOf, figureOf, indexOf, settingSlot, figureSlot, most, settingsInRange, figuresInRange, marksInRange, indicesInRange, ratesInRange, inRange}
+use Rattle.calls.specs.Call.{outcome, acceptance, secondsOf, yearOf}
+use Rattle.book.specs.Calls.{changed, answered, apply, file, filedBook, filedAnswers}
+use Rattle.book.specs.History.{History, plain, total, recorded, after, noteAnswer, noteHistory, notedHistory, notedAnswers, Same}
+use Rattle.book.specs.Demand.{bookOf, historyOf, Holds, Kept, EqualAsHistories}
+use Rattle.calls.proofs.Flags.{and-true}
+use Rattle.book.proofs.EveryLaws.{every-of-each}
+use Rattle.calls.proofs.MaskLaws.{has-zero, same-bits}
+use Rattle.book.proofs.SlotLaws.{setting-slot-lt, figure-slot-lt, setting-place, figure-place}
+use Rattle.book.proofs.TableLaws.{Passed, decided, same-answer}
+use Rattle.book.proofs.HistoryLaws.{Ranged, plain-ranged, recorded-ranged}
+use Rattle.book.proofs.ShapeLaws.{Shaped, fresh-shaped, changed-shaped}
+use Rattle.book.proofs.StepLaws.{changed-holds}
+
+-- what a book and a history keep from call to call
+record Agrees (b : Book) (h : History) : Type 0 where
+  shape : Shaped b
+  held : Holds b h
+  ranged : Ranged h
+
+fresh-holds : Holds freshBook plain
+unfolding freshBook plain isJoined isMarked settingOf figureOf indexOf total
+fresh-holds =
+    record {
+      joined = λ o lt. has-zero o;
+      setting = λ o w lo lw. getD-replicate {A = ℕ} 48 (settingSlot o w) 0 0 (setting-slot-lt o w lo lw);
+      mark = λ o i lo li. rw (getD-replicate {A = ℕ} 6 i 0 0 li) (has-zero o);
+      pot = refl;
+      cap = refl;
+      index = λ n lt. getD-replicate {A = ℕ} 4 n 10000 0 lt;
+      totals = λ o y f lo ly lf. getD-replicate {A = ℕ} 384 (figureSlot o y f) 0 0 (figure-slot-lt o y f lo ly lf);
+    }
+
+-- a book that holds what a history in range holds is in range
+module _ (b : Book) (h : History) (held : Holds b h) (ranged : Ranged h) where
+  settings-in : settingsInRange b ≡ true
+  unfolding settingsInRange most
+  settings-in =
+      every-of-each operators _
+      (λ o lo. every-of-each settings _ (λ w lw. rw (held .setting o w lo lw, held .joined o lo) (le-leb _ _ (ranged .setting o w))))
+
+  figures-in : figuresInRange b ≡ true
+  unfolding figuresInRange most
+  figures-in =
+      every-of-each operators _
+      (λ o lo. every-of-each years _
+      (λ y ly. every-of-each figures _
+      (λ f lf. rw (held .totals o y f lo ly lf, held .joined o lo) (le-leb _ _ (ranged .figure o y f)))))
+
+  marks-in : marksInRange b ≡ true
+  unfolding marksInRange
+  marks-in =
+      every-of-each indicators _
+      (λ i li. every-of-each operators _
+      (λ o lo. rw (held .mark o i lo li, held .joined o lo) (implied (h .mark o i) (h .joined o) (ranged .mark o i))))
+    where
+      implied : (s t : Bool) → (s ≡ true → t ≡ true) → not s || t ≡ true
+      implied true t f = f refl
+      implied false t f = refl
+
+  indices-in : indicesInRange b ≡ true
+  unfolding indicesInRange
+  indices-in =
+      every-of-each indexNumbers _
+      (λ n lt. rw (held .index n lt) (and-true (le-leb indexLeast _ (ranged .index-least n)) (le-leb _ indexMost (ranged .index-most n))))
+
+  rates-in : ratesInRange b ≡ true
+  unfolding ratesInRange
+  rates-in = rw (held .pot, held .cap) (and-true (le-leb _ _ (ranged .pot)) (le-leb _ _ (ranged .cap)))
+
+  all-in : inRange b ≡ true
+  unfolding inRange
+  all-in = and-true (and-true (and-true (and-true settings-in figures-in) marks-in) rates-in) indices-in
+
+-- an answer that is no refusal
+abbrev Accepts : Answer → Type 0
+Accepts Yes = Unit {0}
+Accepts (Counted year) = Unit {0}
+Accepts (LeftOut reason) = Unit {0}
+Accepts (Refused refusal) = ⊥
+
+accepts-either : (t : Bool) (a b : Answer) → Accepts a → Accepts b → Accepts (cond t a b)
+accepts-either true a b p q = p
+accepts-either false a b p q = q
+
+outcome-accepts : (cause seconds year : ℕ) → Accepts (outcome cause seconds year)
+unfolding outcome
+outcome-accepts cause seconds year =
+    accepts-either (leb seconds 180) (LeftOut Short) _ tt
+    (accepts-either (eqb cause 1) (LeftOut Planned) _ tt
+    (accepts-either (eqb cause 2) (LeftOut Coupled) _ tt (accepts-either (eqb cause 3) (LeftOut Exceptional) (Counted year) tt tt)))
+
+accepts : (call : Call) → Accepts (acceptance call)
+unfolding acceptance
+accepts (Join operator) = tt
+accepts (Setting operator which value) = tt
+accepts (Interruption operator sign level cause start end weight) = outcome-accepts cause (secondsOf start end) (yearOf end)
+accepts (Amount operator year figure sign value) = tt
+accepts (Mark operator indicator mark) = tt
+accepts (Rates pot cap) = tt
+accepts (Index number value) = tt
+
+-- book and history move together
+together : (b c : Book) (h g : History) (answer : Answer) → Accepts answer → Agrees c g → Agrees (answered b c answer .book) (after h g answer)
+unfolding answered after
+together b c h g Yes ok new = new
+together b c h g (Counted year) ok new = new
+together b c h g (LeftOut reason) ok new = new
+together b c h g (Refused refusal) ok new = absurd ok
+
+refused : (b c : Book) (h g : History) (refusal : Refusal) → Agrees b h → Agrees (answered b c (Refused refusal) .book) (after h g (Refused refusal))
+unfolding answered after
+refused b c h g refusal old = old
+
+same-said : (b c : Book) (answer : Answer) → answered b c answer .answer ≡ answer
+unfolding answered
+same-said b c Yes = refl
+same-said b c (Counted year) = refl
+same-said b c (LeftOut reason) = refl
+same-said b c (Refused refusal) = refl
+
+-- one call
+module _ (b : Book) (h : History) (now : Agrees b h) (call : Call) where
+  filed-as : file b call ≡ answered b (changed b call) (noteAnswer h call)
+  unfolding file apply noteAnswer
+  filed-as =
+      rw (
+        all-in b h (now .held) (now .ranged),
+        same-answer (isJoined b) (h .joined) (figureOf b) (total h) (now .held .joined) (now .held .totals) call,
+      )
+      refl
+
+  accepted : Passed (h .joined) (total h) call → Agrees (changed b call) (recorded h call)
+  accepted passed =
+      record {
+        shape = changed-shaped b call (now .shape) (passed .known) (passed .in-range);
+        held = changed-holds b h call (now .shape) (now .held) (now .ranged) (passed .known) (passed .in-range);
+        ranged = recorded-ranged h (now .ranged) call passed;
+      }
+
+  next : Agrees (file b call .book) (noteHistory h call)
+  unfolding noteHistory noteAnswer
+  next = rw filed-as (go (noteAnswer h call) (decided (h .joined) (total h) call))
+    where
+      go : (answer : Answer)
+          → ((answer ≡ acceptance call) × Passed (h .joined) (total h) call) ⊎ ((refusal : Refusal) × (answer ≡ Refused refusal))
+          → Agrees (answered b (changed b call) answer .book) (after h (recorded h call) answer)
+      go answer (inl (e, passed)) = rw e (together b (changed b call) h (recorded h call) (acceptance call) (accepts call) (accepted passed))
+      go answer (inr (refusal, e)) = rw e (refused b (changed b call) h (recorded h call) refusal now)
+
+  next-answer : file b call .answer ≡ noteAnswer h call
+  next-answer = ap (λ (filed : Filed). filed .answer) filed-as ∙ same-said b (changed b call) (noteAnswer h call)
+
+-- a list of calls
+kept-from : (calls : List Call) (b : Book) (h : History) → Agrees b h
+    → (filedAnswers b calls ≡ notedAnswers h calls) × Agrees (filedBook b calls) (notedHistory h calls)
+unfolding filedAnswers notedAnswers filedBook notedHistory
+kept-from [] b h now = (refl, now)
+kept-from (call ∷ rest) b h now =
+    let later = kept-from rest _ _ (next b h now call) in
+    (ap₂ _∷_ (next-answer b h now call) (later .0), later .1)
+
+fresh : Agrees freshBook plain
+fresh = record { shape = fresh-shaped; held = fresh-holds; ranged = plain-ranged }
+
+agree : (calls : List Call) → Agrees (bookOf calls) (historyOf calls)
+agree calls = kept-from calls freshBook plain fresh .1
+
+pub kept : (calls : List Call) → Kept calls
+kept calls =
+    record {
+      answers = kept-from calls freshBook plain fresh .0;
+      held = agree calls .held;
+      covered = agree calls .ranged .covered;
+      in-range = all-in (bookOf calls) (historyOf calls) (agree calls .held) (agree calls .ranged);
+    }
+
+-- two histories that one book holds are the same
+same-histories : (b : Book) (h g : History) → Holds b h → Holds b g → Same h g
+same-histories b h g p q =
+    record {
+      joined = λ o lt. sym (p .joined o lt) ∙ q .joined o lt;
+      setting = λ o w lo lw. sym (p .setting o w lo lw) ∙ q .setting o w lo lw;
+      mark = λ o i lo li. sym (p .mark o i lo li) ∙ q .mark o i lo li;
+      pot = sym (p .pot) ∙ q .pot;
+      cap = sym (p .cap) ∙ q .cap;
+      index = λ n lt. sym (p .index n lt) ∙ q .index n lt;
+      totals = λ o y f lo ly lf. sym (p .totals o y f lo ly lf) ∙ q .totals o y f lo ly lf;
+    }
+
+-- two lists of one length with the same elements
+same-list : (l m : List ℕ) (n : ℕ) → length l ≡ n → length m ≡ n → ((i : ℕ) → i < n → getD l i 0 ≡ getD m i 0) → l ≡ m
+same-list l m n ll lm each = ext-getD 0 l m (ll ∙ sym lm) (λ i lt. each i (rw ll at lt))
+
+-- two books that hold the same history are equal
+module _ (b c : Book) (h g : History) (in-b : Agrees b h) (in-c : Agrees c g) (same : Same h g) where
+  same-joined : b .joined ≡ c .joined
+  unfolding isJoined
+  same-joined =
+      same-bits 16 _ _ (in-b .shape .joined-small) (in-c .shape .joined-small)
+      (λ o lt. in-b .held .joined o lt ∙ same .joined o lt ∙ sym (in-c .held .joined o lt))
+
+  same-marks : b .marks ≡ c .marks
+  unfolding isMarked
+  same-marks =
+      same-list _ _ 6 (in-b .shape .marks-long) (in-c .shape .marks-long)
+      (λ i li. same-bits 16 _ _ (in-b .shape .marks-small i li) (in-c .shape .marks-small i li)
+      (λ o lt. in-b .held .mark o i lt li ∙ same .mark o i lt li ∙ sym (in-c .held .mark o i lt li)))
+
+  same-setting : (o w : ℕ) → o < operators → w < settings → settingOf b o w ≡ settingOf c o w
+  same-setting o w lo lw = in-b .held .setting o w lo lw ∙ same .setting o w lo lw ∙ sym (in-c .held .setting o w lo lw)
+
+  same-settings : b .settings ≡ c .settings
+  unfolding settingOf
+  same-settings =
+      same-list _ _ 48 (in-b .shape .settings-long) (in-c .shape .settings-long)
+      (λ i lt. subst (λ (n : ℕ). getD (b .settings) n 0 ≡ getD (c .settings) n 0) (setting-place i)
+      (same-setting (i / 3) (i % 3) (omega arith) (omega arith)))
+
+  same-figure : (o y f : ℕ) → o < operators → y < years → f < figures → figureOf b o y f ≡ figureOf c o y f
+  same-figure o y f lo ly lf = in-b .held .totals o y f lo ly lf ∙ same .totals o y f lo ly lf ∙ sym (in-c .held .totals o y f lo ly lf)
+
+  same-figures : b .figures ≡ c .figures
+  unfolding figureOf
+  same-figures =
+      same-list _ _ 384 (in-b .shape .figures-long) (in-c .shape .figures-long)
+      (λ i lt. subst (λ (n : ℕ). getD (b .figures) n 0 ≡ getD (c .figures) n 0) (figure-place i)
+      (same-figure (i / 24) (i / 8 % 3) (i % 8) (omega arith) (omega arith) (omega arith)))
+
+  same-indices : b .indices ≡ c .indices
+  unfolding indexOf
+  same-indices =
+      same-list _ _ 4 (in-b .shape .indices-long) (in-c .shape .indices-long)
+      (λ n lt. in-b .held .index n lt ∙ same .index n lt ∙ sym (in-c .held .index n lt))
+
+  same-books : b ≡ c
+  same-books =
+      λ i.
+      record {
+        joined = same-joined i;
+        marks = same-marks i;
+        settings = same-settings i;
+        figures = same-figures i;
+        pot = (in-b .held .pot ∙ same .pot ∙ sym (in-c .held .pot)) i;
+        cap = (in-b .held .cap ∙ same .cap ∙ sym (in-c .held .cap)) i;
+        indices = same-indices i;
+      }
+
+pub equal-as-histories : (calls others : List Call) → EqualAsHistories calls others
+equal-as-histories calls others = (
+  (λ e. same-histories (bookOf others) (historyOf calls) (historyOf others) (rw e at (agree calls .held)) (agree others .held)),
+  (λ same. same-books _ _ _ _ (agree calls) (agree others) same),
+)

@@ -1,0 +1,86 @@
+-- `book::range::in_range` meets its contract.
+-- Assumes nothing.
+use mathlib.Core.Path.{refl}
+use Rattle.calls.proofs.Flags.{denied, granted}
+use Rattle.book.specs.Book.{inRange}
+use borrow.Author.Needs.{needs}
+use Rattle.book.proofs.range.in_range.Statement.{statement}
+use Rattle.book.proofs.range.in_range.Tie as tie
+
+settings-in-range-requires : tie.Need-settings-in-range-requires
+settings-in-range-requires c κs = search needs
+
+returns : tie.Need-returns
+unfolding inRange
+returns c =
+    rw
+    (denied (c .before .settings-in-range .ensures) (c .if1 .taken))
+    refl
+
+figures-in-range-requires : tie.Need-figures-in-range-requires
+figures-in-range-requires c κs = search needs
+
+returns-2 : tie.Need-returns-2
+unfolding inRange
+returns-2 c =
+    rw (
+      granted (c .before .before .before .settings-in-range .ensures) (c .before .before .if1 .left),
+      denied (c .before .figures-in-range .ensures) (c .if2 .taken),
+    )
+    refl
+
+marks-in-range-requires : tie.Need-marks-in-range-requires
+marks-in-range-requires c κs = search needs
+
+returns-3 : tie.Need-returns-3
+unfolding inRange
+returns-3 c =
+    rw (
+      granted (c .before .before .before .before .before .settings-in-range .ensures) (c .before .before .before .before .if1 .left),
+      granted (c .before .before .before .figures-in-range .ensures) (c .before .before .if2 .left),
+      denied (c .before .marks-in-range .ensures) (c .if3 .taken),
+    )
+    refl
+
+rates-in-range-requires : tie.Need-rates-in-range-requires
+rates-in-range-requires c κs = search needs
+
+returns-4 : tie.Need-returns-4
+unfolding inRange
+returns-4 c =
+    rw (
+      granted (c .before .before .before .before .before .before .before .settings-in-range .ensures) (c .before .before .before .before .before .before .if1 .left),
+      granted (c .before .before .before .before .before .figures-in-range .ensures) (c .before .before .before .before .if2 .left),
+      granted (c .before .before .before .marks-in-range .ensures) (c .before .before .if3 .left),
+      denied (c .before .rates-in-range .ensures) (c .if4 .taken),
+    )
+    refl
+
+indices-in-range-requires : tie.Need-indices-in-range-requires
+indices-in-range-requires c κs = search needs
+
+returns-5 : tie.Need-returns-5
+unfolding inRange
+returns-5 c =
+    rw (
+      granted (c .before .before .before .before .before .before .before .before .settings-in-range .ensures) (c .before .before .before .before .before .before .before .if1 .left),
+      granted (c .before .before .before .before .before .before .figures-in-range .ensures) (c .before .before .before .before .before .if2 .left),
+      granted (c .before .before .before .before .marks-in-range .ensures) (c .before .before .before .if3 .left),
+      granted (c .before .before .rates-in-range .ensures) (c .before .if4 .left),
+    )
+    (c .indices-in-range .ensures)
+
+pub in-range-spec : {M : Type 1} → statement M
+in-range-spec =
+    tie.close
+    (tie.spec
+    settings-in-range-requires
+    returns
+    figures-in-range-requires
+    returns-2
+    marks-in-range-requires
+    returns-3
+    rates-in-range-requires
+    returns-4
+    indices-in-range-requires
+    returns-5)

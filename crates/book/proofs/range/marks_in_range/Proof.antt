@@ -1,0 +1,74 @@
+-- `book::range::marks_in_range` meets its contract: every mark passed is that of a joined operator.
+-- Assumes nothing.
+use borrow.Author.Needs.{needs}
+use mathlib.Core.Path.{_≡_, sym}
+use mathlib.Core.Bool.{true, not}
+use Prim.Native.Nat.{ℕ, _-_, _/_, _%_, _≤_, _<_}
+use native.Mathlib.Omega.{arith}
+use lib.ListN.{getD}
+use Rattle.calls.specs.Masks.{has}
+use Rattle.calls.proofs.Flags.{denied, granted}
+use mathlib.Core.Bool.{_||_}
+use borrow.Author.Count.{below-more}
+use Rattle.book.proofs.FlatRange.{marks-hold, marks-fail}
+use Rattle.book.proofs.range.marks_in_range.Statement.{statement}
+use Rattle.book.proofs.range.marks_in_range.Tie as tie
+
+abbrev Inv-loop : tie.InvT-loop
+Inv-loop joined marks i₀ i = (i ≤ 96) × ((k : ℕ) → k < i → not (has (getD marks (k / 16) 0) (k % 16)) || has joined (k % 16) ≡ true)
+
+abbrev μ-loop : tie.MeasureT-loop
+μ-loop joined marks i₀ i = 96 - i
+
+loop-holds : tie.Need-loop-holds Inv-loop μ-loop
+loop-holds c = (omega arith, λ k lt. absurd (omega (arith, lt)))
+
+mul-mark-allowed : tie.Need-mul-mark-allowed Inv-loop μ-loop
+mul-mark-allowed c = omega arith
+
+array-read-mark-allowed : tie.Need-array-read-mark-allowed Inv-loop μ-loop
+array-read-mark-allowed c = omega arith
+
+cast-mark-allowed : tie.Need-cast-mark-allowed Inv-loop μ-loop
+cast-mark-allowed c = omega arith
+
+mark-allowed-requires : tie.Need-mark-allowed-requires Inv-loop μ-loop
+mark-allowed-requires c κs = search needs
+
+returns : tie.Need-returns Inv-loop μ-loop
+returns c =
+    let here = c .before .before .before .loop in
+    sym (marks-fail _ (here .i) (omega arith) (denied (c .before .mark-allowed .ensures) (c .if1 .taken)))
+
+add-i : tie.Need-add-i Inv-loop μ-loop
+add-i c = omega arith
+
+loop-less : tie.Need-loop-less Inv-loop μ-loop
+loop-less c = omega arith
+
+loop-again : tie.Need-loop-again Inv-loop μ-loop
+loop-again c =
+    let here = c .before .before .before .loop in
+    (omega arith, below-more _ (here .i) (here .inv .1) (granted (c .before .mark-allowed .ensures) (c .if1 .left)))
+
+returns-2 : tie.Need-returns-2 Inv-loop μ-loop
+returns-2 c =
+    let here = c .before .loop in
+    sym (marks-hold _ (λ k lt. here .inv .1 k (omega (arith, lt))))
+
+pub marks-in-range-spec : {M : Type 1} → statement M
+marks-in-range-spec =
+    tie.close
+    (tie.spec
+    Inv-loop
+    μ-loop
+    loop-holds
+    mul-mark-allowed
+    array-read-mark-allowed
+    cast-mark-allowed
+    mark-allowed-requires
+    returns
+    add-i
+    loop-less
+    loop-again
+    returns-2)

@@ -1,0 +1,74 @@
+-- The book: a fresh one, what it holds by name, and when it is in range (01, "The book").
+-- Assumes nothing.
+use Prim.Native.Nat.{ℕ, _+_, _*_}
+use mathlib.Core.Bool.{Bool, cond, not, _&&_, _||_}
+use lib.Dec.{leb}
+use lib.ListN.{getD, replicate}
+use Rattle.book.specs.declared.Book.{Book}
+use Rattle.calls.specs.Limits.{operators, years, figures, settings, indicators, indexNumbers, settingLimit, figureLimit, rateLimit, indexLeast, indexMost}
+use Rattle.calls.specs.Masks.{has}
+use Rattle.book.specs.Every.{every}
+
+-- "none joined, no marks, all figures and settings 0, and all four indices 10,000"
+unfoldable pub freshBook : Book
+freshBook =
+    record {
+      joined = 0;
+      marks = replicate 6 0;
+      settings = replicate 48 0;
+      figures = replicate 384 0;
+      pot = 0;
+      cap = 0;
+      indices = replicate 4 10000;
+    }
+
+-- where a setting and a figure stand
+unfoldable pub settingSlot : ℕ → ℕ → ℕ
+settingSlot operator which = operator * 3 + which
+
+unfoldable pub figureSlot : ℕ → ℕ → ℕ → ℕ
+figureSlot operator year figure = (operator * 3 + year) * 8 + figure
+
+unfoldable pub isJoined : Book → ℕ → Bool
+isJoined b operator = has (b .joined) operator
+
+-- the mark of an operator at an indicator: true is unreliable
+unfoldable pub isMarked : Book → ℕ → ℕ → Bool
+isMarked b operator indicator = has (getD (b .marks) indicator 0) operator
+
+unfoldable pub settingOf : Book → ℕ → ℕ → ℕ
+settingOf b operator which = getD (b .settings) (settingSlot operator which) 0
+
+unfoldable pub figureOf : Book → ℕ → ℕ → ℕ → ℕ
+figureOf b operator year figure = getD (b .figures) (figureSlot operator year figure) 0
+
+unfoldable pub indexOf : Book → ℕ → ℕ
+indexOf b number = getD (b .indices) number 0
+
+-- the most that may stand at a place of an operator: a limit, or the fresh value 0 for one not joined
+unfoldable pub most : Book → ℕ → ℕ → ℕ
+most b operator limit = cond (isJoined b operator) limit 0
+
+unfoldable pub settingsInRange : Book → Bool
+settingsInRange b =
+    every operators (λ (operator : ℕ). every settings (λ (which : ℕ). leb (settingOf b operator which) (most b operator (settingLimit which))))
+
+unfoldable pub figuresInRange : Book → Bool
+figuresInRange b =
+    every operators
+    (λ (operator : ℕ). every years
+    (λ (year : ℕ). every figures (λ (figure : ℕ). leb (figureOf b operator year figure) (most b operator figureLimit))))
+
+unfoldable pub marksInRange : Book → Bool
+marksInRange b =
+    every indicators (λ (indicator : ℕ). every operators (λ (operator : ℕ). not (isMarked b operator indicator) || isJoined b operator))
+
+unfoldable pub indicesInRange : Book → Bool
+indicesInRange b = every indexNumbers (λ (number : ℕ). leb indexLeast (indexOf b number) && leb (indexOf b number) indexMost)
+
+unfoldable pub ratesInRange : Book → Bool
+ratesInRange b = leb (b .pot) rateLimit && leb (b .cap) rateLimit
+
+-- no "value outside its range", nothing "but fresh values for an operator not joined"
+unfoldable pub inRange : Book → Bool
+inRange b = settingsInRange b && figuresInRange b && marksInRange b && ratesInRange b && indicesInRange b

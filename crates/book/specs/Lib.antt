@@ -1,0 +1,7 @@
+pub mod Every
+pub mod Book
+pub mod Table
+pub mod Calls
+pub mod Entering
+pub mod History
+pub mod Demand

@@ -1,0 +1,127 @@
+// Whether a book is in range: every value within its limits, and only fresh values for an operator not joined.
+ghost use mathlib.Core.Path.{_≡_};
+ghost use mathlib.Core.Bool.{cond, not, _&&_, _||_};
+ghost use lib.Dec.{leb};
+ghost use Rattle.calls.specs.Masks.{has};
+ghost use Rattle.book.specs.Book.{settingsInRange, figuresInRange, marksInRange, ratesInRange, indicesInRange, inRange};
+use crate::Book;
+use calls::FIGURE_LIMIT;
+use calls::INDEX_MOST;
+use calls::RATE_LIMIT;
+use calls::has_bit;
+use calls::setting_limit;
+
+pub fn in_range(b: Book) -> bool
+    ensures { λ r. ⌜ r ≡ inRange b ⌝ }
+{
+    if !settings_in_range(b) {
+        return false;
+    }
+    if !figures_in_range(b) {
+        return false;
+    }
+    if !marks_in_range(b) {
+        return false;
+    }
+    if !rates_in_range(b) {
+        return false;
+    }
+    indices_in_range(b)
+}
+
+fn settings_in_range(b: Book) -> bool
+    ensures { λ r. ⌜ r ≡ settingsInRange b ⌝ }
+{
+    let joined = b.joined;
+    let settings = b.settings;
+    let mut i = 0;
+    while i < 48 {
+        if most_allowed(joined, (i / 3) as u8, setting_limit((i % 3) as u8)) < settings[i] {
+            return false;
+        }
+        i += 1;
+    }
+    true
+}
+
+fn figures_in_range(b: Book) -> bool
+    ensures { λ r. ⌜ r ≡ figuresInRange b ⌝ }
+{
+    let joined = b.joined;
+    let figures = b.figures;
+    let mut i = 0;
+    while i < 384 {
+        if most_allowed(joined, (i / 24) as u8, FIGURE_LIMIT) < figures[i] {
+            return false;
+        }
+        i += 1;
+    }
+    true
+}
+
+// A limit, or 0 for an operator not joined.
+fn most_allowed(joined: u16, operator: u8, limit: u64) -> u64
+    ensures { λ r. ⌜ r ≡ cond (has joined operator) limit 0 ⌝ }
+{
+    if has_bit(joined, operator) {
+        return limit;
+    }
+    0
+}
+
+fn marks_in_range(b: Book) -> bool
+    ensures { λ r. ⌜ r ≡ marksInRange b ⌝ }
+{
+    let joined = b.joined;
+    let marks = b.marks;
+    let mut i = 0;
+    while i < 96 {
+        if !mark_allowed(marks[i / 16], joined, (i % 16) as u8) {
+            return false;
+        }
+        i += 1;
+    }
+    true
+}
+
+// Only a joined operator has a mark.
+fn mark_allowed(mask: u16, joined: u16, operator: u8) -> bool
+    ensures { λ r. ⌜ r ≡ not (has mask operator) || has joined operator ⌝ }
+{
+    if has_bit(mask, operator) {
+        return has_bit(joined, operator);
+    }
+    true
+}
+
+fn rates_in_range(b: Book) -> bool
+    ensures { λ r. ⌜ r ≡ ratesInRange b ⌝ }
+{
+    if RATE_LIMIT < b.pot {
+        return false;
+    }
+    b.cap <= RATE_LIMIT
+}
+
+fn indices_in_range(b: Book) -> bool
+    ensures { λ r. ⌜ r ≡ indicesInRange b ⌝ }
+{
+    let indices = b.indices;
+    let mut i = 0;
+    while i < 4 {
+        if !index_within(indices[i]) {
+            return false;
+        }
+        i += 1;
+    }
+    true
+}
+
+fn index_within(value: u32) -> bool
+    ensures { λ r. ⌜ r ≡ leb 1 value && leb value 100000 ⌝ }
+{
+    if value < 1 {
+        return false;
+    }
+    value <= INDEX_MOST
+}

@@ -1,0 +1,6 @@
+pub mod Flags
+pub mod Bit
+pub mod MaskLaws
+pub mod Times
+pub mod Judged
+pub mod RangeLaws

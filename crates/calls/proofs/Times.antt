@@ -1,0 +1,125 @@
+-- The times of an interruption: tests on signed numbers, and the whole numbers behind them.
+-- Assumes nothing.
+use mathlib.Core.Path.{_≡_, refl, ap, subst}
+use mathlib.Core.Bool.{Bool, true, false, cond, _&&_, false≢true, true≢false}
+use Prim.Native.Nat.{ℕ, zero, suc, _+_, _-_, _≤_, _<_}
+use native.Mathlib.Omega.{arith}
+use lib.Dec.{leb}
+use lib.IntN.{ℤ, pos, negsuc, _-ℤ_}
+use lib.Signed.{ltZ, leZ}
+use mir.Syntax.{w64}
+use mir.Val.{SFits, toZ, ofZ}
+use mir.Facts.{toZ-ofZ}
+use borrow.Author.Tests.{le-ltb, le-leb, lt-leb, ltb-true, ltb-false, leb-true}
+use Rattle.calls.specs.declared.Period.{Period}
+use Rattle.calls.specs.declared.Period.the-variants.{Within, Outside}
+use Rattle.calls.specs.Call.{timesInRange, secondsOf, yearOf}
+use Rattle.calls.specs.Steps.{periodOf}
+use Rattle.calls.proofs.Flags.{both}
+
+-- a signed number is its bits, read again
+pub back : {z : ℤ} → SFits w64 z → toZ w64 (ofZ w64 z) ≡ z
+back fits = toZ-ofZ fits
+
+-- not below is at most
+pub not-below : (a b : ℤ) → ltZ b a ≡ false → leZ a b ≡ true
+not-below (pos a) (pos b) e = le-leb a b (ltb-false b a e)
+not-below (pos a) (negsuc b) e = absurd (true≢false e)
+not-below (negsuc a) (pos b) e = refl
+not-below (negsuc a) (negsuc b) e = le-leb b a (ltb-false a b e)
+
+pub below : (a b : ℤ) → ltZ b a ≡ true → leZ a b ≡ false
+below (pos a) (pos b) e = lt-leb a b (ltb-true b a e)
+below (pos a) (negsuc b) e = refl
+below (negsuc a) (pos b) e = absurd (false≢true e)
+below (negsuc a) (negsuc b) e = lt-leb b a (ltb-true a b e)
+
+-- the whole numbers behind times that are in range
+pub record Timed (start end : ℤ) : Type 0 where
+  pub stop : ℕ
+  pub length : ℕ
+  pub end-is : end ≡ pos stop
+  pub stop-most : stop ≤ 94607999
+  pub length-is : end -ℤ start ≡ pos length
+  pub length-most : length ≤ 126143999
+
+difference : (e s : ℕ) → s ≤ e → pos e -ℤ pos s ≡ pos (e - s)
+difference e zero le = ap pos (omega arith)
+difference e (suc s) le = rw (le-ltb e (suc s) le) refl
+
+pub timed : (start end : ℤ) → timesInRange start end ≡ true → Timed start end
+unfolding timesInRange
+timed (pos s) (pos e) h =
+    let ends = both (leb 0 e && leb e 94607999 && true) (leb s e) h in
+    let most = both (leb 0 e) (leb e 94607999) (both (leb 0 e && leb e 94607999) true (ends .0) .0) in
+    record {
+      stop = e;
+      length = e - s;
+      end-is = refl;
+      stop-most = leb-true e 94607999 (most .1);
+      length-is = difference e s (leb-true s e (ends .1));
+      length-most = omega (arith, leb-true e 94607999 (most .1));
+    }
+timed (negsuc s) (pos e) h =
+    let ends = both (leb 0 e && leb e 94607999 && leb s 31535999) true h in
+    let early = both (leb 0 e && leb e 94607999) (leb s 31535999) (ends .0) in
+    let most = both (leb 0 e) (leb e 94607999) (early .0) in
+    record {
+      stop = e;
+      length = e + suc s;
+      end-is = refl;
+      stop-most = leb-true e 94607999 (most .1);
+      length-is = refl;
+      length-most = omega (arith, leb-true e 94607999 (most .1), leb-true s 31535999 (early .1));
+    }
+timed (pos s) (negsuc e) h = absurd (false≢true h)
+timed (negsuc s) (negsuc e) h = absurd (false≢true h)
+
+pub year-lt : {start end : ℤ} → Timed start end → yearOf end < 3
+unfolding yearOf
+year-lt t = rw (t .end-is) (omega (arith, t .stop-most))
+
+pub seconds-lt : {start end : ℤ} → Timed start end → secondsOf start end < 126144000
+unfolding secondsOf
+seconds-lt t = rw (t .length-is) (omega (arith, t .length-most))
+
+-- what a period says of the times
+module _ (start end : ℤ) where
+  abbrev pub PeriodSays : Period → Type 0
+  PeriodSays (Within year seconds) = (timesInRange start end ≡ true) × (year ≡ yearOf end) × (seconds ≡ secondsOf start end)
+  PeriodSays Outside = timesInRange start end ≡ false
+
+  pub period-says : (period : Period) → periodOf start end ≡ period → PeriodSays period
+  unfolding periodOf
+  period-says period e = subst PeriodSays e (go (timesInRange start end) refl)
+    where
+      go : (t : Bool) → timesInRange start end ≡ t → PeriodSays (cond t (Within (yearOf end) (secondsOf start end)) Outside)
+      go true h = (h, refl, refl)
+      go false h = h
+
+-- the tests of the code, one after the other
+module _ (start end : ℤ) where
+  pub before-2017 : ltZ end (pos 0) ≡ true → periodOf start end ≡ Outside
+  unfolding periodOf timesInRange
+  before-2017 t = rw (below (pos 0) end t) refl
+
+  module _ (from : ltZ end (pos 0) ≡ false) where
+    pub after-2019 : ltZ (pos 94607999) end ≡ true → periodOf start end ≡ Outside
+    unfolding periodOf timesInRange
+    after-2019 t = rw (not-below (pos 0) end from, below end (pos 94607999) t) refl
+
+    module _ (to : ltZ (pos 94607999) end ≡ false) where
+      pub too-early : ltZ start (negsuc 31535999) ≡ true → periodOf start end ≡ Outside
+      unfolding periodOf timesInRange
+      too-early t = rw (not-below (pos 0) end from, not-below end (pos 94607999) to, below (negsuc 31535999) start t) refl
+
+      module _ (early : ltZ start (negsuc 31535999) ≡ false) where
+        pub reversed : ltZ end start ≡ true → periodOf start end ≡ Outside
+        unfolding periodOf timesInRange
+        reversed t =
+            rw (not-below (pos 0) end from, not-below end (pos 94607999) to, not-below (negsuc 31535999) start early, below start end t) refl
+
+        pub in-order : ltZ end start ≡ false → timesInRange start end ≡ true
+        unfolding timesInRange
+        in-order t =
+            rw (not-below (pos 0) end from, not-below end (pos 94607999) to, not-below (negsuc 31535999) start early, not-below start end t) refl

@@ -1,0 +1,5 @@
+pub mod Limits
+pub mod Masks
+pub mod Answers
+pub mod Call
+pub mod Steps

@@ -1,0 +1,23 @@
+-- What the inner functions give: parts of specs/Call.antt put together as the code needs them.
+-- Assumes nothing.
+use Prim.Native.Nat.{ℕ, _+_, _-_}
+use mathlib.Core.Bool.{cond}
+use lib.Dec.{ltb, eqb}
+use lib.IntN.{ℤ}
+use Rattle.calls.specs.declared.Period.{Period}
+use Rattle.calls.specs.declared.Period.the-variants.{Within, Outside}
+use Rattle.calls.specs.declared.Moved.{Moved}
+use Rattle.calls.specs.declared.Moved.the-variants.{To, Above, Below}
+use Rattle.calls.specs.Limits.{figureLimit}
+use Rattle.calls.specs.Call.{timesInRange, secondsOf, yearOf}
+
+-- the year and the length of an interruption, if its times are in range
+unfoldable pub periodOf : ℤ → ℤ → Period
+periodOf start end = cond (timesInRange start end) (Within (yearOf end) (secondsOf start end)) Outside
+
+-- a figure with a value added, or with sign 1 subtracted, or why that cannot be
+unfoldable pub movedBy : ℕ → ℕ → ℕ → Moved
+movedBy sign value old =
+    cond (eqb sign 0)
+    (cond (ltb figureLimit (old + value)) Above (To (old + value)))
+    (cond (ltb old value) Below (To (old - value)))

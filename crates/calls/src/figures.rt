@@ -1,0 +1,25 @@
+// A figure that is filed to or withdrawn from.
+ghost use mathlib.Core.Path.{_≡_};
+ghost use Rattle.calls.specs.Steps.{movedBy};
+use crate::Moved;
+
+pub const FIGURE_LIMIT: u64 = 100000000000;
+
+// A figure with a value added, or with sign 1 subtracted.
+pub fn move_figure(sign: u8, value: u64, old: u64) -> Moved
+    ensures { λ r. ⌜ r ≡ movedBy sign value old ⌝ }
+{
+    if sign == 0 {
+        if FIGURE_LIMIT < value {
+            return Moved::Above;
+        }
+        if FIGURE_LIMIT - value < old {
+            return Moved::Above;
+        }
+        return Moved::To(old + value);
+    }
+    if old < value {
+        return Moved::Below;
+    }
+    Moved::To(old - value)
+}

@@ -1,0 +1,94 @@
+// An interruption: the ranges of its values, its year and length, and what is left out and why.
+ghost use mathlib.Core.Path.{_≡_};
+ghost use Rattle.calls.specs.Call.{weightInRange, detailsInRange, counts, outcome};
+ghost use Rattle.calls.specs.Steps.{periodOf};
+use crate::Answer;
+use crate::Period;
+use crate::Reason;
+
+const YEAR: u64 = 31536000;
+
+// Up to this many seconds an interruption is short.
+const SHORT: u64 = 180;
+
+pub fn details_in_range(sign: u8, level: u8, cause: u8, weight: u32) -> bool
+    ensures { λ r. ⌜ r ≡ detailsInRange sign level cause weight ⌝ }
+{
+    if 1 < sign {
+        return false;
+    }
+    if 1 < level {
+        return false;
+    }
+    if 4 < cause {
+        return false;
+    }
+    weight_in_range(level, weight)
+}
+
+fn weight_in_range(level: u8, weight: u32) -> bool
+    ensures { λ r. ⌜ r ≡ weightInRange level weight ⌝ }
+{
+    if level != 0 {
+        return weight == 1;
+    }
+    if weight < 1 {
+        return false;
+    }
+    weight <= 100000
+}
+
+// The year is that of the end.
+pub fn period_of(start: i64, end: i64) -> Period
+    ensures { λ r. ⌜ r ≡ periodOf start end ⌝ }
+{
+    if end < 0 {
+        return Period::Outside;
+    }
+    if 94607999 < end {
+        return Period::Outside;
+    }
+    if start < -31536000 {
+        return Period::Outside;
+    }
+    if end < start {
+        return Period::Outside;
+    }
+    let stop = end as u64;
+    let seconds = (end - start) as u64;
+    Period::Within {
+        year: (stop / YEAR) as u8,
+        seconds,
+    }
+}
+
+pub fn is_counted(cause: u8, seconds: u64) -> bool
+    ensures { λ r. ⌜ r ≡ counts cause seconds ⌝ }
+{
+    if seconds <= SHORT {
+        return false;
+    }
+    if cause == 0 {
+        return true;
+    }
+    cause == 4
+}
+
+// The answer to an interruption that nothing refuses: short comes before the cause.
+pub fn judge(cause: u8, seconds: u64, year: u8) -> Answer
+    ensures { λ r. ⌜ r ≡ outcome cause seconds year ⌝ }
+{
+    if seconds <= SHORT {
+        return Answer::LeftOut(Reason::Short);
+    }
+    if cause == 1 {
+        return Answer::LeftOut(Reason::Planned);
+    }
+    if cause == 2 {
+        return Answer::LeftOut(Reason::Coupled);
+    }
+    if cause == 3 {
+        return Answer::LeftOut(Reason::Exceptional);
+    }
+    Answer::Counted { year }
+}

@@ -1,0 +1,111 @@
+// A filing call and its answers: the ranges of its arguments, what an interruption comes to, how a figure moves.
+mod answers;
+mod arguments;
+mod figures;
+mod interruptions;
+mod masks;
+
+pub use answers::number_of;
+pub use arguments::INDEX_MOST;
+pub use arguments::RATE_LIMIT;
+pub use arguments::amount_in_range;
+pub use arguments::index_in_range;
+pub use arguments::mark_in_range;
+pub use arguments::rates_in_range;
+pub use arguments::setting_in_range;
+pub use arguments::setting_limit;
+pub use figures::FIGURE_LIMIT;
+pub use figures::move_figure;
+pub use interruptions::details_in_range;
+pub use interruptions::is_counted;
+pub use interruptions::judge;
+pub use interruptions::period_of;
+pub use masks::has_bit;
+pub use masks::include_bit;
+pub use masks::remask;
+
+// A filing call with its arguments, as the fields of a filing give them.
+pub enum Call {
+    Join {
+        operator: u8,
+    },
+    Setting {
+        operator: u8,
+        which: u8,
+        value: u64,
+    },
+    Interruption {
+        operator: u8,
+        sign: u8,
+        level: u8,
+        cause: u8,
+        start: i64,
+        end: i64,
+        weight: u32,
+    },
+    Amount {
+        operator: u8,
+        year: u8,
+        figure: u8,
+        sign: u8,
+        value: u64,
+    },
+    Mark {
+        operator: u8,
+        indicator: u8,
+        mark: u8,
+    },
+    Rates {
+        pot: u32,
+        cap: u32,
+    },
+    Index {
+        number: u8,
+        value: u32,
+    },
+}
+
+// The answers other than yes, in the order of their numbers in 01.
+pub enum Refusal {
+    Truncated,
+    UnknownTag,
+    WrongLength,
+    UnknownOperator,
+    OutOfRange,
+    AlreadyJoined,
+    NotJoined,
+    AboveLimit,
+    BelowZero,
+    NoneJoined,
+    NetworkMissing,
+    AllMarked,
+    BufferTooShort,
+}
+
+// Why an interruption is left out.
+pub enum Reason {
+    Short,
+    Planned,
+    Coupled,
+    Exceptional,
+}
+
+pub enum Answer {
+    Yes,
+    Counted { year: u8 },
+    LeftOut(Reason),
+    Refused(Refusal),
+}
+
+// The year and the length of an interruption whose times are in range.
+pub enum Period {
+    Within { year: u8, seconds: u64 },
+    Outside,
+}
+
+// A figure that is filed to or withdrawn from.
+pub enum Moved {
+    To(u64),
+    Above,
+    Below,
+}

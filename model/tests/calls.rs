@@ -1,0 +1,50 @@
+//! The subcommand `calls` as a program: its output, its messages and its exit status.
+
+use std::io::Write;
+use std::process::{Command, Stdio};
+
+/// Exit status, standard output and standard error of `model calls`.
+fn run(input: &str) -> (i32, String, String) {
+    let mut program = Command::new(env!("CARGO_BIN_EXE_model"))
+        .arg("calls")
+        .stdin(Stdio::piped())
+        .stdout(Stdio::piped())
+        .stderr(Stdio::piped())
+        .spawn()
+        .unwrap();
+    program
+        .stdin
+        .take()
+        .unwrap()
+        .write_all(input.as_bytes())
+        .unwrap();
+    let result = program.wait_with_output().unwrap();
+    (
+        result.status.code().unwrap(),
+        String::from_utf8(result.stdout).unwrap(),
+        String::from_utf8(result.stderr).unwrap(),
+    )
+}
+
+#[test]
+fn one_book_is_kept_over_the_commands() {
+    let input = "# a filing\njoin 0\n\njoin 0\ninterruption 0 0 1 0 0 181 1\nshow\nfresh\njoin 0";
+    let output = "yes\nrefused 6\ncounted 0\n\
+        joined 1 marks 0 0 0 0 0 0 rates 0 0 indices 10000 10000 10000 10000 \
+        | 0 0 0 0 0 0 1 181 0 0 0 0 0 0 0 0 0 0 0 0 0 0 0 0 0 0 0 0\nfresh\nyes\n";
+    assert_eq!(run(input), (0, output.to_string(), String::new()));
+}
+
+#[test]
+fn no_commands() {
+    assert_eq!(run(""), (0, String::new(), String::new()));
+    assert_eq!(run("\n# nothing\n"), (0, String::new(), String::new()));
+}
+
+#[test]
+fn malformed_command() {
+    let (status, output, message) = run("join 0\njoin 256\njoin 1\n");
+    assert_eq!(status, 2);
+    assert_eq!(output, "yes\n");
+    assert!(message.contains("line 2:"), "{message}");
+}
