@@ -46,7 +46,22 @@ impl Operator {
 
     /// Not joined, and every value is the fresh one.
     pub fn is_fresh(&self) -> bool {
-        *self == Operator::fresh()
+        if self.joined || self.cabins != 0 || self.access_points != 0 || self.income != 0 {
+            return false;
+        }
+        for &mark in &self.marks {
+            if mark {
+                return false;
+            }
+        }
+        for year in &self.figures {
+            for &figure in year {
+                if figure != 0 {
+                    return false;
+                }
+            }
+        }
+        true
     }
 
     /// Every value is in its range, and without a join every value is fresh.

@@ -26,7 +26,7 @@ pub enum Reason {
     Exceptional,
 }
 
-/// The answer to a filing call.
+/// The answer to a filing call, or to settling.
 #[derive(Clone, Copy, Debug, PartialEq, Eq)]
 pub enum Answer {
     Yes,
@@ -288,7 +288,7 @@ fn figure_refusals(new_figure: i128) -> Vec<u8> {
 }
 
 /// Follows 01: "The lowest number that applies is given."
-fn lowest(refusals: &[u8]) -> Option<u8> {
+pub fn lowest(refusals: &[u8]) -> Option<u8> {
     refusals.iter().copied().min()
 }
 

@@ -4,6 +4,14 @@
 pub mod book;
 pub mod calls;
 pub mod exponent;
+pub mod filing;
+pub mod generator;
+pub mod indicators;
+pub mod money;
 pub mod product;
+pub mod program;
+pub mod report;
 pub mod script;
+pub mod settlement;
 pub mod sharing;
+pub mod writer;

@@ -2,55 +2,123 @@
 //! prints the answers, which the modules compute.
 
 use model::book::Book;
-use model::{exponent, product, script, sharing};
-use std::io::{self, BufRead, BufWriter, Write};
+use model::{exponent, filing, generator, product, program, script, sharing, writer};
+use std::fs;
+use std::io::{self, BufRead, BufWriter, ErrorKind, Write};
+use std::path::Path;
 use std::process::ExitCode;
+
+const SUBCOMMANDS: &str = "expected one of: share, product, table, calls, encode, \
+    program FILE, rewrite FILE, generate SEED FIRST COUNT DIR, answers SEED FIRST COUNT";
+
+/// The exit status of `rewrite` when a field is refused.
+const REFUSED: u8 = 1;
+/// The exit status for malformed input.
+const MALFORMED: u8 = 2;
 
 fn main() -> ExitCode {
     let arguments: Vec<String> = std::env::args().skip(1).collect();
+    let words: Vec<&str> = arguments.iter().map(|word| word.as_str()).collect();
     let mut output = BufWriter::new(io::stdout().lock());
-    let mut result = dispatch(&arguments, &mut output);
+    let mut result = dispatch(&words, &mut output);
     // Answers given before a malformed line are printed as well.
     if let Err(error) = output.flush() {
         result = result.and(Err(error.to_string()));
     }
     match result {
-        Ok(()) => ExitCode::SUCCESS,
+        Ok(status) => ExitCode::from(status),
         Err(message) => {
             eprintln!("model: {message}");
-            ExitCode::from(2)
+            ExitCode::from(MALFORMED)
         }
     }
 }
 
-fn dispatch(arguments: &[String], output: &mut impl Write) -> Result<(), String> {
-    if arguments.len() != 1 {
-        return Err("expected one subcommand: share, product, table or calls".to_string());
-    }
-    match arguments[0].as_str() {
-        "share" => answer_lines(io::stdin().lock(), output, on_numbers(sharing::answer)),
-        "product" => answer_lines(io::stdin().lock(), output, on_numbers(product::answer)),
-        "table" => {
+/// Does what the words say; answers the exit status.
+fn dispatch(words: &[&str], output: &mut impl Write) -> Result<u8, String> {
+    let input = io::stdin().lock();
+    match words {
+        ["share"] => answer_lines(input, output, on_numbers(sharing::answer))?,
+        ["product"] => answer_lines(input, output, on_numbers(product::answer))?,
+        ["table"] => {
             for weight in exponent::table() {
-                print_line(output, &weight.to_string())?;
+                print(output, format!("{weight}\n").as_bytes())?;
             }
-            Ok(())
         }
-        "calls" => {
+        ["calls"] => {
             let mut book = Book::fresh();
-            answer_lines(io::stdin().lock(), output, |line| {
-                script::answer(&mut book, line)
-            })
+            answer_lines(input, output, |line| script::answer(&mut book, line))?;
         }
-        other => Err(format!("unknown subcommand {other:?}")),
+        ["encode"] => for_lines(input, output, script::encode)?,
+        ["program", file] => {
+            let bytes = read_if_present(file)?;
+            print(output, &program::printed(bytes.as_deref()))?;
+        }
+        ["rewrite", file] => {
+            let bytes = fs::read(file).map_err(|error| format!("{file}: {error}"))?;
+            let mut book = Book::fresh();
+            if filing::read(&mut book, &bytes).refusal.is_some() {
+                return Ok(REFUSED);
+            }
+            print(output, &writer::written(&book))?;
+        }
+        ["generate", seed, first, count, folder] => {
+            let seed = read_number(seed)?;
+            fs::create_dir_all(folder).map_err(|error| format!("{folder}: {error}"))?;
+            for number in numbers_of(first, count)? {
+                let path = Path::new(folder).join(format!("{number}.q"));
+                fs::write(&path, generator::filing(seed, number))
+                    .map_err(|error| format!("{}: {error}", path.display()))?;
+            }
+        }
+        ["answers", seed, first, count] => {
+            let seed = read_number(seed)?;
+            for number in numbers_of(first, count)? {
+                let printed = program::printed(Some(&generator::filing(seed, number)));
+                print(output, format!("{number} {}\n", printed.len()).as_bytes())?;
+                print(output, &printed)?;
+            }
+        }
+        _ => return Err(SUBCOMMANDS.to_string()),
+    }
+    Ok(0)
+}
+
+/// The bytes of a file, or none if it is missing.
+fn read_if_present(file: &str) -> Result<Option<Vec<u8>>, String> {
+    match fs::read(file) {
+        Ok(bytes) => Ok(Some(bytes)),
+        Err(error) if error.kind() == ErrorKind::NotFound => Ok(None),
+        Err(error) => Err(format!("{file}: {error}")),
     }
 }
 
-/// Answers each line by one line; empty lines and lines starting with `#` are skipped.
+/// The numbers of `count` filings from `first` on.
+fn numbers_of(first: &str, count: &str) -> Result<std::ops::Range<u64>, String> {
+    let first = read_number(first)?;
+    let count = read_number(count)?;
+    match first.checked_add(count) {
+        Some(end) => Ok(first..end),
+        None => Err("the last number is past 64 bits".to_string()),
+    }
+}
+
+/// Answers each line by one line.
 fn answer_lines(
     input: impl BufRead,
     output: &mut impl Write,
     mut answer: impl FnMut(&str) -> Result<String, String>,
+) -> Result<(), String> {
+    for_lines(input, output, |line| {
+        Ok(format!("{}\n", answer(line)?).into_bytes())
+    })
+}
+
+/// Answers each line by bytes; empty lines and lines starting with `#` are skipped.
+fn for_lines(
+    input: impl BufRead,
+    output: &mut impl Write,
+    mut answer: impl FnMut(&str) -> Result<Vec<u8>, String>,
 ) -> Result<(), String> {
     for (index, line) in input.lines().enumerate() {
         let in_line = |message: String| format!("line {}: {message}", index + 1);
@@ -59,7 +127,7 @@ fn answer_lines(
             continue;
         }
         let answered = answer(&line).map_err(in_line)?;
-        print_line(output, &answered)?;
+        print(output, &answered)?;
     }
     Ok(())
 }
@@ -79,21 +147,24 @@ fn on_numbers(
 fn read_numbers(line: &str) -> Result<Vec<u64>, String> {
     let mut numbers = Vec::new();
     for word in line.split(' ') {
-        if word.is_empty() || !word.bytes().all(|byte| byte.is_ascii_digit()) {
-            return Err(format!("not a decimal number: {word:?}"));
-        }
-        match word.parse() {
-            Ok(number) => numbers.push(number),
-            Err(_) => return Err(format!("past 64 bits: {word}")),
-        }
+        numbers.push(read_number(word)?);
     }
     Ok(numbers)
 }
 
-fn print_line(output: &mut impl Write, line: &str) -> Result<(), String> {
-    output
-        .write_all(format!("{line}\n").as_bytes())
-        .map_err(|error| error.to_string())
+/// One decimal number below 2^64.
+fn read_number(word: &str) -> Result<u64, String> {
+    if word.is_empty() || !word.bytes().all(|byte| byte.is_ascii_digit()) {
+        return Err(format!("not a decimal number: {word:?}"));
+    }
+    match word.parse() {
+        Ok(number) => Ok(number),
+        Err(_) => Err(format!("past 64 bits: {word}")),
+    }
+}
+
+fn print(output: &mut impl Write, bytes: &[u8]) -> Result<(), String> {
+    output.write_all(bytes).map_err(|error| error.to_string())
 }
 
 #[cfg(test)]
@@ -149,10 +220,22 @@ mod tests {
     #[test]
     fn unknown_subcommands_are_refused() {
         let mut output = Vec::new();
-        assert!(dispatch(&[], &mut output).is_err());
-        assert!(dispatch(&["shares".to_string()], &mut output).is_err());
-        let two = ["table".to_string(), "table".to_string()];
-        assert!(dispatch(&two, &mut output).is_err());
+        for words in [
+            &[] as &[&str],
+            &["shares"],
+            &["table", "table"],
+            &["program"],
+            &["program", "a", "b"],
+            &["rewrite"],
+            &["encode", "a"],
+            &["generate", "1", "2", "3"],
+            &["answers", "1", "2"],
+            &["answers", "1", "2", "x"],
+            &["answers", "1", "2", "-3"],
+            &["answers", "1", "18446744073709551615", "1"],
+        ] {
+            assert!(dispatch(words, &mut output).is_err(), "{words:?}");
+        }
         assert!(output.is_empty());
     }
 }

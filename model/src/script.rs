@@ -1,11 +1,13 @@
-//! The text commands of the subcommand `calls`: filing calls, raw values put
-//! into the book, and the book printed on one line.
+//! The text commands of the subcommands `calls` and `encode`: filing calls, raw
+//! values put into the book, and the book or its settlement printed on one line.
 
 use crate::book::{Book, FIGURES, INDICATORS, INDICES, OPERATORS, YEARS};
-use crate::calls::{self, Answer, Interruption, Reason};
+use crate::calls::{Answer, Interruption, Reason};
+use crate::filing::{self, Field};
+use crate::settlement::{self, Settlement};
 use std::str::FromStr;
 
-/// Answer to one command; the book is altered by it.
+/// Answer to one command; filing calls, `fresh` and `store` alter the book.
 pub fn answer(book: &mut Book, line: &str) -> Result<String, String> {
     let words: Vec<&str> = line.split(' ').collect();
     match words[0] {
@@ -22,27 +24,43 @@ pub fn answer(book: &mut Book, line: &str) -> Result<String, String> {
             expect(&words, 0)?;
             Ok(show(book))
         }
-        _ => Ok(answer_words(call(book, &words)?)),
+        "settle" => {
+            expect(&words, 0)?;
+            match settlement::settle(book) {
+                (Answer::Yes, settlement) => Ok(show_settlement(book, &settlement)),
+                (refused, _) => Ok(answer_words(refused)),
+            }
+        }
+        _ => Ok(answer_words(filing::apply(book, &field(&words)?))),
     }
 }
 
-/// Makes the filing call that the words name.
-fn call(book: &mut Book, words: &[&str]) -> Result<Answer, String> {
+/// The bytes of the field that a filing call's line names.
+pub fn encode(line: &str) -> Result<Vec<u8>, String> {
+    let words: Vec<&str> = line.split(' ').collect();
+    Ok(filing::encode(&field(&words)?))
+}
+
+/// The field of the filing call that the words name.
+fn field(words: &[&str]) -> Result<Field, String> {
     match words[0] {
         "join" => {
             expect(words, 1)?;
-            Ok(calls::join(book, number(words[1])?))
+            Ok(Field::Join {
+                operator: number(words[1])?,
+            })
         }
         "setting" => {
             expect(words, 3)?;
-            let operator = number(words[1])?;
-            let which = number(words[2])?;
-            let value = number(words[3])?;
-            Ok(calls::setting(book, operator, which, value))
+            Ok(Field::Setting {
+                operator: number(words[1])?,
+                which: number(words[2])?,
+                value: number(words[3])?,
+            })
         }
         "interruption" => {
             expect(words, 7)?;
-            let filed = Interruption {
+            Ok(Field::Interruption(Interruption {
                 operator: number(words[1])?,
                 sign: number(words[2])?,
                 level: number(words[3])?,
@@ -50,32 +68,39 @@ fn call(book: &mut Book, words: &[&str]) -> Result<Answer, String> {
                 start: signed_number(words[5])?,
                 end: signed_number(words[6])?,
                 weight: number(words[7])?,
-            };
-            Ok(calls::interruption(book, &filed))
+            }))
         }
         "amount" => {
             expect(words, 5)?;
-            let operator = number(words[1])?;
-            let year = number(words[2])?;
-            let figure = number(words[3])?;
-            let sign = number(words[4])?;
-            let value = number(words[5])?;
-            Ok(calls::amount(book, operator, year, figure, sign, value))
+            Ok(Field::Amount {
+                operator: number(words[1])?,
+                year: number(words[2])?,
+                figure: number(words[3])?,
+                sign: number(words[4])?,
+                value: number(words[5])?,
+            })
         }
         "mark" => {
             expect(words, 3)?;
-            let operator = number(words[1])?;
-            let indicator = number(words[2])?;
-            let mark = number(words[3])?;
-            Ok(calls::mark(book, operator, indicator, mark))
+            Ok(Field::Mark {
+                operator: number(words[1])?,
+                indicator: number(words[2])?,
+                mark: number(words[3])?,
+            })
         }
         "rates" => {
             expect(words, 2)?;
-            Ok(calls::rates(book, number(words[1])?, number(words[2])?))
+            Ok(Field::Rates {
+                pot: number(words[1])?,
+                cap: number(words[2])?,
+            })
         }
         "index" => {
             expect(words, 2)?;
-            Ok(calls::index(book, number(words[1])?, number(words[2])?))
+            Ok(Field::Index {
+                number: number(words[1])?,
+                value: number(words[2])?,
+            })
         }
         other => Err(format!("unknown command {other:?}")),
     }
@@ -162,6 +187,30 @@ fn show(book: &Book) -> String {
                 line += &format!(" {figure}");
             }
         }
+    }
+    line
+}
+
+/// The settlement of the joined operators on one line.
+fn show_settlement(book: &Book, settlement: &Settlement) -> String {
+    let points = &settlement.points;
+    let money = &settlement.money;
+    let mut line = format!("pot {} pools", money.pot);
+    for pool in &points.pools {
+        line += &format!(" {pool}");
+    }
+    for k in 0..OPERATORS {
+        if !book.operators[k].joined {
+            continue;
+        }
+        line += &format!(" | {k} points");
+        for point in &points.points[k] {
+            line += &format!(" {point}");
+        }
+        line += &format!(
+            " out {} in {} limit {} adjustment {}",
+            money.contributions[k], money.returns[k], money.limits[k], money.adjustments[k]
+        );
     }
     line
 }
@@ -352,6 +401,91 @@ mod tests {
         ]);
     }
 
+    /// Case M without its rates.
+    const CASE_M: [(&str, &str); 10] = [
+        ("join 0", "yes"),
+        ("join 1", "yes"),
+        ("setting 0 0 100", "yes"),
+        ("setting 1 0 100", "yes"),
+        ("setting 0 1 1000", "yes"),
+        ("setting 1 1 3000", "yes"),
+        ("setting 0 2 100000000", "yes"),
+        ("setting 1 2 200000000", "yes"),
+        ("amount 1 0 4 0 50000", "yes"),
+        ("amount 1 0 5 0 100", "yes"),
+    ];
+
+    #[test]
+    fn settled_book() {
+        let mut commands = CASE_M.to_vec();
+        commands.push(("rates 5000 10000", "yes"));
+        let book = run(&commands);
+        commands.push((
+            "settle",
+            "pot 1500000 pools 46200 37800 19800 16200 6000 1500 \
+             | 0 points 23100 18900 9900 8100 4286 750 out 375000 in 386463 \
+             limit 1000000 adjustment 11463 \
+             | 1 points 23100 18900 9900 8100 1714 750 out 1125000 in 1113537 \
+             limit 2000000 adjustment -11463",
+        ));
+        assert_eq!(run(&commands), book);
+        commands.push(("rates 5000 50", "yes"));
+        commands.push((
+            "settle",
+            "pot 1500000 pools 46200 37800 19800 16200 6000 1500 \
+             | 0 points 23100 18900 9900 8100 4286 750 out 375000 in 386463 \
+             limit 5000 adjustment 5000 \
+             | 1 points 23100 18900 9900 8100 1714 750 out 1125000 in 1113537 \
+             limit 10000 adjustment -5000",
+        ));
+        run(&commands);
+    }
+
+    #[test]
+    fn settled_operators_rise() {
+        run(&[
+            ("join 15", "yes"),
+            ("setting 15 0 1", "yes"),
+            ("setting 15 1 1", "yes"),
+            ("join 2", "yes"),
+            ("setting 2 0 1", "yes"),
+            ("setting 2 1 1", "yes"),
+            (
+                "settle",
+                "pot 0 pools 46200 37800 19800 16200 6000 1500 \
+                 | 2 points 23100 18900 9900 8100 3000 750 out 0 in 0 limit 0 adjustment 0 \
+                 | 15 points 23100 18900 9900 8100 3000 750 out 0 in 0 limit 0 adjustment 0",
+            ),
+        ]);
+    }
+
+    #[test]
+    fn refused_settlements() {
+        let book = run(&[
+            ("settle", "refused 10"),
+            ("join 3", "yes"),
+            ("settle", "refused 11"),
+            ("setting 3 0 1", "yes"),
+            ("setting 3 1 1", "yes"),
+            ("mark 3 0 1", "yes"),
+            ("mark 3 1 1", "yes"),
+            ("mark 3 2 1", "yes"),
+            ("mark 3 3 1", "yes"),
+            ("mark 3 4 1", "yes"),
+            ("mark 3 5 1", "yes"),
+            ("settle", "refused 12"),
+            ("store index 0 0", "stored"),
+            ("settle", "refused 5"),
+        ]);
+        let mut expected = Book::fresh();
+        expected.operators[3].joined = true;
+        expected.operators[3].cabins = 1;
+        expected.operators[3].access_points = 1;
+        expected.operators[3].marks = vec![true; 6];
+        expected.indices[0] = 0;
+        assert_eq!(book, expected);
+    }
+
     #[test]
     fn a_book_made_sound_again_is_taken() {
         run(&[
@@ -365,6 +499,37 @@ mod tests {
             ("store joined 1", "stored"),
             ("index 0 5", "yes"),
         ]);
+    }
+
+    #[test]
+    fn encoded_commands() {
+        for (command, bytes) in [
+            ("join 16", vec![1, 0, 1, 16]),
+            (
+                "setting 1 2 258",
+                vec![2, 0, 10, 1, 2, 0, 0, 0, 0, 0, 0, 1, 2],
+            ),
+            (
+                "interruption 1 0 1 4 -1 772 16909060",
+                vec![
+                    3, 0, 24, 1, 0, 1, 4, 255, 255, 255, 255, 255, 255, 255, 255, 0, 0, 0, 0, 0, 0,
+                    3, 4, 1, 2, 3, 4,
+                ],
+            ),
+            (
+                "amount 1 2 3 0 18446744073709551615",
+                vec![4, 0, 12, 1, 2, 3, 0, 255, 255, 255, 255, 255, 255, 255, 255],
+            ),
+            ("mark 1 2 1", vec![5, 0, 3, 1, 2, 1]),
+            ("rates 256 1", vec![6, 0, 8, 0, 0, 1, 0, 0, 0, 0, 1]),
+            ("index 3 10000", vec![7, 0, 5, 3, 0, 0, 39, 16]),
+        ] {
+            assert_eq!(encode(command), Ok(bytes), "{command}");
+        }
+        // Only filing calls are fields.
+        for command in ["fresh", "show", "settle", "store pot 1"] {
+            assert!(encode(command).is_err(), "{command}");
+        }
     }
 
     #[test]
@@ -387,6 +552,9 @@ mod tests {
             "join\t0",
             "fresh 0",
             "show 0",
+            "settle 0",
+            "settle ",
+            "Settle",
             "setting 0 0",
             "setting 0 0 18446744073709551616",
             "setting 0 256 0",
@@ -431,6 +599,7 @@ mod tests {
             let mut book = Book::fresh();
             assert!(answer(&mut book, command).is_err(), "{command:?}");
             assert_eq!(book, Book::fresh(), "{command:?}");
+            assert!(encode(command).is_err(), "{command:?}");
         }
     }
 }

@@ -52,6 +52,15 @@ pub fn share(t: u64, weights: &[u64]) -> Vec<u128> {
     shares
 }
 
+/// The same sharing of whole numbers that are held wider; each is below 2^64.
+pub fn share_wide(t: u128, weights: &[u128]) -> Vec<u128> {
+    let mut narrow = Vec::new();
+    for &weight in weights {
+        narrow.push(u64::try_from(weight).expect("a weight past 64 bits"));
+    }
+    share(u64::try_from(t).expect("an amount past 64 bits"), &narrow)
+}
+
 /// Answer to one line `T w0 w1 .. wk` of the subcommand `share`: the shares.
 /// Follows 01: "Sharing T by weights", the weights being those of rising operators.
 pub fn answer(numbers: &[u64]) -> Result<Vec<u128>, String> {
@@ -111,6 +120,14 @@ mod tests {
     #[test]
     fn marked_case() {
         assert_eq!(share(10, &[1, 1, 1]), vec![4, 3, 3]);
+    }
+
+    #[test]
+    fn wide_numbers_are_shared_alike() {
+        assert_eq!(share_wide(10, &[1, 1, 1]), vec![4, 3, 3]);
+        let max = u128::from(MAX);
+        assert_eq!(share_wide(max, &[max, 1]), share(MAX, &[MAX, 1]));
+        assert_eq!(share_wide(0, &[]), vec![]);
     }
 
     #[test]

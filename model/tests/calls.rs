@@ -36,6 +36,15 @@ fn one_book_is_kept_over_the_commands() {
 }
 
 #[test]
+fn settling_leaves_the_book() {
+    let input = "settle\njoin 7\nsetting 7 0 1\nsetting 7 1 1\nsettle\nsettle\njoin 7\n";
+    let settled = "pot 0 pools 46200 37800 19800 16200 6000 1500 \
+        | 7 points 46200 37800 19800 16200 6000 1500 out 0 in 0 limit 0 adjustment 0\n";
+    let output = format!("refused 10\nyes\nyes\nyes\n{settled}{settled}refused 6\n");
+    assert_eq!(run(input), (0, output, String::new()));
+}
+
+#[test]
 fn no_commands() {
     assert_eq!(run(""), (0, String::new(), String::new()));
     assert_eq!(run("\n# nothing\n"), (0, String::new(), String::new()));

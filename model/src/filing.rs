@@ -1,0 +1,657 @@
+//! The filing: fields as bytes, and the reader that applies a run of them to a
+//! book up to the first refusal.
+
+use crate::book::Book;
+use crate::calls::{self, lowest, Answer, Interruption};
+
+/// The bytes of a field before its content: tag and length.
+const HEAD: usize = 3;
+
+/// One field: a filing call, its values as filed.
+#[derive(Clone, Copy, Debug, PartialEq, Eq)]
+pub enum Field {
+    Join {
+        operator: u8,
+    },
+    Setting {
+        operator: u8,
+        which: u8,
+        value: u64,
+    },
+    Interruption(Interruption),
+    Amount {
+        operator: u8,
+        year: u8,
+        figure: u8,
+        sign: u8,
+        value: u64,
+    },
+    Mark {
+        operator: u8,
+        indicator: u8,
+        mark: u8,
+    },
+    Rates {
+        pot: u32,
+        cap: u32,
+    },
+    Index {
+        number: u8,
+        value: u32,
+    },
+}
+
+/// What the reader answers.
+#[derive(Clone, Copy, Debug, PartialEq, Eq)]
+pub struct Reading {
+    /// The number of fields applied.
+    pub applied: usize,
+    /// The offset of the refused tag, or the filing's length.
+    pub offset: usize,
+    /// The number in 01's table of answers, if a field was refused.
+    pub refusal: Option<u8>,
+}
+
+/// Reads a filing into a book.
+/// Follows 01: "The reader applies fields in order up to the first refusal,
+/// keeps those before it, and answers with the number applied and the offset of
+/// the refused tag (the filing's length if none)." A field whose interruption
+/// is left out is applied as well.
+pub fn read(book: &mut Book, filing: &[u8]) -> Reading {
+    let mut applied = 0;
+    let mut offset = 0;
+    // Before any other check, so also for an empty filing.
+    if !book.in_range() {
+        return Reading {
+            applied,
+            offset,
+            refusal: Some(5),
+        };
+    }
+    while offset < filing.len() {
+        let refusal = match field_at(filing, offset) {
+            Err(number) => Some(number),
+            Ok(field) => match apply(book, &field) {
+                Answer::Refused(number) => Some(number),
+                Answer::Yes | Answer::Counted { .. } | Answer::LeftOut(_) => None,
+            },
+        };
+        if refusal.is_some() {
+            return Reading {
+                applied,
+                offset,
+                refusal,
+            };
+        }
+        applied += 1;
+        offset += HEAD + length_at(filing, offset);
+    }
+    Reading {
+        applied,
+        offset,
+        refusal: None,
+    }
+}
+
+/// The field whose tag is at the offset, or the refusal 1, 2 or 3.
+/// Follows 01's table of answers: "1 or 2 bytes left, or the length passes the
+/// end", "tag unknown", "length wrong for the tag".
+pub fn field_at(filing: &[u8], offset: usize) -> Result<Field, u8> {
+    let left = filing.len() - offset;
+    if left < HEAD {
+        return Err(1);
+    }
+    let tag = filing[offset];
+    let length = length_at(filing, offset);
+    let mut refusals = Vec::new();
+    if length > left - HEAD {
+        refusals.push(1);
+    }
+    match content_length(tag) {
+        None => refusals.push(2),
+        Some(right) => {
+            if length != right {
+                refusals.push(3);
+            }
+        }
+    }
+    if let Some(number) = lowest(&refusals) {
+        return Err(number);
+    }
+    let start = offset + HEAD;
+    Ok(decode(tag, &filing[start..start + length]))
+}
+
+/// The length written after the tag at the offset; its two bytes are there.
+fn length_at(filing: &[u8], offset: usize) -> usize {
+    unsigned(&filing[offset + 1..offset + HEAD]) as usize
+}
+
+/// The length of the content that each tag has.
+pub fn content_length(tag: u8) -> Option<usize> {
+    match tag {
+        1 => Some(1),
+        2 => Some(1 + 1 + 8),
+        3 => Some(1 + 1 + 1 + 1 + 8 + 8 + 4),
+        4 => Some(1 + 1 + 1 + 1 + 8),
+        5 => Some(1 + 1 + 1),
+        6 => Some(4 + 4),
+        7 => Some(1 + 4),
+        _ => None,
+    }
+}
+
+/// The field with a known tag and a content of the right length.
+fn decode(tag: u8, content: &[u8]) -> Field {
+    match tag {
+        1 => Field::Join {
+            operator: content[0],
+        },
+        2 => Field::Setting {
+            operator: content[0],
+            which: content[1],
+            value: unsigned(&content[2..10]) as u64,
+        },
+        3 => Field::Interruption(Interruption {
+            operator: content[0],
+            sign: content[1],
+            level: content[2],
+            cause: content[3],
+            start: signed(&content[4..12]),
+            end: signed(&content[12..20]),
+            weight: unsigned(&content[20..24]) as u32,
+        }),
+        4 => Field::Amount {
+            operator: content[0],
+            year: content[1],
+            figure: content[2],
+            sign: content[3],
+            value: unsigned(&content[4..12]) as u64,
+        },
+        5 => Field::Mark {
+            operator: content[0],
+            indicator: content[1],
+            mark: content[2],
+        },
+        6 => Field::Rates {
+            pot: unsigned(&content[0..4]) as u32,
+            cap: unsigned(&content[4..8]) as u32,
+        },
+        7 => Field::Index {
+            number: content[0],
+            value: unsigned(&content[1..5]) as u32,
+        },
+        _ => unreachable!("an unknown tag"),
+    }
+}
+
+/// Follows 01: "Numbers are big-endian".
+fn unsigned(bytes: &[u8]) -> u128 {
+    let mut number = 0;
+    for &byte in bytes {
+        number = number * 256 + u128::from(byte);
+    }
+    number
+}
+
+/// Eight bytes in two's complement.
+fn signed(bytes: &[u8]) -> i64 {
+    let number = unsigned(bytes) as i128;
+    if number < 1 << 63 {
+        number as i64
+    } else {
+        (number - (1 << 64)) as i64
+    }
+}
+
+/// Makes the filing call of a field.
+/// Follows 01: "Each tag is one filing call."
+pub fn apply(book: &mut Book, field: &Field) -> Answer {
+    match *field {
+        Field::Join { operator } => calls::join(book, operator),
+        Field::Setting {
+            operator,
+            which,
+            value,
+        } => calls::setting(book, operator, which, value),
+        Field::Interruption(filed) => calls::interruption(book, &filed),
+        Field::Amount {
+            operator,
+            year,
+            figure,
+            sign,
+            value,
+        } => calls::amount(book, operator, year, figure, sign, value),
+        Field::Mark {
+            operator,
+            indicator,
+            mark,
+        } => calls::mark(book, operator, indicator, mark),
+        Field::Rates { pot, cap } => calls::rates(book, pot, cap),
+        Field::Index { number, value } => calls::index(book, number, value),
+    }
+}
+
+/// The bytes of a field: tag, length, content.
+pub fn encode(field: &Field) -> Vec<u8> {
+    let mut content = Vec::new();
+    let tag = match *field {
+        Field::Join { operator } => {
+            content.push(operator);
+            1
+        }
+        Field::Setting {
+            operator,
+            which,
+            value,
+        } => {
+            content.extend([operator, which]);
+            content.extend(value.to_be_bytes());
+            2
+        }
+        Field::Interruption(filed) => {
+            content.extend([filed.operator, filed.sign, filed.level, filed.cause]);
+            content.extend(filed.start.to_be_bytes());
+            content.extend(filed.end.to_be_bytes());
+            content.extend(filed.weight.to_be_bytes());
+            3
+        }
+        Field::Amount {
+            operator,
+            year,
+            figure,
+            sign,
+            value,
+        } => {
+            content.extend([operator, year, figure, sign]);
+            content.extend(value.to_be_bytes());
+            4
+        }
+        Field::Mark {
+            operator,
+            indicator,
+            mark,
+        } => {
+            content.extend([operator, indicator, mark]);
+            5
+        }
+        Field::Rates { pot, cap } => {
+            content.extend(pot.to_be_bytes());
+            content.extend(cap.to_be_bytes());
+            6
+        }
+        Field::Index { number, value } => {
+            content.push(number);
+            content.extend(value.to_be_bytes());
+            7
+        }
+    };
+    let mut bytes = vec![tag];
+    bytes.extend((content.len() as u16).to_be_bytes());
+    bytes.extend(content);
+    bytes
+}
+
+#[cfg(test)]
+mod tests {
+    use super::*;
+    use crate::book::Operator;
+
+    const JOIN_0: [u8; 4] = [1, 0, 1, 0];
+    const JOIN_1: [u8; 4] = [1, 0, 1, 1];
+
+    /// Reads into a fresh book.
+    fn fresh(filing: &[u8]) -> (Book, Reading) {
+        let mut book = Book::fresh();
+        let reading = read(&mut book, filing);
+        (book, reading)
+    }
+
+    /// The filing is refused there by that number, after so many fields.
+    fn refused(filing: &[u8], number: u8, offset: usize, applied: usize) {
+        let expected = Reading {
+            applied,
+            offset,
+            refusal: Some(number),
+        };
+        let (book, reading) = fresh(filing);
+        assert_eq!(reading, expected, "{filing:02x?}");
+        // The book has the fields before the refused one.
+        let (before, reading) = fresh(&filing[..offset]);
+        assert_eq!(reading.refusal, None);
+        assert_eq!(reading.applied, applied);
+        assert_eq!(book, before, "{filing:02x?}");
+    }
+
+    /// The filing is taken whole.
+    fn taken(filing: &[u8], applied: usize) -> Book {
+        let (book, reading) = fresh(filing);
+        let expected = Reading {
+            applied,
+            offset: filing.len(),
+            refusal: None,
+        };
+        assert_eq!(reading, expected, "{filing:02x?}");
+        book
+    }
+
+    fn joined(parts: &[&[u8]]) -> Vec<u8> {
+        parts.concat()
+    }
+
+    /// Tag 4 of operator 0, year 0, figure 0.
+    fn amount(sign: u8, value: u64) -> Vec<u8> {
+        joined(&[&[4, 0, 12, 0, 0, 0, sign], &value.to_be_bytes()])
+    }
+
+    #[test]
+    fn empty_filing() {
+        assert_eq!(taken(&[], 0), Book::fresh());
+    }
+
+    #[test]
+    fn examples_of_the_table() {
+        refused(&[0x01, 0x00], 1, 0, 0);
+        refused(&[0x63, 0x00, 0x00], 2, 0, 0);
+        refused(&[0x01, 0x00, 0x02, 0x00, 0x00], 3, 0, 0);
+        refused(&[0x01, 0x00, 0x01, 0x10], 4, 0, 0);
+        refused(&[0x05, 0x00, 0x03, 0x00, 0x06, 0x01], 5, 0, 0);
+        refused(&joined(&[&JOIN_0, &JOIN_0]), 6, 4, 1);
+        refused(&[0x05, 0x00, 0x03, 0x00, 0x00, 0x01], 7, 0, 0);
+        let past = amount(0, 100_000_000_001);
+        refused(&joined(&[&JOIN_0, &past]), 8, 4, 1);
+        refused(&joined(&[&JOIN_0, &amount(1, 1)]), 9, 4, 1);
+        // The same after an accepted field of operator 1.
+        refused(&joined(&[&JOIN_1, &[0x01, 0x00]]), 1, 4, 1);
+        refused(&joined(&[&JOIN_1, &[0x63, 0x00, 0x00]]), 2, 4, 1);
+        let long = [0x01, 0x00, 0x02, 0x00, 0x00];
+        refused(&joined(&[&JOIN_1, &long]), 3, 4, 1);
+        refused(&joined(&[&JOIN_1, &[0x01, 0x00, 0x01, 0x10]]), 4, 4, 1);
+        let mark = [0x05, 0x00, 0x03, 0x00, 0x06, 0x01];
+        refused(&joined(&[&JOIN_1, &mark]), 5, 4, 1);
+        let mark = [0x05, 0x00, 0x03, 0x00, 0x00, 0x01];
+        refused(&joined(&[&JOIN_1, &mark]), 7, 4, 1);
+    }
+
+    #[test]
+    fn one_or_two_bytes_left() {
+        for tag in 0..=255 {
+            refused(&[tag], 1, 0, 0);
+            refused(&[tag, 0], 1, 0, 0);
+            refused(&[tag, 255], 1, 0, 0);
+            refused(&joined(&[&JOIN_0, &[tag]]), 1, 4, 1);
+            refused(&joined(&[&JOIN_0, &[tag, 0]]), 1, 4, 1);
+        }
+    }
+
+    #[test]
+    fn length_past_the_end() {
+        // 1 for every tag, known or not, and for a right and a wrong length.
+        for tag in 0..=255 {
+            for length in [1_u16, 2, 3, 5, 8, 10, 12, 24, 256, 65_535] {
+                let [high, low] = length.to_be_bytes();
+                let mut filing = vec![tag, high, low];
+                filing.resize(3 + usize::from(length) - 1, 0);
+                refused(&filing, 1, 0, 0);
+                refused(&joined(&[&JOIN_0, &filing]), 1, 4, 1);
+            }
+        }
+        // The second byte of a length is the lower one.
+        refused(&[1, 1, 0, 0], 1, 0, 0);
+    }
+
+    #[test]
+    fn unknown_tags() {
+        for tag in 0..=255 {
+            if (1..=7).contains(&tag) {
+                continue;
+            }
+            for length in [0_u16, 1, 3, 24, 256] {
+                let [high, low] = length.to_be_bytes();
+                let mut filing = vec![tag, high, low];
+                filing.resize(3 + usize::from(length), 0);
+                refused(&filing, 2, 0, 0);
+                refused(&joined(&[&filing, &JOIN_0]), 2, 0, 0);
+                refused(&joined(&[&JOIN_0, &filing, &JOIN_1]), 2, 4, 1);
+            }
+        }
+    }
+
+    #[test]
+    fn wrong_lengths() {
+        let rights = [1, 10, 24, 12, 3, 8, 5];
+        for tag in 1..=7_u8 {
+            let right = rights[usize::from(tag) - 1];
+            assert_eq!(content_length(tag), Some(right));
+            for length in (0..300_usize).chain([right + 256, right + 512, 65_535]) {
+                if length == right {
+                    continue;
+                }
+                let [high, low] = (length as u16).to_be_bytes();
+                let mut filing = vec![tag, high, low];
+                // An operator above 15 and values out of range: 3 all the same.
+                filing.resize(3 + length, 255);
+                refused(&filing, 3, 0, 0);
+                filing.extend(JOIN_0);
+                refused(&filing, 3, 0, 0);
+            }
+        }
+        for tag in [0, 8, 9, 99, 255] {
+            assert_eq!(content_length(tag), None);
+        }
+    }
+
+    #[test]
+    fn every_field_from_bytes() {
+        let filing = joined(&[
+            &[1, 0, 1, 15],
+            &[2, 0, 10, 15, 0, 0, 0, 0, 0, 0, 1, 134, 160],
+            &[2, 0, 10, 15, 1, 0, 0, 0, 0, 0, 61, 9, 0],
+            &[2, 0, 10, 15, 2, 0, 0, 0, 23, 72, 118, 232, 0],
+            // From -31,536,000 to 0, weight 258.
+            &[3, 0, 24, 15, 0, 0, 4],
+            &[255, 255, 255, 255, 254, 30, 204, 128],
+            &[0, 0, 0, 0, 0, 0, 0, 0],
+            &[0, 0, 1, 2],
+            &[4, 0, 12, 15, 2, 7, 0, 1, 2, 3, 4, 5, 6, 7, 8],
+        ]);
+        // The last number is past 10^11.
+        refused(&filing, 8, filing.len() - 15, 5);
+        let filing = joined(&[
+            &filing[..filing.len() - 15],
+            &[4, 0, 12, 15, 2, 7, 0, 0, 0, 0, 4, 5, 6, 7, 8],
+            &[4, 0, 12, 15, 2, 7, 1, 0, 0, 0, 0, 0, 0, 0, 8],
+            &[5, 0, 3, 15, 5, 1],
+            &[6, 0, 8, 0, 0, 19, 136, 0, 0, 39, 16],
+            &[7, 0, 5, 3, 0, 1, 134, 160],
+        ]);
+        let book = taken(&filing, 10);
+        let mut expected = Book::fresh();
+        let mut operator = Operator::fresh();
+        operator.joined = true;
+        operator.cabins = 100_000;
+        operator.access_points = 4_000_000;
+        operator.income = 100_000_000_000;
+        operator.figures[0][0] = 258;
+        operator.figures[0][1] = 258 * 31_536_000;
+        operator.figures[2][7] = 0x04_0506_0700;
+        operator.marks[5] = true;
+        expected.operators[15] = operator;
+        expected.pot_rate = 5000;
+        expected.cap_rate = 10_000;
+        expected.indices[3] = 100_000;
+        assert_eq!(book, expected);
+    }
+
+    #[test]
+    fn times_in_twos_complement() {
+        let field = |start: [u8; 8], end: [u8; 8]| {
+            joined(&[
+                &JOIN_0,
+                &[3, 0, 24, 0, 0, 1, 0],
+                &start,
+                &end,
+                &[0, 0, 0, 1],
+            ])
+        };
+        let zero = [0; 8];
+        // -181 to 0.
+        let start = [255, 255, 255, 255, 255, 255, 255, 75];
+        let book = taken(&field(start, zero), 2);
+        assert_eq!(book.operators[0].figures[0][2..4], [1, 181]);
+        // The least and the greatest number.
+        let least = [128, 0, 0, 0, 0, 0, 0, 0];
+        let most = [127, 255, 255, 255, 255, 255, 255, 255];
+        refused(&field(least, zero), 5, 4, 1);
+        refused(&field(zero, most), 5, 4, 1);
+        refused(&field(zero, least), 5, 4, 1);
+        // An end of -1.
+        refused(&field(start, [255; 8]), 5, 4, 1);
+        assert_eq!(signed(&least), i64::MIN);
+        assert_eq!(signed(&most), i64::MAX);
+        assert_eq!(signed(&[255; 8]), -1);
+        assert_eq!(signed(&zero), 0);
+    }
+
+    #[test]
+    fn interruptions_left_out_are_applied() {
+        for (cause, seconds) in [(0, 180), (1, 181), (2, 181), (3, 181), (4, 0)] {
+            let filing = joined(&[
+                &JOIN_0,
+                &[3, 0, 24, 0, 0, 1, cause],
+                &[0; 8],
+                &[0, 0, 0, 0, 0, 0, 0, seconds],
+                &[0, 0, 0, 1],
+                &JOIN_1,
+            ]);
+            let mut expected = Book::fresh();
+            expected.operators[0].joined = true;
+            expected.operators[1].joined = true;
+            assert_eq!(taken(&filing, 3), expected);
+        }
+    }
+
+    #[test]
+    fn fields_after_the_refused_one_are_not_read() {
+        let unknown = [99, 0, 0];
+        let filing = joined(&[&JOIN_0, &JOIN_1, &unknown, &[1, 0, 1, 2]]);
+        refused(&filing, 2, 8, 2);
+        let (book, _) = fresh(&filing);
+        assert_eq!(book.joined_mask(), 3);
+        // Nor after a join refused by the book.
+        let filing = joined(&[&JOIN_0, &JOIN_0, &JOIN_1]);
+        refused(&filing, 6, 4, 1);
+    }
+
+    #[test]
+    fn reading_goes_on_with_the_book_lent() {
+        let mut book = taken(&JOIN_0, 1);
+        let reading = read(&mut book, &JOIN_0);
+        let expected = Reading {
+            applied: 0,
+            offset: 0,
+            refusal: Some(6),
+        };
+        assert_eq!(reading, expected);
+        assert_eq!(read(&mut book, &JOIN_1).refusal, None);
+        assert_eq!(book.joined_mask(), 3);
+    }
+
+    #[test]
+    fn book_out_of_range() {
+        let mut past = Book::fresh();
+        past.pot_rate = 20_001;
+        let mut not_joined = Book::fresh();
+        not_joined.operators[4].marks[0] = true;
+        let expected = Reading {
+            applied: 0,
+            offset: 0,
+            refusal: Some(5),
+        };
+        for book in [past, not_joined] {
+            for filing in [
+                &[] as &[u8],
+                &[1],
+                &[1, 0],
+                &[99, 0, 0],
+                &[1, 0, 0],
+                &[1, 0, 1, 16],
+                &JOIN_0,
+                &[1, 0, 1, 0, 1, 0, 1, 4],
+                // Rates that would bring the book back into range.
+                &[6, 0, 8, 0, 0, 0, 0, 0, 0, 0, 0],
+            ] {
+                let mut after = book.clone();
+                assert_eq!(read(&mut after, filing), expected);
+                assert_eq!(after, book);
+            }
+        }
+    }
+
+    #[test]
+    fn fields_are_encoded_and_decoded() {
+        let interruption = Interruption {
+            operator: 1,
+            sign: 2,
+            level: 3,
+            cause: 4,
+            start: -2,
+            end: i64::MAX,
+            weight: 0x0102_0304,
+        };
+        let cases: [(Field, &[u8]); 7] = [
+            (Field::Join { operator: 16 }, &[1, 0, 1, 16]),
+            (
+                Field::Setting {
+                    operator: 1,
+                    which: 2,
+                    value: 0x0304_0506_0708_090a,
+                },
+                &[2, 0, 10, 1, 2, 3, 4, 5, 6, 7, 8, 9, 10],
+            ),
+            (
+                Field::Interruption(interruption),
+                &[
+                    3, 0, 24, 1, 2, 3, 4, 255, 255, 255, 255, 255, 255, 255, 254, 127, 255, 255,
+                    255, 255, 255, 255, 255, 1, 2, 3, 4,
+                ],
+            ),
+            (
+                Field::Amount {
+                    operator: 1,
+                    year: 2,
+                    figure: 3,
+                    sign: 4,
+                    value: u64::MAX - 1,
+                },
+                &[4, 0, 12, 1, 2, 3, 4, 255, 255, 255, 255, 255, 255, 255, 254],
+            ),
+            (
+                Field::Mark {
+                    operator: 1,
+                    indicator: 2,
+                    mark: 3,
+                },
+                &[5, 0, 3, 1, 2, 3],
+            ),
+            (
+                Field::Rates {
+                    pot: 0x0102_0304,
+                    cap: 0x0506_0708,
+                },
+                &[6, 0, 8, 1, 2, 3, 4, 5, 6, 7, 8],
+            ),
+            (
+                Field::Index {
+                    number: 1,
+                    value: 0x0203_0405,
+                },
+                &[7, 0, 5, 1, 2, 3, 4, 5],
+            ),
+        ];
+        for (field, bytes) in cases {
+            assert_eq!(encode(&field), bytes);
+            assert_eq!(field_at(bytes, 0), Ok(field));
+        }
+    }
+}

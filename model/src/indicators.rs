@@ -1,0 +1,553 @@
+//! The indicators: yearly values, pools and the points of every operator.
+//! Nothing here knows of money, so one set of points can be settled at many rates.
+
+use crate::book::{Book, Operator, OPERATORS, YEARS};
+use crate::exponent;
+use crate::sharing::share_wide;
+
+/// The number of the index for June 2013.
+const JUNE_2013: usize = 3;
+
+/// How an indicator turns the operators' sums into weights.
+#[derive(Clone, Copy, Debug, PartialEq, Eq)]
+pub enum Kind {
+    /// A: the exponent table, the better operators levelled.
+    Interruptions,
+    /// D: fees brought back to June 2013, weights on a straight line.
+    Fees,
+}
+
+/// What a yearly value is divided by.
+#[derive(Clone, Copy, Debug, PartialEq, Eq)]
+pub enum Divisor {
+    Cabins,
+    AccessPoints,
+    /// The figure with that number, of the same year.
+    Figure(usize),
+}
+
+/// One indicator; its number is its place in the list.
+#[derive(Clone, Copy, Debug, PartialEq, Eq)]
+pub struct Indicator {
+    pub code: &'static str,
+    /// Points per year.
+    pub points: u128,
+    pub kind: Kind,
+    /// The yearly value is factor × figure / divisor.
+    pub factor: u128,
+    pub figure: usize,
+    pub divisor: Divisor,
+}
+
+/// The points of every operator, in hundredths.
+#[derive(Clone, Debug, PartialEq, Eq)]
+pub struct Points {
+    /// By indicator.
+    pub pools: Vec<u128>,
+    /// By operator, then indicator.
+    pub points: Vec<Vec<u128>>,
+}
+
+impl Points {
+    pub fn zero(indicators: usize) -> Points {
+        Points {
+            pools: vec![0; indicators],
+            points: vec![vec![0; indicators]; OPERATORS],
+        }
+    }
+
+    /// The points of each operator over all indicators.
+    pub fn totals(&self) -> Vec<u128> {
+        let mut totals = Vec::new();
+        for points in &self.points {
+            totals.push(points.iter().sum());
+        }
+        totals
+    }
+}
+
+/// The list of 01, indicators 0 to 5.
+/// Follows 01: "Points per year (annex 9, table 3): A1 154, A2 126, A3 66,
+/// A4 54, D1 20, D2 5" and the three lines of yearly values below it.
+pub fn indicators() -> Vec<Indicator> {
+    vec![
+        Indicator {
+            code: "A1",
+            points: 154,
+            kind: Kind::Interruptions,
+            factor: 1_000_000,
+            figure: 0,
+            divisor: Divisor::Cabins,
+        },
+        Indicator {
+            code: "A2",
+            points: 126,
+            kind: Kind::Interruptions,
+            factor: 1000,
+            figure: 1,
+            divisor: Divisor::Figure(0),
+        },
+        Indicator {
+            code: "A3",
+            points: 66,
+            kind: Kind::Interruptions,
+            factor: 1_000_000,
+            figure: 2,
+            divisor: Divisor::AccessPoints,
+        },
+        Indicator {
+            code: "A4",
+            points: 54,
+            kind: Kind::Interruptions,
+            factor: 1000,
+            figure: 3,
+            divisor: Divisor::Figure(2),
+        },
+        Indicator {
+            code: "D1",
+            points: 20,
+            kind: Kind::Fees,
+            factor: 10,
+            figure: 4,
+            divisor: Divisor::Figure(5),
+        },
+        Indicator {
+            code: "D2",
+            points: 5,
+            kind: Kind::Fees,
+            factor: 10,
+            figure: 6,
+            divisor: Divisor::Figure(7),
+        },
+    ]
+}
+
+/// The value of one operator in one year.
+/// Follows 01: "Yearly value, rounded down; a zero divisor gives 0".
+pub fn yearly_value(
+    indicator: &Indicator,
+    operator: &Operator,
+    year: usize,
+    indices: &[u128],
+) -> u128 {
+    let figures = &operator.figures[year];
+    let mut dividend = indicator.factor * figures[indicator.figure];
+    let mut divisor = match indicator.divisor {
+        Divisor::Cabins => operator.cabins,
+        Divisor::AccessPoints => operator.access_points,
+        Divisor::Figure(figure) => figures[figure],
+    };
+    // Follows 01: "10 × figure 4 × index 3 / (figure 5 × the year's index)".
+    if indicator.kind == Kind::Fees {
+        dividend *= indices[JUNE_2013];
+        divisor *= indices[year];
+    }
+    if divisor == 0 {
+        return 0;
+    }
+    dividend / divisor
+}
+
+/// Follows 01: "An operator's s is the sum of its three yearly values."
+pub fn value_sum(indicator: &Indicator, operator: &Operator, indices: &[u128]) -> u128 {
+    let mut sum = 0;
+    for year in 0..YEARS {
+        sum += yearly_value(indicator, operator, year, indices);
+    }
+    sum
+}
+
+/// The pool for `joined` operators (above 0), `unmarked` of them without a mark.
+/// Follows 01: "Pool, in hundredths: 300 × points × m / n, rounded down."
+pub fn pool(indicator: &Indicator, joined: u128, unmarked: u128) -> u128 {
+    300 * indicator.points * unmarked / joined
+}
+
+/// Each s as parts of the largest s: k with 1000 parts, e with 100,000.
+/// Follows 01: "k = 1000 × s / (largest s of the m), rounded down, or 0 if the
+/// largest is 0".
+pub fn parts_of_largest(parts: u128, sums: &[u128]) -> Vec<u128> {
+    let mut largest = 0;
+    for &sum in sums {
+        if sum > largest {
+            largest = sum;
+        }
+    }
+    if largest == 0 {
+        return vec![0; sums.len()];
+    }
+    let mut answers = Vec::new();
+    for &sum in sums {
+        answers.push(parts * sum / largest);
+    }
+    answers
+}
+
+/// Which operators are better.
+/// Follows 01: "Better operators have m × s below the sum of all s."
+pub fn better(sums: &[u128]) -> Vec<bool> {
+    let count = sums.len() as u128;
+    let mut total = 0;
+    for &sum in sums {
+        total += sum;
+    }
+    let mut answers = Vec::new();
+    for &sum in sums {
+        answers.push(count * sum < total);
+    }
+    answers
+}
+
+/// The weights after the better operators are levelled.
+/// Follows 01: "With g better operators, g above 0, each of them takes the sum
+/// of their weights and each other takes g times its own." With none the
+/// weights stay.
+pub fn levelled(weights: &[u128], better: &[bool]) -> Vec<u128> {
+    let mut count = 0;
+    let mut group_sum = 0;
+    for place in 0..weights.len() {
+        if better[place] {
+            count += 1;
+            group_sum += weights[place];
+        }
+    }
+    if count == 0 {
+        return weights.to_vec();
+    }
+    let mut answers = Vec::new();
+    for place in 0..weights.len() {
+        if better[place] {
+            answers.push(group_sum);
+        } else {
+            answers.push(count * weights[place]);
+        }
+    }
+    answers
+}
+
+/// The weights of an A indicator from the sums of the unmarked operators.
+/// Follows 01: "The weight of k stands in a table of 1001 numbers".
+pub fn interruption_weights(sums: &[u128]) -> Vec<u128> {
+    let table = exponent::table();
+    let mut weights = Vec::new();
+    for k in parts_of_largest(1000, sums) {
+        weights.push(table[k as usize]);
+    }
+    levelled(&weights, &better(sums))
+}
+
+/// The weights of a D indicator from the sums of the unmarked operators.
+/// Follows 01: "e = 100,000 × s / (largest s), rounded down, or 0; the weight
+/// is 1,000,000 - 6 × e."
+pub fn fee_weights(sums: &[u128]) -> Vec<u128> {
+    let mut weights = Vec::new();
+    for e in parts_of_largest(100_000, sums) {
+        weights.push(1_000_000 - 6 * e);
+    }
+    weights
+}
+
+/// Pools and points of a book with at least one joined operator.
+/// Follows 01: "Marked operators get 0 and count nowhere else."
+pub fn points(book: &Book, indicators: &[Indicator]) -> Points {
+    let mut answer = Points::zero(indicators.len());
+    for (number, indicator) in indicators.iter().enumerate() {
+        // The lists are those of the unmarked operators, rising.
+        let mut joined = 0;
+        let mut unmarked = Vec::new();
+        let mut sums = Vec::new();
+        for k in 0..OPERATORS {
+            let operator = &book.operators[k];
+            if !operator.joined {
+                continue;
+            }
+            joined += 1;
+            if operator.marks[number] {
+                continue;
+            }
+            unmarked.push(k);
+            sums.push(value_sum(indicator, operator, &book.indices));
+        }
+        let weights = match indicator.kind {
+            Kind::Interruptions => interruption_weights(&sums),
+            Kind::Fees => fee_weights(&sums),
+        };
+        let pool = pool(indicator, joined, unmarked.len() as u128);
+        let shares = share_wide(pool, &weights);
+        answer.pools[number] = pool;
+        for place in 0..unmarked.len() {
+            answer.points[unmarked[place]][number] = shares[place];
+        }
+    }
+    answer
+}
+
+#[cfg(test)]
+mod tests {
+    use super::*;
+    use crate::book::{FIGURES, INDICATORS};
+
+    const FRESH: [u128; 4] = [10_000; 4];
+
+    /// A joined operator with the given figures in year 0.
+    fn operator(cabins: u128, access_points: u128, figures: [u128; FIGURES]) -> Operator {
+        let mut operator = Operator::fresh();
+        operator.joined = true;
+        operator.cabins = cabins;
+        operator.access_points = access_points;
+        operator.figures[0] = figures.to_vec();
+        operator
+    }
+
+    /// The values of year 0 at all six indicators.
+    fn values(operator: &Operator, indices: &[u128]) -> Vec<u128> {
+        let mut values = Vec::new();
+        for indicator in &indicators() {
+            values.push(yearly_value(indicator, operator, 0, indices));
+        }
+        values
+    }
+
+    #[test]
+    fn six_indicators_with_their_points() {
+        let list = indicators();
+        assert_eq!(list.len(), INDICATORS);
+        let codes: Vec<&str> = list.iter().map(|indicator| indicator.code).collect();
+        assert_eq!(codes, ["A1", "A2", "A3", "A4", "D1", "D2"]);
+        let points: Vec<u128> = list.iter().map(|indicator| indicator.points).collect();
+        assert_eq!(points, [154, 126, 66, 54, 20, 5]);
+    }
+
+    #[test]
+    fn yearly_values_are_rounded_down() {
+        // 1000000 × 2 / 3, 1000 × 7 / 2, 1000000 × 5 / 7, 1000 × 3 / 5,
+        // 10 × 11 / 13, 10 × 23 / 19.
+        let one = operator(3, 7, [2, 7, 5, 3, 11, 13, 23, 19]);
+        assert_eq!(
+            values(&one, &FRESH),
+            [666_666, 3500, 714_285, 600, 8, 12],
+            "{one:?}"
+        );
+    }
+
+    #[test]
+    fn zero_divisors_give_zero() {
+        let one = operator(0, 0, [0, 7, 0, 3, 11, 0, 23, 0]);
+        assert_eq!(values(&one, &FRESH), [0; 6]);
+        // Cabins and access points of 0 alone.
+        let one = operator(0, 0, [1; 8]);
+        assert_eq!(values(&one, &FRESH), [0, 1000, 0, 1000, 10, 10]);
+        // A zero dividend.
+        let one = operator(1, 1, [0, 0, 0, 0, 0, 1, 0, 1]);
+        assert_eq!(values(&one, &FRESH), [0; 6]);
+    }
+
+    #[test]
+    fn every_year_has_its_figures_and_its_index() {
+        let mut one = operator(10, 10, [0; 8]);
+        for year in 0..3 {
+            let value = 10 + year as u128;
+            one.figures[year] = vec![value; 8];
+        }
+        let indices = [100, 200, 400, 1000];
+        let list = indicators();
+        let of = |number: usize| -> Vec<u128> {
+            (0..3)
+                .map(|year| yearly_value(&list[number], &one, year, &indices))
+                .collect()
+        };
+        assert_eq!(of(0), [1_000_000, 1_100_000, 1_200_000]);
+        assert_eq!(of(1), [1000, 1000, 1000]);
+        assert_eq!(of(2), [1_000_000, 1_100_000, 1_200_000]);
+        assert_eq!(of(3), [1000, 1000, 1000]);
+        assert_eq!(of(4), [100, 50, 25]);
+        assert_eq!(of(5), [100, 50, 25]);
+        let sums: Vec<u128> = list
+            .iter()
+            .map(|indicator| value_sum(indicator, &one, &indices))
+            .collect();
+        assert_eq!(sums, [3_300_000, 3000, 3_300_000, 3000, 175, 175]);
+    }
+
+    #[test]
+    fn each_year_is_rounded_before_the_sum() {
+        let mut one = operator(3, 3, [0; 8]);
+        for year in 0..3 {
+            one.figures[year] = vec![1, 0, 1, 0, 1, 3, 1, 3];
+        }
+        // 333333.33 and 3.33 each year.
+        let list = indicators();
+        assert_eq!(value_sum(&list[0], &one, &FRESH), 999_999);
+        assert_eq!(value_sum(&list[2], &one, &FRESH), 999_999);
+        assert_eq!(value_sum(&list[4], &one, &FRESH), 9);
+        assert_eq!(value_sum(&list[5], &one, &FRESH), 9);
+    }
+
+    #[test]
+    fn indices_at_their_ends() {
+        let one = operator(1, 1, [0, 0, 0, 0, 50_000, 100, 123_456_789, 7]);
+        // 10 × 50000 × 100000 / 100 and 10 × 123456789 × 100000 / 7.
+        assert_eq!(
+            values(&one, &[1, 1, 1, 100_000])[4..],
+            [500_000_000, 17_636_684_142_857]
+        );
+        // 10 × 50000 / (100 × 100000) and 10 × 123456789 / (7 × 100000).
+        assert_eq!(values(&one, &[100_000, 1, 1, 1])[4..], [0, 1763]);
+        assert_eq!(
+            values(&one, &[1, 100_000, 100_000, 1])[4..],
+            [5000, 176_366_841]
+        );
+        assert_eq!(values(&one, &[100_000; 4])[4..], [5000, 176_366_841]);
+    }
+
+    #[test]
+    fn largest_values() {
+        let most = 100_000_000_000;
+        let mut one = operator(1, 1, [most; 8]);
+        assert_eq!(
+            values(&one, &FRESH),
+            [
+                100_000_000_000_000_000,
+                1000,
+                100_000_000_000_000_000,
+                1000,
+                10,
+                10
+            ]
+        );
+        one.figures[0] = vec![1, most, 1, most, most, 1, most, 1];
+        assert_eq!(
+            values(&one, &[1, 1, 1, 100_000]),
+            [
+                1_000_000,
+                100_000_000_000_000,
+                1_000_000,
+                100_000_000_000_000,
+                100_000_000_000_000_000,
+                100_000_000_000_000_000
+            ]
+        );
+    }
+
+    #[test]
+    fn pools() {
+        let list = indicators();
+        let of = |joined, unmarked| -> Vec<u128> {
+            list.iter()
+                .map(|indicator| pool(indicator, joined, unmarked))
+                .collect()
+        };
+        assert_eq!(of(1, 1), [46_200, 37_800, 19_800, 16_200, 6000, 1500]);
+        assert_eq!(of(16, 16), [46_200, 37_800, 19_800, 16_200, 6000, 1500]);
+        assert_eq!(of(16, 0), [0; 6]);
+        // One rounding, at the end: 46200 / 16 = 2887.5, 1500 / 16 = 93.75.
+        assert_eq!(of(16, 1), [2887, 2362, 1237, 1012, 375, 93]);
+        // 46200 × 5 / 7 is whole, 37800 × 5 / 7 too, 19800 × 5 / 7 = 14142.86.
+        assert_eq!(of(7, 5), [33_000, 27_000, 14_142, 11_571, 4285, 1071]);
+    }
+
+    #[test]
+    fn parts_are_rounded_down() {
+        assert_eq!(parts_of_largest(1000, &[0, 1, 2, 3]), [0, 333, 666, 1000]);
+        assert_eq!(parts_of_largest(1000, &[999, 1000, 1001]), [998, 999, 1000]);
+        assert_eq!(parts_of_largest(1000, &[0, 0]), [0, 0]);
+        assert_eq!(parts_of_largest(1000, &[5]), [1000]);
+        assert_eq!(parts_of_largest(100_000, &[1, 3]), [33_333, 100_000]);
+        assert_eq!(parts_of_largest(100_000, &[]), Vec::<u128>::new());
+    }
+
+    #[test]
+    fn better_is_below_the_mean() {
+        assert_eq!(better(&[1, 2, 3]), [true, false, false]);
+        assert_eq!(better(&[1, 2, 4]), [true, true, false]);
+        assert_eq!(better(&[5, 5, 5]), [false; 3]);
+        assert_eq!(better(&[0, 0]), [false; 2]);
+        assert_eq!(better(&[7]), [false]);
+        assert_eq!(better(&[0, 1]), [true, false]);
+    }
+
+    #[test]
+    fn levelling() {
+        // The marked case.
+        assert_eq!(levelled(&[10, 8, 4], &[true, true, false]), [18, 18, 8]);
+        assert_eq!(levelled(&[4, 10, 8], &[false, true, true]), [8, 18, 18]);
+        // None better: the weights stay.
+        assert_eq!(levelled(&[10, 8, 4], &[false; 3]), [10, 8, 4]);
+        // One better: it keeps its own, and so do the others.
+        assert_eq!(levelled(&[10, 8, 4], &[true, false, false]), [10, 8, 4]);
+    }
+
+    #[test]
+    fn interruption_weights_by_the_table() {
+        let table = exponent::table();
+        // k 0, 333, 666, 1000; the first two are below the mean of 1.5.
+        let group = table[0] + table[333];
+        assert_eq!(
+            interruption_weights(&[0, 1, 2, 3]),
+            [group, group, 2 * table[666], 2 * table[1000]]
+        );
+        // The better operator is the one with k = 4.
+        assert_eq!(
+            interruption_weights(&[4, 1000, 1000]),
+            [996_005_996, table[1000], table[1000]]
+        );
+        assert_eq!(interruption_weights(&[0, 0]), [1_000_000_000; 2]);
+        assert_eq!(interruption_weights(&[9, 9, 9]), [table[1000]; 3]);
+        assert_eq!(interruption_weights(&[]), Vec::<u128>::new());
+    }
+
+    #[test]
+    fn fee_weights_on_a_line() {
+        assert_eq!(fee_weights(&[0, 5000]), [1_000_000, 400_000]);
+        assert_eq!(fee_weights(&[1, 2, 3]), [800_002, 600_004, 400_000]);
+        assert_eq!(fee_weights(&[0, 0]), [1_000_000; 2]);
+        assert_eq!(fee_weights(&[3, 3]), [400_000; 2]);
+        assert_eq!(fee_weights(&[]), Vec::<u128>::new());
+    }
+
+    #[test]
+    fn marked_operators_count_nowhere_else() {
+        // Operators 1 and 2 alone, then with a marked one of the worst values,
+        // which lowers the pool but not their weights.
+        let mut book = Book::fresh();
+        book.operators[1] = operator(1000, 1, [1, 0, 0, 0, 0, 0, 0, 0]);
+        book.operators[2] = operator(1000, 1, [4, 0, 0, 0, 0, 0, 0, 0]);
+        let list = indicators();
+        let alone = points(&book, &list);
+        let table = exponent::table();
+        assert_eq!(alone.pools[0], 46_200);
+        assert_eq!(
+            [alone.points[1][0], alone.points[2][0]],
+            share_wide(46_200, &[table[250], table[1000]])[..]
+        );
+        book.operators[0] = operator(1, 1, [1000; 8]);
+        book.operators[0].marks[0] = true;
+        let with_marked = points(&book, &list);
+        assert_eq!(with_marked.pools[0], 30_800);
+        assert_eq!(
+            [
+                with_marked.points[0][0],
+                with_marked.points[1][0],
+                with_marked.points[2][0]
+            ],
+            [
+                0,
+                share_wide(30_800, &[table[250], table[1000]])[0],
+                share_wide(30_800, &[table[250], table[1000]])[1]
+            ]
+        );
+        // A mark at one indicator leaves the others.
+        assert!(with_marked.points[0][1] > 0);
+    }
+
+    #[test]
+    fn points_follow_the_list_given() {
+        let mut book = Book::fresh();
+        book.operators[0] = operator(1, 1, [1; 8]);
+        let one = points(&book, &indicators()[..1]);
+        assert_eq!(one.pools, [46_200]);
+        assert_eq!(one.points[0], [46_200]);
+        assert_eq!(one.points[1], [0]);
+        assert_eq!(points(&book, &[]).totals(), [0; 16]);
+    }
+}

@@ -1,0 +1,287 @@
+//! The money of a settlement: pot, contributions, returns, limits and
+//! adjustments, for points already given and at any rates.
+
+use crate::book::{Operator, OPERATORS};
+use crate::sharing::share_wide;
+
+const MILLIONTHS: u128 = 1_000_000;
+
+/// All amounts in cents; the lists by operator.
+#[derive(Clone, Debug, PartialEq, Eq)]
+pub struct Money {
+    pub pot: u128,
+    pub contributions: Vec<u128>,
+    pub returns: Vec<u128>,
+    pub limits: Vec<u128>,
+    pub adjustments: Vec<i128>,
+}
+
+impl Money {
+    pub fn zero() -> Money {
+        Money {
+            pot: 0,
+            contributions: vec![0; OPERATORS],
+            returns: vec![0; OPERATORS],
+            limits: vec![0; OPERATORS],
+            adjustments: vec![0; OPERATORS],
+        }
+    }
+}
+
+/// The money of the joined operators; `points` are those of each operator over
+/// all indicators.
+/// Follows 01: "Pot = pot rate × (sum of incomes) / 1,000,000, rounded down.
+/// Contributions share the pot by access points. Returns share it by access
+/// points × points. Difference = return - contribution. Limit = cap rate ×
+/// income / 1,000,000, rounded down."
+pub fn money(operators: &[Operator], points: &[u128], pot_rate: u128, cap_rate: u128) -> Money {
+    // The lists are those of the joined operators, rising.
+    let mut joined = Vec::new();
+    let mut incomes: u128 = 0;
+    let mut access_points = Vec::new();
+    let mut return_weights = Vec::new();
+    let mut limits = Vec::new();
+    for k in 0..operators.len() {
+        let operator = &operators[k];
+        if !operator.joined {
+            continue;
+        }
+        joined.push(k);
+        incomes += operator.income;
+        access_points.push(operator.access_points);
+        return_weights.push(operator.access_points * points[k]);
+        limits.push(cap_rate * operator.income / MILLIONTHS);
+    }
+
+    let pot = pot_rate * incomes / MILLIONTHS;
+    let contributions = share_wide(pot, &access_points);
+    let returns = share_wide(pot, &return_weights);
+    let mut differences = Vec::new();
+    for place in 0..joined.len() {
+        differences.push(returns[place] as i128 - contributions[place] as i128);
+    }
+    let adjustments = adjustments(&differences, &limits);
+
+    // Those not joined keep 0.
+    let mut answer = Money::zero();
+    answer.pot = pot;
+    for place in 0..joined.len() {
+        let k = joined[place];
+        answer.contributions[k] = contributions[place];
+        answer.returns[k] = returns[place];
+        answer.limits[k] = limits[place];
+        answer.adjustments[k] = adjustments[place];
+    }
+    answer
+}
+
+/// The adjustments that follow from the differences and their limits.
+/// Follows 01: "Each difference is cut to its limit on either side. Of the sum
+/// of bonuses and the sum of maluses, the larger side is shared again to the
+/// smaller sum, by its cut amounts." The sums are those of the cut amounts;
+/// with equal sums both sides stay.
+pub fn adjustments(differences: &[i128], limits: &[u128]) -> Vec<i128> {
+    let mut bonuses = Vec::new();
+    let mut maluses = Vec::new();
+    let mut bonus_sum: u128 = 0;
+    let mut malus_sum: u128 = 0;
+    for place in 0..differences.len() {
+        let cut = cut(differences[place], limits[place]);
+        // Each place has 0 on the side it is not on.
+        let bonus = if cut > 0 { cut.unsigned_abs() } else { 0 };
+        let malus = if cut < 0 { cut.unsigned_abs() } else { 0 };
+        bonuses.push(bonus);
+        maluses.push(malus);
+        bonus_sum += bonus;
+        malus_sum += malus;
+    }
+    if bonus_sum > malus_sum {
+        bonuses = share_wide(malus_sum, &bonuses);
+    }
+    if malus_sum > bonus_sum {
+        maluses = share_wide(bonus_sum, &maluses);
+    }
+    let mut answers = Vec::new();
+    for place in 0..differences.len() {
+        answers.push(bonuses[place] as i128 - maluses[place] as i128);
+    }
+    answers
+}
+
+/// The difference, not beyond its limit on either side.
+pub fn cut(difference: i128, limit: u128) -> i128 {
+    let limit = limit as i128;
+    if difference > limit {
+        return limit;
+    }
+    if difference < -limit {
+        return -limit;
+    }
+    difference
+}
+
+/// Follows 01: "An adjustment passes its limit when, sign aside, it is the larger."
+pub fn passes_limit(adjustment: i128, limit: u128) -> bool {
+    adjustment.unsigned_abs() > limit
+}
+
+#[cfg(test)]
+mod tests {
+    use super::*;
+
+    /// Joined operators with those access points and incomes.
+    fn joined(settings: &[(u128, u128)]) -> Vec<Operator> {
+        let mut operators = vec![Operator::fresh(); OPERATORS];
+        for place in 0..settings.len() {
+            operators[place].joined = true;
+            operators[place].cabins = 1;
+            operators[place].access_points = settings[place].0;
+            operators[place].income = settings[place].1;
+        }
+        operators
+    }
+
+    /// Points of the first operators, 0 for the others.
+    fn totals(first: &[u128]) -> Vec<u128> {
+        let mut totals = first.to_vec();
+        totals.resize(OPERATORS, 0);
+        totals
+    }
+
+    #[test]
+    fn cuts() {
+        assert_eq!(cut(5, 5), 5);
+        assert_eq!(cut(6, 5), 5);
+        assert_eq!(cut(4, 5), 4);
+        assert_eq!(cut(-5, 5), -5);
+        assert_eq!(cut(-6, 5), -5);
+        assert_eq!(cut(-4, 5), -4);
+        assert_eq!(cut(0, 0), 0);
+        assert_eq!(cut(7, 0), 0);
+        assert_eq!(cut(-7, 0), 0);
+    }
+
+    #[test]
+    fn within_the_limits_the_differences_stand() {
+        assert_eq!(adjustments(&[3, -2, 0, -1], &[9; 4]), [3, -2, 0, -1]);
+        assert_eq!(adjustments(&[0, 0], &[9, 9]), [0, 0]);
+        assert_eq!(adjustments(&[], &[]), Vec::<i128>::new());
+    }
+
+    #[test]
+    fn bonus_side_larger() {
+        // Cut: 30, 20, -10, -25; 35 is shared by 30 and 20.
+        assert_eq!(
+            adjustments(&[30, 20, -10, -40], &[100, 100, 100, 25]),
+            [21, 14, -10, -25]
+        );
+        // Cut: 10, 10, 10, -10; the unit left over goes to the lowest.
+        assert_eq!(adjustments(&[10, 10, 10, -30], &[10; 4]), [4, 3, 3, -10]);
+        // The place of the malus does not matter to the bonuses.
+        assert_eq!(adjustments(&[-30, 10, 10, 10], &[10; 4]), [-10, 4, 3, 3]);
+    }
+
+    #[test]
+    fn malus_side_larger() {
+        assert_eq!(
+            adjustments(&[-30, -20, 10, 40], &[100, 100, 100, 25]),
+            [-21, -14, 10, 25]
+        );
+        // Ties to the lower operator among the maluses too.
+        assert_eq!(
+            adjustments(&[-10, -10, 30, -10], &[10; 4]),
+            [-4, -3, 10, -3]
+        );
+    }
+
+    #[test]
+    fn the_cut_amounts_are_the_weights() {
+        // Cut: 10, 10, -8; by the differences 90 and 10 it would be 7 and 1.
+        assert_eq!(adjustments(&[90, 10, -100], &[10, 10, 8]), [4, 4, -8]);
+    }
+
+    #[test]
+    fn equal_sides_stand() {
+        // Cut: 7, 5, -6, -6.
+        assert_eq!(adjustments(&[7, 5, -6, -6], &[7, 5, 6, 6]), [7, 5, -6, -6]);
+        assert_eq!(adjustments(&[8, 6, -7, -7], &[7, 5, 6, 6]), [7, 5, -6, -6]);
+    }
+
+    #[test]
+    fn zero_limits() {
+        assert_eq!(adjustments(&[30, -20, -10], &[0; 3]), [0; 3]);
+        // One side without any room leaves nothing for the other.
+        assert_eq!(adjustments(&[30, -20, -10], &[0, 50, 50]), [0; 3]);
+        assert_eq!(adjustments(&[30, -20, -10], &[50, 0, 0]), [0; 3]);
+        assert_eq!(adjustments(&[30, -20, -10], &[50, 0, 50]), [10, 0, -10]);
+    }
+
+    #[test]
+    fn limits_are_not_passed() {
+        for a in -6..=6 {
+            for b in -6..=6 {
+                let differences = [a, b, -a - b];
+                for limits in [[0, 1, 2], [3, 1, 4], [2, 2, 2], [5, 6, 7], [6, 0, 12]] {
+                    let answers = adjustments(&differences, &limits);
+                    assert_eq!(answers.iter().sum::<i128>(), 0);
+                    for place in 0..3 {
+                        let cut = cut(differences[place], limits[place]);
+                        assert!(!passes_limit(answers[place], limits[place]));
+                        // Between 0 and the cut amount.
+                        assert!(answers[place] * cut >= 0);
+                        assert!(answers[place].abs() <= cut.abs());
+                    }
+                }
+            }
+        }
+    }
+
+    #[test]
+    fn passing_a_limit() {
+        assert!(!passes_limit(5, 5));
+        assert!(!passes_limit(-5, 5));
+        assert!(passes_limit(6, 5));
+        assert!(passes_limit(-6, 5));
+        assert!(!passes_limit(0, 0));
+    }
+
+    #[test]
+    fn pot_and_limits_are_rounded_down() {
+        // Incomes 999 and 1000: 1000 × 1999 / 1000000 is 1.999.
+        let operators = joined(&[(1, 999), (1, 1000)]);
+        let answer = money(&operators, &totals(&[1, 1]), 1000, 1000);
+        assert_eq!(answer.pot, 1);
+        assert_eq!(answer.contributions[..2], [1, 0]);
+        assert_eq!(answer.returns[..2], [1, 0]);
+        assert_eq!(answer.limits[..2], [0, 1]);
+        assert_eq!(answer.adjustments, [0; 16]);
+    }
+
+    #[test]
+    fn shares_of_the_pot() {
+        // Pot 20000 × 500 / 1000000 = 10; contributions by 1, 2, 2; returns by
+        // 3 × 1, 1 × 2, 0 × 2.
+        let operators = joined(&[(1, 500), (2, 0), (2, 0)]);
+        let answer = money(&operators, &totals(&[3, 1, 0]), 20_000, 20_000);
+        assert_eq!(answer.pot, 10);
+        assert_eq!(answer.contributions[..3], [2, 4, 4]);
+        assert_eq!(answer.returns[..3], [6, 4, 0]);
+        assert_eq!(answer.limits[..3], [10, 0, 0]);
+        assert_eq!(answer.adjustments, [0; 16]);
+    }
+
+    #[test]
+    fn one_set_of_points_at_many_rates() {
+        let operators = joined(&[(1000, 100_000_000), (3000, 200_000_000)]);
+        let points = totals(&[65_036, 62_464]);
+        for (pot_rate, cap_rate, first) in [
+            (5000, 10_000, 11_463),
+            (5000, 50, 5000),
+            (5000, 0, 0),
+            (0, 10_000, 0),
+        ] {
+            let answer = money(&operators, &points, pot_rate, cap_rate);
+            assert_eq!(answer.adjustments[..2], [first, -first]);
+        }
+    }
+}

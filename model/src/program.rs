@@ -1,0 +1,181 @@
+//! The program: from the bytes of `filing.q` to what is printed.
+
+use crate::book::Book;
+use crate::filing::read;
+use crate::report::report;
+
+/// The longest filing that the program reads, in bytes.
+pub const MOST_READ: usize = 65_536;
+
+/// Room for any report: a line has at most 46 bytes, and there are at most 18.
+const REPORT_ROOM: usize = 1000;
+
+/// What the program prints; `None` stands for a missing file.
+/// Follows 01: "The program reads `filing.q`, at most 65,536 bytes (a longer
+/// file prints `too long`, a missing one counts as empty)" and "A refused field
+/// prints `refused 4 at 0` (number, offset); a refused settlement `refused 10`.
+/// Such a line, and `too long`, ends with byte 10 and nothing else is printed."
+pub fn printed(file: Option<&[u8]>) -> Vec<u8> {
+    let filing = file.unwrap_or(&[]);
+    if filing.len() > MOST_READ {
+        return b"too long\n".to_vec();
+    }
+    let mut book = Book::fresh();
+    let reading = read(&mut book, filing);
+    if let Some(number) = reading.refusal {
+        return format!("refused {number} at {}\n", reading.offset).into_bytes();
+    }
+    let mut buffer = vec![0; REPORT_ROOM];
+    match report(&book, &mut buffer) {
+        Ok(length) => {
+            buffer.truncate(length);
+            buffer
+        }
+        Err(number) => format!("refused {number}\n").into_bytes(),
+    }
+}
+
+#[cfg(test)]
+mod tests {
+    use super::*;
+    use crate::script;
+
+    /// The filing of text commands.
+    fn encoded(commands: &[&str]) -> Vec<u8> {
+        let mut filing = Vec::new();
+        for command in commands {
+            filing.extend(script::encode(command).unwrap());
+        }
+        filing
+    }
+
+    fn prints(filing: &[u8], expected: &str) {
+        let output = String::from_utf8(printed(Some(filing))).unwrap();
+        assert_eq!(output, expected);
+    }
+
+    const CASE_M: [&str; 11] = [
+        "join 0",
+        "join 1",
+        "setting 0 0 100",
+        "setting 1 0 100",
+        "setting 0 1 1000",
+        "setting 1 1 3000",
+        "setting 0 2 100000000",
+        "setting 1 2 200000000",
+        "amount 1 0 4 0 50000",
+        "amount 1 0 5 0 100",
+        "rates 5000 10000",
+    ];
+
+    const PRINTED_M: &str = "operator points out in adjustment\n\
+        0 65036 375000 386463 11463\n\
+        1 62464 1125000 1113537 -11463\n\
+        all 127500 1500000 1500000 0\n";
+
+    #[test]
+    fn marked_case_m() {
+        prints(&encoded(&CASE_M), PRINTED_M);
+    }
+
+    #[test]
+    fn marked_case_m_with_cap_rate_50() {
+        let mut filing = encoded(&CASE_M);
+        filing.extend(encoded(&["rates 5000 50"]));
+        let expected = "operator points out in adjustment\n\
+            0 65036 375000 386463 5000\n\
+            1 62464 1125000 1113537 -5000\n\
+            all 127500 1500000 1500000 0\n";
+        prints(&filing, expected);
+    }
+
+    #[test]
+    fn missing_and_empty() {
+        assert_eq!(printed(None), b"refused 10\n");
+        assert_eq!(printed(Some(&[])), b"refused 10\n");
+    }
+
+    #[test]
+    fn examples_of_the_table() {
+        prints(&[0x01, 0x00], "refused 1 at 0\n");
+        prints(&[0x63, 0x00, 0x00], "refused 2 at 0\n");
+        prints(&[0x01, 0x00, 0x02, 0x00, 0x00], "refused 3 at 0\n");
+        prints(&[0x01, 0x00, 0x01, 0x10], "refused 4 at 0\n");
+        prints(&[0x05, 0x00, 0x03, 0x00, 0x06, 0x01], "refused 5 at 0\n");
+        prints(&encoded(&["join 0", "join 0"]), "refused 6 at 4\n");
+        prints(&[0x05, 0x00, 0x03, 0x00, 0x00, 0x01], "refused 7 at 0\n");
+        let past = encoded(&["join 0", "amount 0 0 0 0 100000000001"]);
+        prints(&past, "refused 8 at 4\n");
+        let below = encoded(&["join 0", "amount 0 0 0 1 1"]);
+        prints(&below, "refused 9 at 4\n");
+        prints(&encoded(&["join 0"]), "refused 11\n");
+        let marked = encoded(&[
+            "join 0",
+            "setting 0 0 1",
+            "setting 0 1 1",
+            "mark 0 0 1",
+            "mark 0 1 1",
+            "mark 0 2 1",
+            "mark 0 3 1",
+            "mark 0 4 1",
+            "mark 0 5 1",
+        ]);
+        prints(&marked, "refused 12\n");
+        // Six marks without cabins and access points: the lower number.
+        let marked = encoded(&[
+            "join 0",
+            "mark 0 0 1",
+            "mark 0 1 1",
+            "mark 0 2 1",
+            "mark 0 3 1",
+            "mark 0 4 1",
+            "mark 0 5 1",
+        ]);
+        prints(&marked, "refused 11\n");
+    }
+
+    #[test]
+    fn refused_field_prints_nothing_of_the_book() {
+        let mut filing = encoded(&CASE_M);
+        let length = filing.len();
+        filing.push(1);
+        prints(&filing, &format!("refused 1 at {length}\n"));
+        filing.extend([0, 1, 1]);
+        prints(&filing, &format!("refused 6 at {length}\n"));
+    }
+
+    /// Case M followed by its rates once more, up to a length of that form.
+    fn filled(length: usize) -> Vec<u8> {
+        let mut filing = encoded(&CASE_M);
+        let rates = encoded(&["rates 5000 10000"]);
+        let index = encoded(&["index 1 10000"]);
+        while filing.len() < length {
+            let left = length - filing.len();
+            if left.is_multiple_of(11) {
+                filing.extend(&rates);
+            } else {
+                filing.extend(&index);
+            }
+        }
+        assert_eq!(filing.len(), length);
+        filing
+    }
+
+    #[test]
+    fn longest_files() {
+        prints(&filled(65_535), PRINTED_M);
+        prints(&filled(65_536), PRINTED_M);
+        prints(&filled(65_537), "too long\n");
+        prints(&filled(65_538), "too long\n");
+        prints(&filled(131_072), "too long\n");
+        // A refused field is not looked for in a file that is too long.
+        prints(&vec![99; 65_537], "too long\n");
+        prints(&vec![0; 65_536], "refused 2 at 0\n");
+        // A stray byte at the last place.
+        let mut filing = filled(65_535);
+        filing.push(1);
+        prints(&filing, "refused 1 at 65535\n");
+        filing.push(0);
+        prints(&filing, "too long\n");
+    }
+}

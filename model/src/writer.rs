@@ -1,0 +1,317 @@
+//! The writer: a book as a filing, put into a lent buffer.
+
+use crate::book::{Book, FIGURES, FRESH_INDEX, INDICATORS, INDICES, OPERATORS, YEARS};
+use crate::filing::{encode, Field};
+
+/// Follows 01: "at most 7,067 bytes".
+pub const MOST_BYTES: usize = 7067;
+
+/// Writes the book into the buffer; answers the number of bytes written, or the
+/// number of the refusal, which leaves the buffer.
+pub fn write(book: &Book, buffer: &mut [u8]) -> Result<usize, u8> {
+    if !book.in_range() {
+        return Err(5);
+    }
+    put(&written(book), buffer)
+}
+
+/// The written filing of a book that is in range.
+pub fn written(book: &Book) -> Vec<u8> {
+    let mut bytes = Vec::new();
+    for field in fields(book) {
+        bytes.extend(encode(&field));
+    }
+    bytes
+}
+
+/// The fields of a book that is in range, in the order of the writer.
+/// Follows 01: "The writer writes only what differs from fresh: joins, settings,
+/// amounts, marks (by operator, then year, then which, figure or indicator),
+/// indices, rates (one field if either isn't 0); amounts with sign 0". All joins
+/// come before all settings, these before all amounts, and so on.
+pub fn fields(book: &Book) -> Vec<Field> {
+    let mut fields = Vec::new();
+    for k in 0..OPERATORS {
+        if book.operators[k].joined {
+            fields.push(Field::Join { operator: k as u8 });
+        }
+    }
+    for k in 0..OPERATORS {
+        let operator = &book.operators[k];
+        let settings = [operator.cabins, operator.access_points, operator.income];
+        for (which, setting) in settings.into_iter().enumerate() {
+            if setting != 0 {
+                fields.push(Field::Setting {
+                    operator: k as u8,
+                    which: which as u8,
+                    value: setting as u64,
+                });
+            }
+        }
+    }
+    for k in 0..OPERATORS {
+        for year in 0..YEARS {
+            for figure in 0..FIGURES {
+                let total = book.operators[k].figures[year][figure];
+                if total != 0 {
+                    fields.push(Field::Amount {
+                        operator: k as u8,
+                        year: year as u8,
+                        figure: figure as u8,
+                        sign: 0,
+                        value: total as u64,
+                    });
+                }
+            }
+        }
+    }
+    for k in 0..OPERATORS {
+        for indicator in 0..INDICATORS {
+            if book.operators[k].marks[indicator] {
+                fields.push(Field::Mark {
+                    operator: k as u8,
+                    indicator: indicator as u8,
+                    mark: 1,
+                });
+            }
+        }
+    }
+    for number in 0..INDICES {
+        let index = book.indices[number];
+        if index != FRESH_INDEX {
+            fields.push(Field::Index {
+                number: number as u8,
+                value: index as u32,
+            });
+        }
+    }
+    if book.pot_rate != 0 || book.cap_rate != 0 {
+        fields.push(Field::Rates {
+            pot: book.pot_rate as u32,
+            cap: book.cap_rate as u32,
+        });
+    }
+    fields
+}
+
+/// Puts the output at the start of a lent buffer, unless it is too short.
+/// Follows 01: "a refused writer or report leaves the buffer. Accepted, these
+/// two answer with the number of bytes written and leave all bytes after their
+/// output."
+pub fn put(output: &[u8], buffer: &mut [u8]) -> Result<usize, u8> {
+    if buffer.len() < output.len() {
+        return Err(13);
+    }
+    buffer[..output.len()].copy_from_slice(output);
+    Ok(output.len())
+}
+
+#[cfg(test)]
+mod tests {
+    use super::*;
+    use crate::filing::read;
+    use crate::generator;
+
+    /// A book in which every value differs from the fresh one.
+    fn full() -> Book {
+        let mut book = Book::fresh();
+        for k in 0..16_u128 {
+            let operator = &mut book.operators[k as usize];
+            operator.joined = true;
+            operator.cabins = 1 + k;
+            operator.access_points = 4_000_000 - k;
+            operator.income = 100_000_000_000 - k;
+            for year in 0..3 {
+                for figure in 0..8 {
+                    operator.figures[year][figure] =
+                        1 + k * 1000 + year as u128 * 100 + figure as u128;
+                }
+            }
+            operator.marks = vec![true; 6];
+        }
+        book.pot_rate = 1;
+        book.cap_rate = 20_000;
+        book.indices = vec![1, 9_999, 10_001, 100_000];
+        book
+    }
+
+    /// The book is written as these bytes; in a buffer of just their length, in
+    /// a longer one, and in none that is shorter.
+    fn writes(book: &Book, expected: &[u8]) {
+        let length = expected.len();
+        let mut buffer = vec![7; length];
+        assert_eq!(write(book, &mut buffer), Ok(length));
+        assert_eq!(buffer, expected);
+        let mut buffer = vec![7; length + 5];
+        assert_eq!(write(book, &mut buffer), Ok(length));
+        assert_eq!(buffer[..length], *expected);
+        assert_eq!(buffer[length..], [7; 5]);
+        for short in [0, length / 2, length.saturating_sub(1)] {
+            if short < length {
+                let mut buffer = vec![7; short];
+                assert_eq!(write(book, &mut buffer), Err(13));
+                assert_eq!(buffer, vec![7; short]);
+            }
+        }
+    }
+
+    /// Reading the written filing gives the book back, which is written the same.
+    fn round_trip(book: &Book) {
+        let filing = written(book);
+        assert!(filing.len() <= MOST_BYTES);
+        let mut again = Book::fresh();
+        let reading = read(&mut again, &filing);
+        assert_eq!(reading.refusal, None);
+        assert_eq!(reading.offset, filing.len());
+        assert_eq!(reading.applied, fields(book).len());
+        assert_eq!(again, *book);
+        writes(&again, &filing);
+    }
+
+    #[test]
+    fn fresh_book_is_written_as_nothing() {
+        writes(&Book::fresh(), &[]);
+    }
+
+    #[test]
+    fn example_of_the_table() {
+        let mut book = Book::fresh();
+        book.operators[0].joined = true;
+        let mut buffer = [7; 3];
+        assert_eq!(write(&book, &mut buffer), Err(13));
+        assert_eq!(buffer, [7; 3]);
+        writes(&book, &[1, 0, 1, 0]);
+    }
+
+    #[test]
+    fn order_of_the_fields() {
+        let mut book = Book::fresh();
+        for k in [3, 12] {
+            let operator = &mut book.operators[k];
+            operator.joined = true;
+            operator.cabins = 1;
+            operator.access_points = 2;
+            operator.income = 3;
+            operator.figures[0][7] = 4;
+            operator.figures[2][0] = 5;
+            operator.figures[2][1] = 6;
+            operator.marks[0] = true;
+            operator.marks[5] = true;
+        }
+        book.pot_rate = 7;
+        book.cap_rate = 8;
+        book.indices = vec![9, 10_000, 10, 11];
+        let setting = |operator: u8, which: u8| {
+            vec![2, 0, 10, operator, which, 0, 0, 0, 0, 0, 0, 0, which + 1]
+        };
+        let amount = |operator: u8, year: u8, figure: u8, value: u8| {
+            vec![
+                4, 0, 12, operator, year, figure, 0, 0, 0, 0, 0, 0, 0, 0, value,
+            ]
+        };
+        let expected = [
+            vec![1, 0, 1, 3],
+            vec![1, 0, 1, 12],
+            setting(3, 0),
+            setting(3, 1),
+            setting(3, 2),
+            setting(12, 0),
+            setting(12, 1),
+            setting(12, 2),
+            amount(3, 0, 7, 4),
+            amount(3, 2, 0, 5),
+            amount(3, 2, 1, 6),
+            amount(12, 0, 7, 4),
+            amount(12, 2, 0, 5),
+            amount(12, 2, 1, 6),
+            vec![5, 0, 3, 3, 0, 1],
+            vec![5, 0, 3, 3, 5, 1],
+            vec![5, 0, 3, 12, 0, 1],
+            vec![5, 0, 3, 12, 5, 1],
+            vec![7, 0, 5, 0, 0, 0, 0, 9],
+            vec![7, 0, 5, 2, 0, 0, 0, 10],
+            vec![7, 0, 5, 3, 0, 0, 0, 11],
+            vec![6, 0, 8, 0, 0, 0, 7, 0, 0, 0, 8],
+        ];
+        writes(&book, &expected.concat());
+        round_trip(&book);
+    }
+
+    #[test]
+    fn rates_are_one_field() {
+        for (pot, cap) in [(1, 0), (0, 1), (20_000, 20_000)] {
+            let mut book = Book::fresh();
+            book.pot_rate = pot;
+            book.cap_rate = cap;
+            let filing = written(&book);
+            assert_eq!(filing.len(), 11);
+            assert_eq!(filing[..3], [6, 0, 8]);
+            round_trip(&book);
+        }
+    }
+
+    #[test]
+    fn longest_filing() {
+        // 16 joins, 48 settings, 384 amounts, 96 marks, 4 indices and the rates.
+        let book = full();
+        assert!(book.in_range());
+        assert_eq!(fields(&book).len(), 16 + 48 + 384 + 96 + 4 + 1);
+        let filing = written(&book);
+        assert_eq!(filing.len(), 7067);
+        writes(&book, &filing);
+        round_trip(&book);
+        // One byte short.
+        let mut buffer = vec![7; 7066];
+        assert_eq!(write(&book, &mut buffer), Err(13));
+        assert_eq!(buffer, vec![7; 7066]);
+        // Any value back at its fresh one makes it shorter.
+        let mut other = book.clone();
+        other.indices[2] = 10_000;
+        assert_eq!(written(&other).len(), 7067 - 8);
+        other.operators[3].marks[2] = false;
+        assert_eq!(written(&other).len(), 7067 - 8 - 6);
+        other.operators[15].figures[2][7] = 0;
+        assert_eq!(written(&other).len(), 7067 - 8 - 6 - 15);
+        other.operators[0].income = 0;
+        assert_eq!(written(&other).len(), 7067 - 8 - 6 - 15 - 13);
+        other.pot_rate = 0;
+        assert_eq!(written(&other).len(), 7067 - 8 - 6 - 15 - 13);
+        other.cap_rate = 0;
+        assert_eq!(written(&other).len(), 7067 - 8 - 6 - 15 - 13 - 11);
+        round_trip(&other);
+    }
+
+    #[test]
+    fn book_out_of_range() {
+        let mut past = full();
+        past.operators[15].figures[2][7] = 100_000_000_001;
+        let mut not_joined = full();
+        not_joined.operators[15].joined = false;
+        let mut index = Book::fresh();
+        index.indices[0] = 0;
+        for book in [past, not_joined, index] {
+            for length in [0, 3, 7066, 7067, 8000] {
+                let mut buffer = vec![7; length];
+                assert_eq!(write(&book, &mut buffer), Err(5));
+                assert_eq!(buffer, vec![7; length]);
+            }
+        }
+    }
+
+    #[test]
+    fn round_trip_of_many_books() {
+        let mut longest = 0;
+        let mut books = 0;
+        for number in 0..1500 {
+            let mut book = Book::fresh();
+            let filing = generator::filing(1, number);
+            // A refused filing leaves a book as well.
+            read(&mut book, &filing);
+            round_trip(&book);
+            longest = longest.max(written(&book).len());
+            books += u32::from(book != Book::fresh());
+        }
+        assert!(books > 1300, "{books}");
+        assert!(longest > 5000, "{longest}");
+    }
+}
