@@ -26,7 +26,7 @@ pub fn share(t: u64, weights: [u64; 16]) -> [u64; 16]
 
 // The sum of sixteen numbers.
 pub fn total(numbers: [u64; 16]) -> u64
-    requires { ⌜ sum numbers < 2 ^ 62 ⌝ }
+    requires { ⌜ sum numbers < 2 ^ 64 ⌝ }
     ensures { λ r. ⌜ r ≡ sum numbers ⌝ }
 {
     let mut t = 0;

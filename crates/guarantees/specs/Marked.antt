@@ -4,17 +4,22 @@ use mathlib.Core.Path.{_≡_}
 use mathlib.Core.List.{List, [], _∷_}
 use mathlib.Core.List.{reverse}
 use Prim.Native.Nat.{ℕ}
-use lib.IntN.{pos}
-use lib.ListN.{getD}
+use mathlib.Core.Bool.{true, false}
+use lib.IntN.{ℤ, pos, negℤ}
+use lib.ListN.{getD, take}
 use Rattle.apportion.specs.Share.{share}
 use Rattle.exponent.specs.Weight.{weightOf}
 use Rattle.calls.specs.declared.Call.{Call}
-use Rattle.calls.specs.declared.Call.the-variants.{Join, Interruption, Amount}
+use Rattle.calls.specs.declared.Call.the-variants.{Join, Setting, Interruption, Amount, Rates}
 use Rattle.calls.specs.declared.Answer.the-variants.{Yes}
 use Rattle.calls.specs.Answers.{Said, yes-said, counted-in, left-out-under, refused-by, said}
 use Rattle.book.specs.Book.{freshBook, figureOf}
 use Rattle.book.specs.Calls.{filedAnswers}
 use Rattle.book.specs.Demand.{bookOf}
+use Rattle.indicators.specs.Operators.{each}
+use Rattle.indicators.specs.Indicator.{electricity}
+use Rattle.indicators.specs.Points.{levelled, allPoints}
+use Rattle.settlement.specs.Settlement.{settled}
 
 -- what the last of some calls on a fresh book is answered
 abbrev pub lastSaid : List Call → Said
@@ -23,6 +28,18 @@ lastSaid calls = said (getD (reverse (filedAnswers freshBook calls)) 0 Yes)
 -- operator 0 files an interruption of its own MV network with one cabin
 abbrev pub lasting : ℕ → ℕ → Call
 lasting start end = Interruption 0 0 0 0 (pos start) (pos end) 1
+
+-- "M: operators 0 and 1; cabins 100 each; access points 1000 and 3000; income 100,000,000 and 200,000,000; operator 1, year 0:
+-- fees 50,000, connections 100; rates 5000 and" a cap rate
+abbrev pub caseM : ℕ → List Call
+caseM cap =
+    Join 0 ∷ Join 1
+    ∷ Setting 0 0 100 ∷ Setting 1 0 100 ∷ Setting 0 1 1000 ∷ Setting 1 1 3000 ∷ Setting 0 2 100000000 ∷ Setting 1 2 200000000
+    ∷ Amount 1 0 4 0 50000 ∷ Amount 1 0 5 0 100
+    ∷ Rates 5000 cap ∷ []
+
+abbrev pub firstTwo : {A : Type 0} → List A → List A
+firstTwo list = take 2 list
 
 abbrev pub marked : List (Type 0)
 marked =
@@ -42,6 +59,15 @@ marked =
     -- "a figure of exactly 10^11 is taken"
     ∷ (lastSaid (Join 0 ∷ Amount 0 0 4 0 100000000000 ∷ []) ≡ yes-said)
     ∷ (figureOf (bookOf (Join 0 ∷ Amount 0 0 4 0 100000000000 ∷ [])) 0 0 4 ≡ 100000000000)
+    -- case M, its numbers as 01 prints them: points, out, in and adjustment
+    ∷ (firstTwo (each (allPoints (bookOf (caseM 10000)) electricity)) ≡ 65036 ∷ 62464 ∷ [])
+    ∷ (firstTwo (settled (bookOf (caseM 10000)) .settlement .contributions) ≡ 375000 ∷ 1125000 ∷ [])
+    ∷ (firstTwo (settled (bookOf (caseM 10000)) .settlement .returns) ≡ 386463 ∷ 1113537 ∷ [])
+    ∷ (firstTwo (settled (bookOf (caseM 10000)) .settlement .adjustments) ≡ pos 11463 ∷ negℤ (pos 11463) ∷ [])
+    -- "M with cap rate 50 adjusts by 5000 and -5000"
+    ∷ (firstTwo (settled (bookOf (caseM 50)) .settlement .adjustments) ≡ pos 5000 ∷ negℤ (pos 5000) ∷ [])
+    -- "weights 10, 8, 4 with the first two better become 18, 18, 8"
+    ∷ (levelled 2 18 true 10 ∷ levelled 2 18 true 8 ∷ levelled 2 18 false 4 ∷ [] ≡ 18 ∷ 18 ∷ 8 ∷ [])
     ∷ []
 
 -- every statement of a list holds

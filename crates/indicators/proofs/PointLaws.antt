@@ -1,0 +1,151 @@
+-- The points of every indicator are as specs/Laws.antt says; and a pool is above 0 where somebody takes part.
+-- Assumes nothing.
+use Prim.Native.Nat.{ℕ, _+_, _*_, _^_, _≤_, _<_}
+use mathlib.Core.Path.{_≡_, refl, sym, ap, _∙_}
+use mathlib.Core.Bool.{Bool, true, false, not, _&&_}
+use native.Mathlib.Nat.{mul-zero, mul-comm, mul-le-mul-left, mul-le-mul, lt-of-le-of-lt, le-div-iff-mul-le}
+use native.Mathlib.Omega.{arith}
+use native.Mathlib.Decide.{decLt}
+use lib.Bits.{and-le-l}
+use lib.Count.{ones-le}
+use lib.ListN.{length, getD}
+use Rattle.calls.specs.Masks.{has}
+use Rattle.calls.proofs.Flags.{and-left}
+use Rattle.book.specs.declared.Book.{Book}
+use Rattle.book.specs.Book.{isJoined, isMarked}
+use Rattle.apportion.specs.Sum.{sum}
+use Rattle.apportion.specs.Share.{share}
+use Rattle.apportion.specs.Laws.{Shared}
+use Rattle.apportion.proofs.Sums.{element-le}
+use Rattle.apportion.proofs.Shared.{shared}
+use Rattle.indicators.specs.Operators.{count}
+use Rattle.indicators.specs.Indicator.{Indicator, reliableMask, isReliable, joinedCount, reliableCount, pool}
+use Rattle.indicators.specs.Points.{isAbove, isLevelled, aboveWeight, weights, points}
+use Rattle.indicators.specs.Laws.{PointsMadeUp}
+use Rattle.indicators.proofs.TableLaws.{sum-none, count-positive, count-mono, some-passes}
+use Rattle.indicators.proofs.OnesLaws.{ones-counted, and-has, complement}
+use Rattle.indicators.proofs.WeightLaws.{over-most, over-some, one-above, above-reliable, weights-length, weight-reliable, weight-none, weight-above}
+
+module _ (b : Book) (indicator : Indicator) where
+  -- who takes part has joined
+  pub reliable-joined : (operator : ℕ) → isReliable b indicator operator ≡ true → isJoined b operator ≡ true
+  unfolding isReliable reliableMask isJoined
+  reliable-joined operator reliable = and-left _ _ (sym (and-has _ _ operator) ∙ reliable)
+
+  -- "those without a mark at this indicator"
+  pub reliable-exactly : getD (b .marks) (indicator .number) 0 < 2 ^ 16 → (operator : ℕ) → operator < 16
+      → isReliable b indicator operator ≡ isJoined b operator && not (isMarked b operator (indicator .number))
+  unfolding isReliable reliableMask isJoined isMarked
+  reliable-exactly small operator lt = and-has _ _ operator ∙ ap (λ (t : Bool). has (b .joined) operator && t) (complement 16 _ operator small lt)
+
+  -- the points are shares of the pool
+  pub points-shared : Shared (pool b indicator) (weights b indicator)
+  points-shared = shared (pool b indicator) (weights b indicator)
+
+  pub points-length : length (points b indicator) ≡ 16
+  unfolding points
+  points-length = points-shared .long ∙ weights-length b indicator
+
+  place : (operator : ℕ) → operator < 16 → operator < length (weights b indicator)
+  place operator lt = rw weights-length lt
+
+  pub points-none : (operator : ℕ) → operator < 16 → isReliable b indicator operator ≡ false → getD (points b indicator) operator 0 ≡ 0
+  unfolding points
+  points-none operator lt marked = points-shared .none operator (place operator lt) (weight-none b indicator operator lt marked)
+
+  -- an operator with points takes part
+  pub points-reliable : (operator : ℕ) → operator < 16 → 0 < getD (points b indicator) operator 0 → isReliable b indicator operator ≡ true
+  points-reliable operator lt pos = go (isReliable b indicator operator) refl
+    where
+      go : (t : Bool) → isReliable b indicator operator ≡ t → isReliable b indicator operator ≡ true
+      go true reliable = reliable
+      go false marked = absurd (omega (arith, pos, points-none operator lt marked))
+
+  module _ (small : b .joined < 2 ^ 16) where
+    pub joined-counted : joinedCount b ≡ count 16 (isJoined b)
+    unfolding joinedCount isJoined
+    joined-counted = ones-counted 16 (b .joined) small
+
+    pub reliable-small : reliableMask b indicator < 2 ^ 16
+    unfolding reliableMask
+    reliable-small = lt-of-le-of-lt (and-le-l (b .joined) _) small
+
+    pub reliable-counted : reliableCount b indicator ≡ count 16 (isReliable b indicator)
+    unfolding reliableCount isReliable
+    reliable-counted = ones-counted 16 (reliableMask b indicator) reliable-small
+
+    pub joined-few : joinedCount b ≤ 16
+    unfolding joinedCount
+    joined-few = ones-le 16 (b .joined) small
+
+    pub reliable-few : reliableCount b indicator ≤ joinedCount b
+    reliable-few = rw (reliable-counted, joined-counted) (count-mono 16 (isReliable b indicator) (isJoined b) reliable-joined)
+
+    -- no pool passes three years of its points
+    pub pool-most : pool b indicator ≤ 300 * indicator .points
+    unfolding pool
+    pool-most =
+        over-most (300 * indicator .points * reliableCount b indicator) (joinedCount b) (300 * indicator .points)
+        (rw (mul-comm (joinedCount b) (300 * indicator .points)) (mul-le-mul-left (300 * indicator .points) reliable-few))
+
+    -- a pool is above 0 where points are to be had and somebody takes part
+    pub pool-above : 0 < indicator .points → (operator : ℕ) → operator < 16 → isReliable b indicator operator ≡ true → 0 < pool b indicator
+    unfolding pool
+    pool-above worth operator lt reliable =
+        let m : 0 < reliableCount b indicator = rw reliable-counted (count-positive 16 _ operator lt reliable) in
+        let n : 0 < joinedCount b = rw joined-counted (count-positive 16 _ operator lt (reliable-joined operator reliable)) in
+        rw (over-some _ (joinedCount b) n) (le-div-iff-mul-le n .1 (omega (arith, joined-few, mul-le-mul worth m)))
+
+    -- nobody takes part: the pool is 0
+    pub pool-none : reliableCount b indicator ≡ 0 → pool b indicator ≡ 0
+    unfolding pool
+    pool-none none =
+        let dividend : 300 * indicator .points * reliableCount b indicator ≡ 0 = rw none (mul-zero _) in
+        omega (arith, over-most (300 * indicator .points * reliableCount b indicator) (joinedCount b) 0 (omega (arith, dividend)))
+
+    nobody-weighs : ((i : ℕ) → getD (weights b indicator) i 0 ≡ 0) → reliableCount b indicator ≡ 0
+    nobody-weighs noughts = rw reliable-counted (go (decLt 0 (count 16 (isReliable b indicator))))
+      where
+        go : Dec (0 < count 16 (isReliable b indicator)) → count 16 (isReliable b indicator) ≡ 0
+        go (yes some) =
+            let found = some-passes 16 (isReliable b indicator) some in
+            absurd (omega (arith, noughts (found .0), weight-above b indicator (found .0) (found .1) (found .2)))
+        go (no none) = omega (arith, none)
+
+    whole : sum (points b indicator) ≡ pool b indicator
+    unfolding points
+    whole = go (decLt 0 (sum (weights b indicator)))
+      where
+        go : Dec (0 < sum (weights b indicator)) → sum (share (pool b indicator) (weights b indicator)) ≡ pool b indicator
+        go (yes pos) = points-shared .whole pos
+        go (no none) =
+            let noughts : (i : ℕ) → getD (weights b indicator) i 0 ≡ 0 = λ i. omega (arith, none, element-le (weights b indicator) i) in
+            let nobody : reliableCount b indicator ≡ 0 = nobody-weighs noughts in
+            let shares : sum (share (pool b indicator) (weights b indicator)) ≡ 0 =
+            sum-none _ (λ i lt. points-shared .none i (rw (points-shared .long) at lt) (noughts i)) in
+            shares ∙ sym (pool-none nobody)
+
+    -- no operator's points pass three years of the indicator's
+    pub points-most : (operator : ℕ) → getD (points b indicator) operator 0 ≤ 300 * indicator .points
+    points-most operator = omega (arith, element-le (points b indicator) operator, whole, pool-most)
+
+    above-alike : isLevelled (indicator .measure) ≡ true → (operator other : ℕ) → operator < 16 → other < 16
+        → isAbove b indicator operator ≡ true → isAbove b indicator other ≡ true
+        → getD (points b indicator) operator 0 ≤ getD (points b indicator) other 0 + 1
+    unfolding points
+    above-alike levels operator other lt lt' above above' =
+        points-shared .alike operator other (place operator lt) (place other lt')
+        (above-weight operator lt above ∙ sym (above-weight other lt' above'))
+      where
+        above-weight : (k : ℕ) → k < 16 → isAbove b indicator k ≡ true → getD (weights b indicator) k 0 ≡ aboveWeight b indicator
+        above-weight k small above = weight-reliable b indicator k small (above-reliable b indicator k above) ∙ one-above b indicator levels k small above
+
+    pub points-made-up : PointsMadeUp b indicator
+    points-made-up =
+        record {
+          joined-counted = joined-counted;
+          reliable-counted = reliable-counted;
+          whole = whole;
+          others-none = points-none;
+          above-alike = above-alike;
+        }

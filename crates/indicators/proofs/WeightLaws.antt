@@ -1,0 +1,147 @@
+-- The weights of an indicator: above 0 for whoever takes part, and small enough to add up in 64 bits.
+-- Assumes nothing.
+use Prim.Native.Nat.{ℕ, zero, suc, _*_, _/_, _≤_, _<_, zero-le}
+use mathlib.Core.Path.{_≡_, refl, _∙_}
+use mathlib.Core.Bool.{Bool, true, false, cond}
+use mathlib.Core.List.{List, [], _∷_}
+use native.Mathlib.Nat.{div-le-of-le-mul, mul-le-mul-left, mul-le-mul, mul-pos, mul-comm}
+use native.Mathlib.Omega.{arith}
+use lib.ListN.{length, getD}
+use lib.Dec.{eqb}
+use borrow.Author.Tests.{eqb-false, ne-eqb}
+use Rattle.apportion.specs.Sum.{sum}
+use Rattle.book.specs.declared.Book.{Book}
+use Rattle.exponent.proofs.Laws.{weight-positive, weight-most}
+use Rattle.calls.proofs.Flags.{and-left}
+use Rattle.indicators.specs.Operators.{count}
+use Rattle.indicators.specs.Indicator.{Indicator, over, isReliable}
+use Rattle.indicators.specs.Points.{largest, scores, normalised, exponentWeight, isAbove, aboveCount, aboveWeight, levelled, linearWeight, isLevelled, weightOfOne, weights}
+use Rattle.indicators.proofs.TableLaws.{cond-le, each-length, each-at, each-le, each-sum-most, count-le, count-positive}
+
+-- no element passes the largest
+pub largest-le : (l : List ℕ) (i : ℕ) → getD l i 0 ≤ largest l
+unfolding largest
+largest-le [] i = omega arith
+largest-le (x ∷ l) zero = omega arith
+largest-le (x ∷ l) (suc i) = omega (arith, largest-le l i)
+
+-- a quotient, or 0, is at most a number that many times the divisor reaches
+pub over-most : (dividend divisor most : ℕ) → dividend ≤ divisor * most → over dividend divisor ≤ most
+unfolding over
+over-most dividend divisor most le = cond-le (eqb divisor 0) (omega arith) (div-le-of-le-mul divisor le)
+
+pub over-some : (dividend divisor : ℕ) → 0 < divisor → over dividend divisor ≡ dividend / divisor
+unfolding over
+over-some dividend divisor pos = rw (ne-eqb divisor 0 (λ e. omega (arith, e, pos))) refl
+
+module _ (list : List ℕ) (operator : ℕ) where
+  pub normalised-most : (parts : ℕ) → normalised parts list operator ≤ parts
+  unfolding normalised
+  normalised-most parts =
+      over-most (parts * getD list operator 0) (largest list) parts
+      (rw (mul-comm (largest list) parts) (mul-le-mul-left parts (largest-le list operator)))
+
+  pub exponent-positive : 0 < exponentWeight list operator
+  unfolding exponentWeight
+  exponent-positive = weight-positive _ (normalised-most 1000)
+
+  pub exponent-most : exponentWeight list operator ≤ 1000000000
+  unfolding exponentWeight
+  exponent-most = weight-most _
+
+  pub linear-least : 400000 ≤ linearWeight list operator
+  unfolding linearWeight
+  linear-least = omega (arith, normalised-most 100000)
+
+  pub linear-most : linearWeight list operator ≤ 1000000
+  unfolding linearWeight
+  linear-most = omega arith
+
+-- levelling keeps a weight above 0, and at most sixteen times the most
+levelled-positive : (g together : ℕ) (above : Bool) (own : ℕ) → 0 < own → (above ≡ true → own ≤ together) → 0 < levelled g together above own
+unfolding levelled
+levelled-positive g together above own pos reaches = go (eqb g 0) refl above refl
+  where
+    go : (t : Bool) → eqb g 0 ≡ t → (s : Bool) → above ≡ s → 0 < cond t own (cond s together (g * own))
+    go true e s a = pos
+    go false e true a = omega (arith, reaches a)
+    go false e false a = mul-pos (omega (arith, eqb-false g 0 e)) pos
+
+levelled-most : (g together : ℕ) (above : Bool) (own most : ℕ) → g ≤ 16 → own ≤ most → together ≤ 16 * most → levelled g together above own ≤ 16 * most
+unfolding levelled
+levelled-most g together above own most few small bound =
+    cond-le (eqb g 0) (omega arith) (cond-le above bound (mul-le-mul few small))
+
+module _ (b : Book) (indicator : Indicator) where
+  -- who is above takes part, and the sum of the weights above reaches its own
+  pub above-reliable : (operator : ℕ) → isAbove b indicator operator ≡ true → isReliable b indicator operator ≡ true
+  unfolding isAbove
+  above-reliable operator above = and-left _ _ above
+
+  above-reaches : (operator : ℕ) → operator < 16 → isAbove b indicator operator ≡ true
+      → exponentWeight (scores b indicator) operator ≤ aboveWeight b indicator
+  unfolding aboveWeight
+  above-reaches operator lt above =
+      rw above at (each-le (λ (k : ℕ). cond (isAbove b indicator k) (exponentWeight (scores b indicator) k) 0) operator lt)
+
+  above-most : aboveWeight b indicator ≤ 16 * 1000000000
+  unfolding aboveWeight
+  above-most = each-sum-most _ 1000000000 (λ k lt. cond-le (isAbove b indicator k) (exponent-most _ k) zero-le)
+
+  pub above-few : aboveCount b indicator ≤ 16
+  unfolding aboveCount
+  above-few = count-le 16 _
+
+  pub one-positive : (operator : ℕ) → operator < 16 → 0 < weightOfOne b indicator operator
+  unfolding weightOfOne
+  one-positive operator lt = go (isLevelled (indicator .measure))
+    where
+      go : (t : Bool) → 0
+          < cond t
+          (levelled (aboveCount b indicator) (aboveWeight b indicator) (isAbove b indicator operator) (exponentWeight (scores b indicator) operator))
+          (linearWeight (scores b indicator) operator)
+      go true = levelled-positive _ _ _ _ (exponent-positive _ operator) (above-reaches operator lt)
+      go false = omega (arith, linear-least (scores b indicator) operator)
+
+  -- those above all weigh the same
+  pub one-above : isLevelled (indicator .measure) ≡ true → (operator : ℕ) → operator < 16 → isAbove b indicator operator ≡ true
+      → weightOfOne b indicator operator ≡ aboveWeight b indicator
+  unfolding weightOfOne levelled aboveCount
+  one-above levels operator lt above =
+      let some : 0 < count 16 (isAbove b indicator) = count-positive 16 (isAbove b indicator) operator lt above in
+      rw (levels, above, ne-eqb (count 16 (isAbove b indicator)) 0 (λ e. omega (arith, e, some))) refl
+
+  pub one-most : (operator : ℕ) → weightOfOne b indicator operator ≤ 16000000000
+  unfolding weightOfOne
+  one-most operator =
+      cond-le (isLevelled (indicator .measure))
+      (levelled-most (aboveCount b indicator) (aboveWeight b indicator) (isAbove b indicator operator) _ 1000000000 above-few (exponent-most _ operator) above-most)
+      (omega (arith, linear-most (scores b indicator) operator))
+
+  -- the list of weights
+  pub weights-length : length (weights b indicator) ≡ 16
+  unfolding weights
+  weights-length = each-length _
+
+  pub weight-at : (operator : ℕ) → operator < 16
+      → getD (weights b indicator) operator 0 ≡ cond (isReliable b indicator operator) (weightOfOne b indicator operator) 0
+  unfolding weights
+  weight-at operator lt = each-at _ operator lt
+
+  pub weight-reliable : (operator : ℕ) → operator < 16 → isReliable b indicator operator ≡ true
+      → getD (weights b indicator) operator 0 ≡ weightOfOne b indicator operator
+  weight-reliable operator lt reliable = weight-at operator lt ∙ rw reliable refl
+
+  pub weight-none : (operator : ℕ) → operator < 16 → isReliable b indicator operator ≡ false → getD (weights b indicator) operator 0 ≡ 0
+  weight-none operator lt marked = weight-at operator lt ∙ rw marked refl
+
+  -- whoever takes part has a weight above 0
+  pub weight-above : (operator : ℕ) → operator < 16 → isReliable b indicator operator ≡ true → 0 < getD (weights b indicator) operator 0
+  weight-above operator lt reliable = rw (weight-reliable operator lt reliable) (one-positive operator lt)
+
+  pub weight-most-at : (operator : ℕ) → operator < 16 → getD (weights b indicator) operator 0 ≤ 16000000000
+  weight-most-at operator lt = rw (weight-at operator lt) (cond-le (isReliable b indicator operator) (one-most operator) zero-le)
+
+  pub weights-sum-most : sum (weights b indicator) ≤ 256000000000
+  unfolding weights
+  weights-sum-most = each-sum-most _ 16000000000 (λ k lt. cond-le (isReliable b indicator k) (one-most k) zero-le)

@@ -1,0 +1,91 @@
+-- `indicators::weights::exponent_weights` meets its contract: the operators passed have their weights.
+-- Assumes nothing.
+use borrow.Author.Needs.{needs}
+use mathlib.Core.Path.{_≡_, refl, _∙_, ap}
+use Prim.Native.Nat.{_-_, _≤_}
+use native.Mathlib.Omega.{arith}
+use lib.ListN.{length}
+use Rattle.indicators.specs.Operators.{each}
+use Rattle.indicators.specs.Points.{normalised, exponentWeight}
+use Rattle.indicators.proofs.Tables.{each-more, each-filled}
+use Rattle.indicators.proofs.Largest.{largest-ge, largest-le}
+use lib.ListN.{take, length-set}
+use Rattle.exponent.specs.Weight.{weightOf}
+use Rattle.indicators.proofs.weights.exponent_weights.Statement.{statement}
+use Rattle.indicators.proofs.weights.exponent_weights.Tie as tie
+
+abbrev Inv-loop : tie.InvT-loop
+Inv-loop scores top weights₀ i₀ weights i = (i ≤ 16) × (length weights ≡ 16) × (take i weights ≡ take i (each (exponentWeight scores)))
+
+abbrev μ-loop : tie.MeasureT-loop
+μ-loop scores top weights₀ i₀ weights i = 16 - i
+
+largest-of-requires : tie.Need-largest-of-requires Inv-loop μ-loop
+largest-of-requires c κs = search needs
+
+loop-holds : tie.Need-loop-holds Inv-loop μ-loop
+loop-holds c = (omega arith, refl, refl)
+
+mul-normalise : tie.Need-mul-normalise Inv-loop μ-loop
+mul-normalise c = omega arith
+
+array-read-normalise : tie.Need-array-read-normalise Inv-loop μ-loop
+array-read-normalise c = omega arith
+
+normalise-requires : tie.Need-normalise-requires Inv-loop μ-loop
+normalise-requires c κs =
+    let begun = c .before .before .before in
+    let i = c .before .loop .i in
+    let scores = begun .args .t1 in
+    omega (arith, largest-ge scores i, largest-le scores 300000000000000000 (begun .pre), c .before .before .largest-of .ensures)
+
+weight-requires : tie.Need-weight-requires Inv-loop μ-loop
+weight-requires c κs = c .normalise .ensures .1
+
+mul-weights : tie.Need-mul-weights Inv-loop μ-loop
+mul-weights c = omega arith
+
+array-write-weights : tie.Need-array-write-weights Inv-loop μ-loop
+array-write-weights c = omega arith
+
+add-i : tie.Need-add-i Inv-loop μ-loop
+add-i c = omega arith
+
+loop-less : tie.Need-loop-less Inv-loop μ-loop
+loop-less c = omega arith
+
+loop-again : tie.Need-loop-again Inv-loop μ-loop
+unfolding exponentWeight normalised
+loop-again c =
+    let scores = c .before .before .before .before .before .args .t1 in
+    let here = c .before .before .before .loop in
+    let top = c .before .before .before .before .largest-of .ensures in
+    let value : c .weight .result ≡ exponentWeight scores (here .i) = c .weight .ensures ∙ ap weightOf (rw top at (c .before .normalise .ensures .0)) in (
+      omega arith,
+      length-set (here .weights) (here .i) _ ∙ here .inv .1,
+      each-more (exponentWeight scores) (here .weights) (here .i) (here .inv .1) (here .inv .2) _ (omega arith) value,
+    )
+
+returns : tie.Need-returns Inv-loop μ-loop
+returns c =
+    let here = c .before .loop in
+    each-filled (exponentWeight (c .before .before .before .args .t1)) (here .weights) (here .i) (here .inv .1) (here .inv .2) (omega arith)
+
+pub exponent-weights-spec : {M : Type 1} → statement M
+exponent-weights-spec =
+    tie.close
+    (tie.spec
+    Inv-loop
+    μ-loop
+    largest-of-requires
+    loop-holds
+    mul-normalise
+    array-read-normalise
+    normalise-requires
+    weight-requires
+    mul-weights
+    array-write-weights
+    add-i
+    loop-less
+    loop-again
+    returns)

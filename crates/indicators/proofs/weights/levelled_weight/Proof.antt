@@ -1,0 +1,57 @@
+-- `indicators::weights::levelled_weight` meets its contract.
+-- Assumes nothing.
+use mathlib.Core.Path.{refl}
+use native.Mathlib.Omega.{arith}
+use borrow.Author.Tests.{eq-eqb, ne-eqb}
+use Rattle.calls.proofs.Flags.{denied, granted}
+use Rattle.indicators.specs.Points.{levelled}
+use native.Mathlib.Nat.{mul-le-mul}
+use borrow.Author.Needs.{needs}
+use Rattle.indicators.proofs.weights.levelled_weight.Statement.{statement}
+use Rattle.indicators.proofs.weights.levelled_weight.Tie as tie
+
+has-bit-requires : tie.Need-has-bit-requires
+has-bit-requires c κs = search needs
+
+returns : tie.Need-returns
+returns c = rw (denied (c .before .has-bit .ensures) (c .if1 .taken)) refl
+
+returns-2 : tie.Need-returns-2
+unfolding levelled
+returns-2 c = rw (granted (c .before .before .has-bit .ensures) (c .before .if1 .left), eq-eqb _ _ (c .if2 .taken)) refl
+
+is-above-requires : tie.Need-is-above-requires
+is-above-requires c κs = search needs
+
+returns-3 : tie.Need-returns-3
+unfolding levelled
+returns-3 c =
+    rw (
+      ← c .before .is-above .ensures,
+      c .if3 .taken,
+      granted (c .before .before .before .before .has-bit .ensures) (c .before .before .before .if1 .left),
+      ne-eqb _ _ (c .before .before .if2 .left),
+    )
+    refl
+
+mul-result : tie.Need-mul-result
+mul-result c =
+    let start = c .before .before .before .before .before in
+    let product = mul-le-mul (start .pre .1) (start .pre .2) in
+    record { fits = omega (arith, product) }
+
+returns-4 : tie.Need-returns-4
+unfolding levelled
+returns-4 c =
+    rw (
+      ← c .before .is-above .ensures,
+      c .if3 .left,
+      granted (c .before .before .before .before .has-bit .ensures) (c .before .before .before .if1 .left),
+      ne-eqb _ _ (c .before .before .if2 .left),
+    )
+    refl
+
+pub levelled-weight-spec : {M : Type 1} → statement M
+levelled-weight-spec =
+    tie.close
+    (tie.spec has-bit-requires returns returns-2 is-above-requires returns-3 mul-result returns-4)

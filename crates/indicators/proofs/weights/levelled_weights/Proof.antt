@@ -1,0 +1,138 @@
+-- `indicators::weights::levelled_weights` meets its contract: the operators passed have their weights.
+-- Assumes nothing.
+use borrow.Author.Needs.{needs}
+use mathlib.Core.Path.{_≡_, refl, _∙_}
+use Prim.Native.Nat.{ℕ, _-_, _≤_}
+use native.Mathlib.Omega.{arith}
+use lib.ListN.{length, getD}
+use Rattle.apportion.specs.Sum.{sum}
+use Rattle.indicators.specs.Operators.{each}
+use Rattle.indicators.specs.Points.{exponentWeight}
+use Rattle.indicators.specs.Steps.{aboveIn, levelledAt, levelledIn}
+use Rattle.indicators.proofs.Tables.{each-at, each-more, each-filled}
+use lib.ListN.{take, length-set}
+use Rattle.apportion.proofs.Sums.{sum-bound}
+use mathlib.Core.List.{List}
+use Rattle.exponent.proofs.Laws.{weight-most}
+use Rattle.indicators.proofs.Tables.{each-le}
+use Rattle.indicators.proofs.weights.levelled_weights.Statement.{statement}
+use Rattle.indicators.proofs.weights.levelled_weights.Tie as tie
+
+abbrev Inv-loop : tie.InvT-loop
+Inv-loop mask scores own sum g together weights₀ i₀ weights i = (i ≤ 16) × (length weights ≡ 16) × (take i weights ≡ take i (each (levelledAt mask scores)))
+
+abbrev μ-loop : tie.MeasureT-loop
+μ-loop mask scores own sum g together weights₀ i₀ weights i = 16 - i
+
+-- no weight of the table passes its first
+own-most : (scores own : List ℕ) → own ≡ each (exponentWeight scores) → (k : ℕ) → getD own k 0 ≤ 1000000000
+unfolding exponentWeight
+own-most scores own e k = rw e (each-le (exponentWeight scores) 1000000000 (λ j lt. weight-most _) k)
+
+exponent-weights-requires : tie.Need-exponent-weights-requires Inv-loop μ-loop
+exponent-weights-requires c κs = c .pre
+
+total-requires : tie.Need-total-requires Inv-loop μ-loop
+total-requires c κs =
+    let scores = c .before .args .t2 in
+    let long : length scores ≡ 16 = search needs in
+    omega (arith, rw long at (sum-bound scores 300000000000000000 (λ k lt. c .before .pre k)))
+
+count-above-requires : tie.Need-count-above-requires Inv-loop μ-loop
+count-above-requires c κs = (c .before .before .pre, c .total .ensures)
+
+weigh-above-requires : tie.Need-weigh-above-requires Inv-loop μ-loop
+weigh-above-requires c κs = (c .before .before .before .pre, c .before .total .ensures, own-most (c .before .before .before .args .t2) _ (c .before .before .exponent-weights .ensures))
+
+loop-holds : tie.Need-loop-holds Inv-loop μ-loop
+loop-holds c = (omega arith, refl, refl)
+
+mul-levelled-weight : tie.Need-mul-levelled-weight Inv-loop μ-loop
+mul-levelled-weight c = omega arith
+
+array-read-levelled-weight : tie.Need-array-read-levelled-weight Inv-loop μ-loop
+array-read-levelled-weight c = omega arith
+
+cast-levelled-weight : tie.Need-cast-levelled-weight Inv-loop μ-loop
+cast-levelled-weight c = omega arith
+
+mul-levelled-weight-2 : tie.Need-mul-levelled-weight-2 Inv-loop μ-loop
+mul-levelled-weight-2 c = omega arith
+
+array-read-levelled-weight-2 : tie.Need-array-read-levelled-weight-2 Inv-loop μ-loop
+array-read-levelled-weight-2 c = omega arith
+
+levelled-weight-requires : tie.Need-levelled-weight-requires Inv-loop μ-loop
+levelled-weight-requires c κs =
+    let begun = c .before .before .before .before .before .before in
+    let i = c .before .loop .i in (
+      begun .pre i,
+      c .before .before .before .count-above .ensures .1,
+      own-most (begun .args .t2) _ (c .before .before .before .before .before .exponent-weights .ensures) i,
+    )
+
+mul-weights : tie.Need-mul-weights Inv-loop μ-loop
+mul-weights c = omega arith
+
+array-write-weights : tie.Need-array-write-weights Inv-loop μ-loop
+array-write-weights c = omega arith
+
+add-i : tie.Need-add-i Inv-loop μ-loop
+add-i c = omega arith
+
+loop-less : tie.Need-loop-less Inv-loop μ-loop
+loop-less c = omega arith
+
+loop-again : tie.Need-loop-again Inv-loop μ-loop
+unfolding levelledAt aboveIn
+loop-again c =
+    let begun = c .before .before .before .before .before .before .before in
+    let scores = begun .args .t2 in
+    let here = c .before .before .loop in
+    let f = levelledAt (begun .args .mask) scores in
+    let own = c .before .before .before .before .before .before .exponent-weights .ensures in
+    let g = c .before .before .before .before .count-above .ensures .0 in
+    let value : c .levelled-weight .result ≡ f (here .i) =
+    rw (
+      c .before .before .before .before .before .total .ensures,
+      g,
+      c .before .before .before .weigh-above .ensures,
+      own,
+      each-at (exponentWeight scores) (here .i) (omega arith),
+    )
+    at (c .levelled-weight .ensures) in (
+      omega arith,
+      length-set (here .weights) (here .i) _ ∙ here .inv .1,
+      each-more f (here .weights) (here .i) (here .inv .1) (here .inv .2) _ (omega arith) value,
+    )
+
+returns : tie.Need-returns Inv-loop μ-loop
+unfolding levelledIn
+returns c =
+    let begun = c .before .before .before .before .before .before in
+    let here = c .before .loop in
+    each-filled (levelledAt (begun .args .mask) (begun .args .t2)) (here .weights) (here .i) (here .inv .1) (here .inv .2) (omega arith)
+
+pub levelled-weights-spec : {M : Type 1} → statement M
+levelled-weights-spec =
+    tie.close
+    (tie.spec
+    Inv-loop
+    μ-loop
+    exponent-weights-requires
+    total-requires
+    count-above-requires
+    weigh-above-requires
+    loop-holds
+    mul-levelled-weight
+    array-read-levelled-weight
+    cast-levelled-weight
+    mul-levelled-weight-2
+    array-read-levelled-weight-2
+    levelled-weight-requires
+    mul-weights
+    array-write-weights
+    add-i
+    loop-less
+    loop-again
+    returns)

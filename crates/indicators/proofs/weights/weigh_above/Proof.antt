@@ -1,0 +1,114 @@
+-- `indicators::weights::weigh_above` meets its contract: the operators passed hold their weight if they are better.
+-- Assumes nothing.
+use mathlib.Core.Path.{_≡_, refl, _∙_, ap}
+use mathlib.Core.Bool.{true, false}
+use Prim.Native.Nat.{ℕ, _-_, _≤_}
+use native.Mathlib.Omega.{arith}
+use lib.ListN.{length, getD}
+use mathlib.Core.Bool.{cond}
+use Rattle.apportion.specs.Sum.{sum}
+use Rattle.indicators.specs.Operators.{each}
+use Rattle.indicators.specs.Steps.{Weighed, aboveIn, weightIfAbove, aboveSum}
+use Rattle.indicators.proofs.Tables.{each-more, each-filled, sum-each-le}
+use lib.ListN.{take, length-set}
+use mathlib.Core.List.{List}
+use mathlib.Core.Bool.{Bool}
+use Rattle.indicators.proofs.weights.weigh_above.Statement.{statement}
+use Rattle.indicators.proofs.weights.weigh_above.Tie as tie
+
+abbrev Inv-loop : tie.InvT-loop
+Inv-loop mask sum scores own counted₀ i₀ counted i = (i ≤ 16) × (length counted ≡ 16) × (take i counted ≡ take i (each (weightIfAbove mask scores own)))
+
+abbrev μ-loop : tie.MeasureT-loop
+μ-loop mask sum scores own counted₀ i₀ counted i = 16 - i
+
+loop-holds : tie.Need-loop-holds Inv-loop μ-loop
+loop-holds c = (omega arith, refl, refl)
+
+mul-weight-if-above : tie.Need-mul-weight-if-above Inv-loop μ-loop
+mul-weight-if-above c = omega arith
+
+array-read-weight-if-above : tie.Need-array-read-weight-if-above Inv-loop μ-loop
+array-read-weight-if-above c = omega arith
+
+cast-weight-if-above : tie.Need-cast-weight-if-above Inv-loop μ-loop
+cast-weight-if-above c = omega arith
+
+mul-weight-if-above-2 : tie.Need-mul-weight-if-above-2 Inv-loop μ-loop
+mul-weight-if-above-2 c = omega arith
+
+array-read-weight-if-above-2 : tie.Need-array-read-weight-if-above-2 Inv-loop μ-loop
+array-read-weight-if-above-2 c = omega arith
+
+weight-if-above-requires : tie.Need-weight-if-above-requires Inv-loop μ-loop
+weight-if-above-requires c κs = c .before .before .pre .0 (c .before .loop .i)
+
+mul-counted : tie.Need-mul-counted Inv-loop μ-loop
+mul-counted c = omega arith
+
+array-write-counted : tie.Need-array-write-counted Inv-loop μ-loop
+array-write-counted c = omega arith
+
+add-i : tie.Need-add-i Inv-loop μ-loop
+add-i c = omega arith
+
+loop-less : tie.Need-loop-less Inv-loop μ-loop
+loop-less c = omega arith
+
+loop-again : tie.Need-loop-again Inv-loop μ-loop
+unfolding weightIfAbove aboveIn
+loop-again c =
+    let start = c .before .before .before in
+    let here = c .before .before .loop in
+    let f = weightIfAbove (start .args .mask) (start .args .t2) (start .args .t4) in
+    let value : c .weight-if-above .result ≡ f (here .i) = rw (start .pre .1) at (c .weight-if-above .ensures) in (
+      omega arith,
+      length-set (here .counted) (here .i) _ ∙ here .inv .1,
+      each-more f (here .counted) (here .i) (here .inv .1) (here .inv .2) _ (omega arith) value,
+    )
+
+-- a weight or 0 is at most the table's first
+small : (mask : ℕ) (list own : List ℕ) → Weighed own → (k : ℕ) → weightIfAbove mask list own k ≤ 1000000000
+unfolding weightIfAbove
+small mask list own weighed k = go (aboveIn mask list k)
+  where
+    go : (t : Bool) → cond t (getD own k 0) 0 ≤ 1000000000
+    go true = weighed k
+    go false = omega arith
+
+total-requires : tie.Need-total-requires Inv-loop μ-loop
+total-requires c κs =
+    let start = c .before .before in
+    let here = c .before .loop in
+    let f = weightIfAbove (start .args .mask) (start .args .t2) (start .args .t4) in
+    rw (each-filled f (here .counted) (here .i) (here .inv .1) (here .inv .2) (omega arith))
+    (omega (arith, sum-each-le f 1000000000 (λ k lt. small (start .args .mask) (start .args .t2) (start .args .t4) (start .pre .2) k)))
+
+returns : tie.Need-returns Inv-loop μ-loop
+unfolding aboveSum
+returns c =
+    let start = c .before .before .before in
+    let here = c .before .before .loop in
+    let f = weightIfAbove (start .args .mask) (start .args .t2) (start .args .t4) in
+    c .total .ensures ∙ ap sum (each-filled f (here .counted) (here .i) (here .inv .1) (here .inv .2) (omega arith))
+
+pub weigh-above-spec : {M : Type 1} → statement M
+weigh-above-spec =
+    tie.close
+    (tie.spec
+    Inv-loop
+    μ-loop
+    loop-holds
+    mul-weight-if-above
+    array-read-weight-if-above
+    cast-weight-if-above
+    mul-weight-if-above-2
+    array-read-weight-if-above-2
+    weight-if-above-requires
+    mul-counted
+    array-write-counted
+    add-i
+    loop-less
+    loop-again
+    total-requires
+    returns)

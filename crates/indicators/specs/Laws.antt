@@ -1,0 +1,25 @@
+-- What holds of an indicator of every book whose joined operators are sixteen bits. Proofs: proofs/PointLaws.antt.
+-- Assumes nothing.
+use Prim.Native.Nat.{ℕ, _+_, _≤_, _<_}
+use mathlib.Core.Path.{_≡_}
+use mathlib.Core.Bool.{true, false, not}
+use lib.ListN.{getD}
+use Rattle.book.specs.declared.Book.{Book}
+use Rattle.book.specs.Book.{isJoined}
+use Rattle.apportion.specs.Sum.{sum}
+use Rattle.indicators.specs.Operators.{count}
+use Rattle.indicators.specs.Indicator.{Indicator, joinedCount, reliableCount, isReliable, pool}
+use Rattle.indicators.specs.Points.{isAbove, isLevelled, points}
+
+pub record PointsMadeUp (b : Book) (indicator : Indicator) : Type 0 where
+  -- n and m, ones of masks, are the counts over the operators
+  pub joined-counted : joinedCount b ≡ count 16 (isJoined b)
+  pub reliable-counted : reliableCount b indicator ≡ count 16 (isReliable b indicator)
+  -- points add up to the pool
+  pub whole : sum (points b indicator) ≡ pool b indicator
+  -- who does not take part gets 0
+  pub others-none : (operator : ℕ) → operator < 16 → isReliable b indicator operator ≡ false → getD (points b indicator) operator 0 ≡ 0
+  -- "Within the group points differ by at most a hundredth"
+  pub above-alike : isLevelled (indicator .measure) ≡ true → (operator other : ℕ) → operator < 16 → other < 16
+      → isAbove b indicator operator ≡ true → isAbove b indicator other ≡ true
+      → getD (points b indicator) operator 0 ≤ getD (points b indicator) other 0 + 1

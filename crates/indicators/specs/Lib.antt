@@ -1,0 +1,5 @@
+pub mod Operators
+pub mod Indicator
+pub mod Points
+pub mod Steps
+pub mod Laws

@@ -1,0 +1,19 @@
+-- Numbers by operator, as a list of sixteen; and counts over the operators.
+-- Assumes nothing.
+use Prim.Native.Nat.{ℕ, zero, suc, _+_}
+use mathlib.Core.Bool.{Bool, cond}
+use mathlib.Core.List.{List, [], _∷_, _++_}
+
+-- f 0 to f (n - 1)
+unfoldable pub table : {A : Type 0} → ℕ → (ℕ → A) → List A
+table zero f = []
+table (suc n) f = table n f ++ (f n ∷ [])
+
+-- a number for each of the sixteen operators
+unfoldable pub each : (ℕ → ℕ) → List ℕ
+each f = table 16 f
+
+-- how many of the first n pass a test
+unfoldable pub count : ℕ → (ℕ → Bool) → ℕ
+count zero test = 0
+count (suc n) test = count n test + cond (test n) 1 0

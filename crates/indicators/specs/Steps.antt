@@ -1,0 +1,45 @@
+-- What the inner functions of weighing take and give: parts of specs/Points.antt over a mask and a list of scores.
+-- Assumes nothing.
+use Prim.Native.Nat.{ℕ, _*_, _≤_}
+use mathlib.Core.Bool.{Bool, cond, _&&_}
+use mathlib.Core.List.{List}
+use lib.Count.{ones}
+use lib.Dec.{ltb}
+use lib.ListN.{getD}
+use Rattle.apportion.specs.Sum.{sum}
+use Rattle.calls.specs.Masks.{has}
+use Rattle.indicators.specs.Operators.{each, count}
+use Rattle.indicators.specs.Points.{exponentWeight, levelled, linearWeight}
+
+-- no score passes three years of the largest yearly value
+abbrev pub Scored : List ℕ → Type 0
+Scored list = (place : ℕ) → getD list place 0 ≤ 300000000000000000
+
+-- no weight passes the table's first
+abbrev pub Weighed : List ℕ → Type 0
+Weighed list = (place : ℕ) → getD list place 0 ≤ 1000000000
+
+unfoldable pub aboveIn : ℕ → List ℕ → ℕ → Bool
+aboveIn mask list operator = has mask operator && ltb (ones mask * getD list operator 0) (sum list)
+
+unfoldable pub weightIfAbove : ℕ → List ℕ → List ℕ → ℕ → ℕ
+weightIfAbove mask list own operator = cond (aboveIn mask list operator) (getD own operator 0) 0
+
+unfoldable pub aboveSum : ℕ → List ℕ → List ℕ → ℕ
+aboveSum mask list own = sum (each (weightIfAbove mask list own))
+
+-- weights levelled, and 0 for those that take no part
+unfoldable pub levelledAt : ℕ → List ℕ → ℕ → ℕ
+levelledAt mask list operator =
+    cond (has mask operator)
+    (levelled (count 16 (aboveIn mask list)) (aboveSum mask list (each (exponentWeight list))) (aboveIn mask list operator) (exponentWeight list operator))
+    0
+
+unfoldable pub levelledIn : ℕ → List ℕ → List ℕ
+levelledIn mask list = each (levelledAt mask list)
+
+unfoldable pub linearAt : ℕ → List ℕ → ℕ → ℕ
+linearAt mask list operator = cond (has mask operator) (linearWeight list operator) 0
+
+unfoldable pub linearIn : ℕ → List ℕ → List ℕ
+linearIn mask list = each (linearAt mask list)

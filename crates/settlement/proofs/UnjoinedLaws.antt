@@ -1,0 +1,68 @@
+-- An operator that has not joined has 0 everywhere in a settlement of a book in range.
+-- Assumes nothing.
+use Prim.Native.Nat.{ℕ, _≤_, _<_}
+use mathlib.Core.Path.{_≡_, refl, sym, ap, _∙_}
+use mathlib.Core.Bool.{Bool, true, false, cond, false≢true}
+use mathlib.Core.List.{List}
+use native.Mathlib.Nat.{mul-zero, zero-mul, zero-div}
+use native.Mathlib.Omega.{arith}
+use lib.Dec.{leb}
+use lib.IntN.{ℤ, pos, negsuc, natAbs}
+use lib.ListN.{getD}
+use borrow.Author.Tests.{leb-true}
+use Rattle.apportion.specs.Share.{share}
+use Rattle.apportion.proofs.Shared.{shared}
+use Rattle.book.specs.declared.Book.{Book}
+use Rattle.book.specs.Book.{isJoined, settingOf, most, settingsInRange, inRange}
+use Rattle.book.proofs.EveryLaws.{each-of-every}
+use Rattle.calls.specs.Limits.{operators, settings, settingLimit}
+use Rattle.calls.proofs.Flags.{and-left}
+use Rattle.indicators.specs.Operators.{each}
+use Rattle.indicators.specs.Indicator.{Indicator, isReliable}
+use Rattle.indicators.specs.Points.{points}
+use Rattle.indicators.proofs.TableLaws.{each-length, each-at}
+use Rattle.indicators.proofs.PointLaws.{reliable-joined, points-none}
+use Rattle.settlement.specs.Money.{accessPoints, pot, contributions, returnWeights, returns, limits, adjustments}
+use Rattle.settlement.proofs.SettledLaws.{within-limits}
+
+-- a share by a weight of 0
+none-shared : (T : ℕ) (f : ℕ → ℕ) (k : ℕ) → k < 16 → f k ≡ 0 → getD (share T (each f)) k 0 ≡ 0
+none-shared T f k lt none = shared T (each f) .none k (rw each-length lt) (each-at f k lt ∙ none)
+
+-- a number without size
+no-size : (z : ℤ) → natAbs z ≤ 0 → z ≡ pos 0
+no-size (pos n) none = ap pos (omega arith)
+no-size (negsuc n) none = absurd (omega arith)
+
+module _ (b : Book) (ranged : inRange b ≡ true) (operator : ℕ) (lt : operator < 16) (apart : isJoined b operator ≡ false) where
+  pub setting-none : (which : ℕ) → which < 3 → settingOf b operator which ≡ 0
+  unfolding inRange settingsInRange most
+  setting-none which small =
+      let all : settingsInRange b ≡ true = and-left _ _ (and-left _ _ (and-left _ _ (and-left _ _ ranged))) in
+      let test : leb (settingOf b operator which) (cond (isJoined b operator) (settingLimit which) 0) ≡ true =
+      each-of-every settings _ (each-of-every operators _ all operator lt) which small in
+      let none : leb (settingOf b operator which) 0 ≡ true = rw apart at test in
+      omega (arith, leb-true (settingOf b operator which) 0 none)
+
+  pub points-unjoined : (indicator : Indicator) → getD (points b indicator) operator 0 ≡ 0
+  points-unjoined indicator = points-none b indicator operator lt (go (isReliable b indicator operator) refl)
+    where
+      go : (t : Bool) → isReliable b indicator operator ≡ t → isReliable b indicator operator ≡ false
+      go true reliable = absurd (false≢true (sym apart ∙ reliable-joined b indicator operator reliable))
+      go false marked = marked
+
+  pub contribution-none : getD (contributions b) operator 0 ≡ 0
+  unfolding contributions accessPoints
+  contribution-none = none-shared (pot b) _ operator lt (setting-none 1 (omega arith))
+
+  pub limit-none : getD (limits b) operator 0 ≡ 0
+  unfolding limits
+  limit-none = each-at _ operator lt ∙ rw (setting-none 2 (omega arith), mul-zero) (zero-div 1000000)
+
+  module _ (indicators : List Indicator) where
+    pub return-none : getD (returns b indicators) operator 0 ≡ 0
+    unfolding returns returnWeights
+    return-none = none-shared (pot b) _ operator lt (rw (setting-none 1 (omega arith)) (zero-mul _))
+
+    pub adjustment-none : getD (adjustments b indicators) operator (pos 0) ≡ pos 0
+    adjustment-none = no-size _ (omega (arith, within-limits b indicators operator lt, limit-none))

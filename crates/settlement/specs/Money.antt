@@ -1,0 +1,65 @@
+-- From points to adjustments (01, "Settlement"; annex 9, 5.2). Money in cents, by operator.
+-- Assumes nothing.
+use Prim.Native.Nat.{ℕ, _*_, _-_, _/_, min}
+use mathlib.Core.Bool.{cond}
+use mathlib.Core.List.{List}
+use lib.Dec.{ltb}
+use lib.IntN.{ℤ, subℕ}
+use lib.ListN.{getD}
+use Rattle.book.specs.declared.Book.{Book}
+use Rattle.book.specs.Book.{settingOf}
+use Rattle.apportion.specs.Sum.{sum}
+use Rattle.apportion.specs.Share.{share}
+use Rattle.indicators.specs.Operators.{table, each}
+use Rattle.indicators.specs.Indicator.{Indicator}
+use Rattle.indicators.specs.Points.{allPoints}
+
+-- one setting of each operator
+abbrev pub settingsOf : Book → ℕ → List ℕ
+settingsOf b which = each (λ (operator : ℕ). settingOf b operator which)
+
+unfoldable pub accessPoints : Book → List ℕ
+accessPoints b = settingsOf b 1
+
+unfoldable pub incomes : Book → List ℕ
+incomes b = settingsOf b 2
+
+-- "Pot = pot rate × (sum of incomes) / 1,000,000, rounded down"
+unfoldable pub pot : Book → ℕ
+pot b = b .pot * sum (incomes b) / 1000000
+
+-- "Contributions share the pot by access points. Returns share it by access points × points."
+unfoldable pub contributions : Book → List ℕ
+contributions b = share (pot b) (accessPoints b)
+
+unfoldable pub returnWeights : Book → List Indicator → List ℕ
+returnWeights b indicators = each (λ (operator : ℕ). settingOf b operator 1 * allPoints b indicators operator)
+
+unfoldable pub returns : Book → List Indicator → List ℕ
+returns b indicators = share (pot b) (returnWeights b indicators)
+
+-- "Limit = cap rate × income / 1,000,000, rounded down"
+unfoldable pub limits : Book → List ℕ
+limits b = each (λ (operator : ℕ). b .cap * settingOf b operator 2 / 1000000)
+
+-- what one list has more than another, each cut to its limit
+unfoldable pub capped : List ℕ → List ℕ → List ℕ → List ℕ
+capped more less limit = each (λ (operator : ℕ). min (getD more operator 0 - getD less operator 0) (getD limit operator 0))
+
+-- a side, "shared again to the smaller sum, by its cut amounts", if it is the larger
+unfoldable pub balanced : List ℕ → List ℕ → List ℕ
+balanced side other = cond (ltb (sum other) (sum side)) (share (sum other) side) side
+
+-- bonuses and maluses, before and after
+unfoldable pub bonuses : Book → List Indicator → List ℕ
+bonuses b indicators = capped (returns b indicators) (contributions b) (limits b)
+
+unfoldable pub maluses : Book → List Indicator → List ℕ
+maluses b indicators = capped (contributions b) (returns b indicators) (limits b)
+
+-- "That is the adjustment": a bonus is above 0, a malus below
+unfoldable pub adjustments : Book → List Indicator → List ℤ
+adjustments b indicators =
+    let gains : List ℕ = balanced (bonuses b indicators) (maluses b indicators) in
+    let losses : List ℕ = balanced (maluses b indicators) (bonuses b indicators) in
+    table 16 (λ (operator : ℕ). subℕ (getD gains operator 0) (getD losses operator 0))

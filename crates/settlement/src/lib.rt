@@ -1,0 +1,23 @@
+// Settling a book: points of each indicator, the pot, contributions, returns and each operator's adjustment.
+mod money;
+
+use calls::Answer;
+
+// All 0 on refusal and for operators not joined.
+pub struct Settlement {
+    // In hundredths, by indicator.
+    pub pools: [u64; 6],
+    // In hundredths, at indicator * 16 + operator.
+    pub points: [u64; 96],
+    // Money in cents, by operator.
+    pub pot: u64,
+    pub contributions: [u64; 16],
+    pub returns: [u64; 16],
+    pub limits: [u64; 16],
+    pub adjustments: [i64; 16],
+}
+
+pub struct Settled {
+    pub settlement: Settlement,
+    pub answer: Answer,
+}
