@@ -1,6 +1,7 @@
-// Runs filing calls on a book and prints each as `command = answer`; now and then it shows the whole book.
+// Runs filing calls on a book and prints each as `command = answer`; now and then it shows the whole book, or settles it.
 mod cases;
 mod print;
+mod settle;
 mod show;
 
 ghost use Prim.Native.Nat.{_+_, _*_, _<_};
@@ -28,7 +29,7 @@ fn main() {
 
 // One row of the cases: what to do, and seven numbers for it.
 fn step(b: Book, i: usize) -> Book
-    requires { ⌜ i < 333 ⌝ }
+    requires { ⌜ i < 628 ⌝ }
 {
     let at = 8 * i;
     let kind = byte(at);
@@ -43,6 +44,7 @@ fn step(b: Book, i: usize) -> Book
         7 => index(b, at),
         8 => store(b, at),
         9 => show::whole(b),
+        10 => settle::settled(b),
         _ => fresh(),
     }
 }
@@ -53,14 +55,14 @@ fn fresh() -> Book {
 }
 
 fn join(b: Book, at: usize) -> Book
-    requires { ⌜ at < 2657 ⌝ }
+    requires { ⌜ at < 5017 ⌝ }
 {
     let operator = put_byte(byte(at + 1));
     answered(book::join(b, operator))
 }
 
 fn setting(b: Book, at: usize) -> Book
-    requires { ⌜ at < 2657 ⌝ }
+    requires { ⌜ at < 5017 ⌝ }
 {
     let operator = put_byte(byte(at + 1));
     let which = put_byte(byte(at + 2));
@@ -69,7 +71,7 @@ fn setting(b: Book, at: usize) -> Book
 }
 
 fn interruption(b: Book, at: usize) -> Book
-    requires { ⌜ at < 2657 ⌝ }
+    requires { ⌜ at < 5017 ⌝ }
 {
     let operator = put_byte(byte(at + 1));
     let sign = put_byte(byte(at + 2));
@@ -82,7 +84,7 @@ fn interruption(b: Book, at: usize) -> Book
 }
 
 fn amount(b: Book, at: usize) -> Book
-    requires { ⌜ at < 2657 ⌝ }
+    requires { ⌜ at < 5017 ⌝ }
 {
     let operator = put_byte(byte(at + 1));
     let year = put_byte(byte(at + 2));
@@ -93,7 +95,7 @@ fn amount(b: Book, at: usize) -> Book
 }
 
 fn mark(b: Book, at: usize) -> Book
-    requires { ⌜ at < 2657 ⌝ }
+    requires { ⌜ at < 5017 ⌝ }
 {
     let operator = put_byte(byte(at + 1));
     let indicator = put_byte(byte(at + 2));
@@ -102,7 +104,7 @@ fn mark(b: Book, at: usize) -> Book
 }
 
 fn rates(b: Book, at: usize) -> Book
-    requires { ⌜ at < 2657 ⌝ }
+    requires { ⌜ at < 5017 ⌝ }
 {
     let pot = put_word(at + 1);
     let cap = put_word(at + 2);
@@ -110,7 +112,7 @@ fn rates(b: Book, at: usize) -> Book
 }
 
 fn index(b: Book, at: usize) -> Book
-    requires { ⌜ at < 2657 ⌝ }
+    requires { ⌜ at < 5017 ⌝ }
 {
     let number = put_byte(byte(at + 1));
     let value = put_word(at + 2);
@@ -126,7 +128,7 @@ fn answered(filed: Filed) -> Book {
 
 // Puts a raw value into the book, so that one out of range can be made.
 fn store(b: Book, at: usize) -> Book
-    requires { ⌜ at < 2657 ⌝ }
+    requires { ⌜ at < 5017 ⌝ }
 {
     let mut next = b;
     let place = cell(at + 2) % 384;
@@ -168,19 +170,19 @@ fn store(b: Book, at: usize) -> Book
 }
 
 fn cell(at: usize) -> u64
-    requires { ⌜ at < 2664 ⌝ }
+    requires { ⌜ at < 5024 ⌝ }
 {
     CASES[at]
 }
 
 fn byte(at: usize) -> u8
-    requires { ⌜ at < 2664 ⌝ }
+    requires { ⌜ at < 5024 ⌝ }
 {
     (cell(at) % 256) as u8
 }
 
 fn put_word(at: usize) -> u32
-    requires { ⌜ at < 2664 ⌝ }
+    requires { ⌜ at < 5024 ⌝ }
 {
     (put_number(cell(at) % 4294967296) % 4294967296) as u32
 }

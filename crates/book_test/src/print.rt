@@ -21,6 +21,7 @@ pub(crate) fn put_name(kind: u8) {
         7 => put(b"index"),
         8 => put(b"store"),
         9 => put(b"show"),
+        10 => put(b"settle"),
         _ => put(b"fresh"),
     }
 }

@@ -19,7 +19,7 @@ use Rattle.indicators.specs.Steps.{Scored, aboveIn, weightIfAbove, above
 use Rattle.indicators.proofs.Tables.{each-le, sum-each-le, count-le}
 use Rattle.indicators.proofs.InRange.{figure-le, index-between}
 
-over-le : (dividend divisor : ℕ) → over dividend divisor ≤ dividend
+pub over-le : (dividend divisor : ℕ) → over dividend divisor ≤ dividend
 unfolding over
 over-le dividend divisor = go (eqb divisor 0)
   where

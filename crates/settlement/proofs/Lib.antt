@@ -5,3 +5,5 @@ pub mod DifferenceLaws
 pub mod BalanceLaws
 pub mod SettledLaws
 pub mod UnjoinedLaws
+pub mod Gathering
+pub mod Amounts

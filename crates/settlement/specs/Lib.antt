@@ -1,3 +1,4 @@
 pub mod Money
 pub mod Settlement
+pub mod Steps
 pub mod Laws

@@ -1,7 +1,10 @@
 // Settling a book: points of each indicator, the pot, contributions, returns and each operator's adjustment.
+mod gather;
 mod money;
+mod settling;
 
 use calls::Answer;
+pub use settling::settle;
 
 // All 0 on refusal and for operators not joined.
 pub struct Settlement {

@@ -7,10 +7,10 @@ use Rattle.book_test.proofs.main.Statement.{statement}
 use Rattle.book_test.proofs.main.Tie as tie
 
 abbrev Inv-loop : tie.InvT-loop
-Inv-loop b₀ i₀ b i = i ≤ 333
+Inv-loop b₀ i₀ b i = i ≤ 628
 
 abbrev μ-loop : tie.MeasureT-loop
-μ-loop b₀ i₀ b i = 333 - i
+μ-loop b₀ i₀ b i = 628 - i
 
 fresh-requires : tie.Need-fresh-requires Inv-loop μ-loop
 fresh-requires c κs = search needs

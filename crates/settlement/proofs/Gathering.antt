@@ -1,0 +1,159 @@
+-- Pools, points and totals gathered one indicator after the other.
+-- Assumes nothing.
+use mathlib.Core.Path.{_≡_, refl, sym, _∙_, ap}
+use mathlib.Core.List.{List, [], _∷_, _++_, map, append-assoc, append-nil}
+use Prim.Native.Nat.{ℕ, zero, suc, _+_, _*_, _-_, _^_, _≤_, _<_}
+use native.Mathlib.Nat.{le-trans, mul-le-mul}
+use native.Mathlib.Numerals.{add-one}
+use native.Mathlib.Omega.{arith}
+use native.Mathlib.Decide.{decLt}
+use lib.Bits.{bitAnd, and-le-r}
+use lib.Count.{ones-le}
+use lib.ListN.{length, getD, take, length-set, List·getD-eq-default, replicate}
+use lib.Seq.{take-suc, take-suc-set, take-paste, length-paste, take-all}
+use Rattle.book.specs.declared.Book.{Book}
+use Rattle.apportion.specs.Sum.{sum}
+use Rattle.apportion.specs.Share.{share}
+use Rattle.apportion.proofs.Sums.{element-le}
+use Rattle.apportion.proofs.Shared.{shared}
+use Rattle.indicators.specs.Operators.{table, each}
+use Rattle.indicators.specs.Indicator.{Indicator, electricity, numbered, reliableMask, reliableCount, pool}
+use Rattle.indicators.specs.Points.{weights, points, allPoints}
+use Rattle.indicators.proofs.Weighed.{over-le}
+use Rattle.indicators.proofs.PointLaws.{points-length}
+use Rattle.settlement.specs.declared.gather.Gathered.{Gathered}
+use Rattle.settlement.specs.Settlement.{pointsOfAll}
+use Rattle.settlement.specs.Steps.{added, withOne}
+use Rattle.settlement.proofs.Tables.{length-each, each-at, each-same}
+
+-- no share passes the total
+pub share-le : (T : ℕ) (list : List ℕ) (place : ℕ) → getD (share T list) place 0 ≤ T
+share-le T list place = go (decLt 0 (sum list)) (decLt place (length list))
+  where
+    go : Dec (0 < sum list) → Dec (place < length list) → getD (share T list) place 0 ≤ T
+    go (yes some) inside = omega (arith, element-le (share T list) place, shared T list .whole some)
+    go (no none) (yes inside) =
+        omega (arith, shared T list .none place inside (omega (arith, element-le list place, none)))
+    go (no none) (no outside) =
+        let past : length (share T list) ≤ place = omega (arith, shared T list .long, outside) in
+        rw (List·getD-eq-default (share T list) 0 past) (omega arith)
+
+points-most : (number : ℕ) → number < 6 → numbered number .points ≤ 154
+unfolding numbered electricity
+points-most zero lt = omega arith
+points-most (suc zero) lt = omega arith
+points-most (suc (suc zero)) lt = omega arith
+points-most (suc (suc (suc zero))) lt = omega arith
+points-most (suc (suc (suc (suc zero)))) lt = omega arith
+points-most (suc (suc (suc (suc (suc zero))))) lt = omega arith
+points-most (suc (suc (suc (suc (suc (suc n)))))) lt = absurd (omega arith)
+
+pub pool-le : (b : Book) (number : ℕ) → number < 6 → pool b (numbered number) ≤ 739200
+unfolding pool reliableCount reliableMask
+pool-le b number lt =
+    let mask : ℕ = bitAnd (b .joined) (65535 - getD (b .marks) (numbered number .number) 0) in
+    let small : mask < 2 ^ 16 = omega (arith, and-le-r (b .joined) (65535 - getD (b .marks) (numbered number .number) 0)) in
+    let product = mul-le-mul (points-most number lt) (ones-le 16 mask small) in
+    le-trans (over-le _ _) (omega (arith, product))
+
+pub point-le : (b : Book) (number : ℕ) → number < 6 → (operator : ℕ) → getD (points b (numbered number)) operator 0 ≤ 739200
+unfolding points
+point-le b number lt operator = le-trans (share-le _ (weights b (numbered number)) operator) (pool-le b number lt)
+
+-- one indicator more, at the end of the list
+points-snoc : (b : Book) (list : List Indicator) (indicator : Indicator) → pointsOfAll b (list ++ (indicator ∷ [])) ≡ pointsOfAll b list ++ points b indicator
+unfolding pointsOfAll
+points-snoc b [] indicator = append-nil (points b indicator)
+points-snoc b (x ∷ list) indicator = ap (λ (l : List ℕ). points b x ++ l) (points-snoc b list indicator) ∙ sym (append-assoc (points b x) (pointsOfAll b list) (points b indicator))
+
+totals-snoc : (b : Book) (list : List Indicator) (indicator : Indicator) (operator : ℕ)
+    → allPoints b (list ++ (indicator ∷ [])) operator ≡ allPoints b list operator + getD (points b indicator) operator 0
+unfolding allPoints
+totals-snoc b [] indicator operator = omega arith
+totals-snoc b (x ∷ list) indicator operator = omega (arith, totals-snoc b list indicator operator)
+
+pools-snoc : (b : Book) (list : List Indicator) (indicator : Indicator) → map (pool b) (list ++ (indicator ∷ [])) ≡ map (pool b) list ++ (pool b indicator ∷ [])
+pools-snoc b [] indicator = refl
+pools-snoc b (x ∷ list) indicator = ap (λ (l : List ℕ). pool b x ∷ l) (pools-snoc b list indicator)
+
+-- the first indicators
+abbrev firsts : ℕ → List Indicator
+firsts n = take n electricity
+
+one-more : (n : ℕ) → n < 6 → firsts (n + 1) ≡ firsts n ++ (numbered n ∷ [])
+unfolding electricity numbered
+one-more n lt = rw add-one (take-suc electricity n _ lt)
+
+-- what has been gathered of the first indicators
+pub record Gathers (b : Book) (n : ℕ) (g : Gathered) : Type 0 where
+  pub pools-long : length (g .pools) ≡ 6
+  pub pools-so-far : take n (g .pools) ≡ map (pool b) (firsts n)
+  pub points-long : length (g .points) ≡ 96
+  pub points-so-far : take (16 * n) (g .points) ≡ pointsOfAll b (firsts n)
+  pub totals-are : g .totals ≡ each (allPoints b (firsts n))
+  pub totals-most : (k : ℕ) → getD (g .totals) k 0 ≤ n * 739200
+
+added-le : (list other : List ℕ) (most more : ℕ) → ((k : ℕ) → getD list k 0 ≤ most) → ((k : ℕ) → getD other k 0 ≤ more) → (k : ℕ) → getD (added list other) k 0 ≤ most + more
+unfolding added
+added-le list other most more first second k = go (decLt k 16)
+  where
+    go : Dec (k < 16) → getD (each (λ (operator : ℕ). getD list operator 0 + getD other operator 0)) k 0 ≤ most + more
+    go (yes inside) = rw (each-at (λ (operator : ℕ). getD list operator 0 + getD other operator 0) k inside) (omega (arith, first k, second k))
+    go (no outside) =
+        let past : length (each (λ (operator : ℕ). getD list operator 0 + getD other operator 0)) ≤ k = omega (arith, length-each (λ (operator : ℕ). getD list operator 0 + getD other operator 0), outside) in
+        rw (List·getD-eq-default (each (λ (operator : ℕ). getD list operator 0 + getD other operator 0)) 0 past) (omega arith)
+
+totals-more : (b : Book) (n : ℕ) (g : Gathered) → n < 6 → Gathers b n g → added (g .totals) (points b (numbered n)) ≡ each (allPoints b (firsts (n + 1)))
+unfolding added
+totals-more b n g lt so-far =
+    each-same _ _
+    (λ k lk. rw (one-more n lt, totals-snoc b (firsts n) (numbered n) k, so-far .totals-are, each-at (allPoints b (firsts n)) k lk) refl)
+
+pub gathers-more : (b : Book) (n : ℕ) (g : Gathered) → n < 6 → Gathers b n g → Gathers b (n + 1) (withOne g (pool b (numbered n)) (points b (numbered n)) n)
+unfolding withOne
+gathers-more b n g lt so-far =
+    let sixteen : length (points b (numbered n)) ≡ 16 = points-length b (numbered n) in
+    let room : 16 * n + 16 ≤ length (g .points) = omega (arith, so-far .points-long) in
+    record {
+      pools-long = length-set (g .pools) n _ ∙ so-far .pools-long;
+      pools-so-far =
+          (rw add-one (take-suc-set (g .pools) n _ (omega (arith, so-far .pools-long))))
+          ∙ (ap (λ (l : List ℕ). l ++ (pool b (numbered n) ∷ [])) (so-far .pools-so-far)
+          ∙ sym (ap (map (pool b)) (one-more n lt) ∙ pools-snoc b (firsts n) (numbered n)));
+      points-long = length-paste (g .points) (16 * n) (points b (numbered n)) 16 room (omega (arith, sixteen)) ∙ so-far .points-long;
+      points-so-far =
+          let shifted : 16 * (n + 1) ≡ 16 * n + 16 = omega arith in
+          rw shifted
+          (take-paste (g .points) (16 * n) (points b (numbered n)) 16 (omega (arith, room)) (omega (arith, sixteen))
+          ∙ (rw (take-all 16 (points b (numbered n)) (omega (arith, sixteen)), so-far .points-so-far)
+          (sym (ap (pointsOfAll b) (one-more n lt) ∙ points-snoc b (firsts n) (numbered n)))));
+      totals-are = totals-more b n g lt so-far;
+      totals-most = λ k. omega (arith, added-le (g .totals) (points b (numbered n)) (n * 739200) 739200 (so-far .totals-most) (point-le b n lt) k);
+    }
+
+zeros : (n k : ℕ) → getD (replicate n 0) k 0 ≤ 0
+zeros zero k = omega arith
+zeros (suc n) zero = omega arith
+zeros (suc n) (suc k) = zeros n k
+
+pub gathers-none : (b : Book) → Gathers b 0 (record { pools = replicate 6 0; points = replicate 96 0; totals = replicate 16 0 })
+unfolding pointsOfAll allPoints each table
+gathers-none b =
+    record {
+      pools-long = refl;
+      pools-so-far = refl;
+      points-long = refl;
+      points-so-far = refl;
+      totals-are = refl;
+      totals-most = λ k. zeros 16 k;
+    }
+
+pub gathers-all : (b : Book) (g : Gathered) → Gathers b 6 g
+    → (g .pools ≡ map (pool b) electricity) × (g .points ≡ pointsOfAll b electricity) × (g .totals ≡ each (allPoints b electricity)) × ((k : ℕ) → getD (g .totals) k 0 ≤ 5000000)
+unfolding electricity
+gathers-all b g so-far = (
+  sym (take-all 6 (g .pools) (omega (arith, so-far .pools-long))) ∙ so-far .pools-so-far,
+  sym (take-all 96 (g .points) (omega (arith, so-far .points-long))) ∙ so-far .points-so-far,
+  so-far .totals-are,
+  λ k. omega (arith, so-far .totals-most k),
+)

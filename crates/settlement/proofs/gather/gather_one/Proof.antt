@@ -1,0 +1,53 @@
+-- `settlement::gather::gather_one` meets its contract.
+-- Assumes nothing.
+use mathlib.Core.Path.{refl}
+use native.Mathlib.Omega.{arith}
+use Rattle.settlement.specs.Steps.{withOne}
+use Rattle.settlement.proofs.Gathering.{point-le}
+use borrow.Author.Needs.{needs}
+use Rattle.settlement.proofs.gather.gather_one.Statement.{statement}
+use Rattle.settlement.proofs.gather.gather_one.Tie as tie
+
+points-of-requires : tie.Need-points-of-requires
+points-of-requires c κs = search needs
+
+pool-of-requires : tie.Need-pool-of-requires
+pool-of-requires c κs = search needs
+
+mul-pools : tie.Need-mul-pools
+mul-pools c = search needs
+
+array-write-pools : tie.Need-array-write-pools
+array-write-pools c = search needs
+
+mul-place : tie.Need-mul-place
+mul-place c = search needs
+
+place-requires : tie.Need-place-requires
+place-requires c κs = search needs
+
+add-requires : tie.Need-add-requires
+add-requires c κs =
+    let begun = c .before .before .before .before .before .before in (
+      λ k. omega (arith, begun .pre .2 k),
+      λ k. rw (c .before .before .before .before .before .points-of .ensures) (omega (arith, point-le (begun .args .b) (begun .args .number) (begun .pre .1) k)),
+    )
+
+returns : tie.Need-returns
+unfolding withOne
+returns c =
+    let shares = c .before .before .before .before .before .before .points-of .ensures in
+    rw (c .before .before .before .before .pool-of .ensures .0, c .before .before .place .ensures, c .add .ensures, shares) refl
+
+pub gather-one-spec : {M : Type 1} → statement M
+gather-one-spec =
+    tie.close
+    (tie.spec
+    points-of-requires
+    pool-of-requires
+    mul-pools
+    array-write-pools
+    mul-place
+    place-requires
+    add-requires
+    returns)
