@@ -1,7 +1,7 @@
 -- Boolean tests put together, and flags that the code computed and tested.
 -- Assumes nothing.
 use mathlib.Core.Path.{_≡_, refl, sym, ap, _∙_}
-use mathlib.Core.Bool.{Bool, true, false, not, _&&_, false≢true}
+use mathlib.Core.Bool.{Bool, true, false, not, _&&_, _||_, false≢true}
 use borrow.Author.Tests.{not-true, not-false}
 
 -- two tests that are both true
@@ -28,6 +28,10 @@ and-true-right false = refl
 pub and-false-right : (t : Bool) → t && false ≡ false
 and-false-right true = refl
 and-false-right false = refl
+
+pub or-right : (s t : Bool) → s || t ≡ false → t ≡ false
+or-right true t e = absurd (false≢true (sym e))
+or-right false t e = e
 
 -- both halves of a test that holds
 pub both : (a b : Bool) → a && b ≡ true → (a ≡ true) × (b ≡ true)

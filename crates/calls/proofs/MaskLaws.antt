@@ -127,7 +127,7 @@ excluding-has mask k j = go (eqb j k) refl
     go false e = excluding-other mask k j (eqb-false j k e)
 
 -- masks with the same bits
-has-half : (mask k : ℕ) → has (mask / 2) k ≡ has mask (suc k)
+pub has-half : (mask k : ℕ) → has (mask / 2) k ≡ has mask (suc k)
 unfolding has
 has-half mask k =
     let sum : 1 + k ≡ suc k = omega arith in

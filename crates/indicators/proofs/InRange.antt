@@ -1,17 +1,20 @@
 -- What a book in range holds: each value between its limits.
 -- Assumes nothing.
-use Prim.Native.Nat.{ℕ, _≤_, _<_}
+use Prim.Native.Nat.{ℕ, zero, suc, _≤_, _<_}
 use mathlib.Core.Path.{_≡_}
 use mathlib.Core.Bool.{Bool, true, false, cond, _&&_}
 use native.Mathlib.Omega.{arith}
 use native.Mathlib.Nat.{le-trans}
 use lib.Dec.{leb}
+use lib.ListN.{getD}
 use borrow.Author.Tests.{leb-true}
 use Rattle.book.specs.declared.Book.{Book}
 use Rattle.calls.specs.Limits.{settingLimit, figureLimit}
 use Rattle.book.specs.Book.{isJoined, settingOf, figureOf, indexOf, most, settingsInRange, figuresInRange, marksInRange, ratesInRange, indicesInRange, inRange}
 use Rattle.calls.proofs.Flags.{and-left, and-right, both}
 use Rattle.book.proofs.EveryLaws.{each-of-every}
+use Rattle.indicators.specs.Operators.{settingsOf, figuresOf}
+use Rattle.indicators.proofs.Tables.{each-le}
 
 -- at most the limit, joined or not
 most-le : (b : Book) (operator limit : ℕ) → most b operator limit ≤ limit
@@ -65,9 +68,15 @@ module _ (b : Book) (ranged : inRange b ≡ true) where
       each-of-every 8 _ (each-of-every 3 _ (each-of-every 16 _ figures-within operator lo) year ly) figure lf in
       le-trans (leb-true _ _ test) (most-le b operator figureLimit)
 
-  -- a figure as the code read it
-  pub read-le : (operator year figure : ℕ) {r : ℕ} → r ≡ figureOf b operator year figure → operator < 16 → year < 3 → figure < 8 → r ≤ 100000000000
-  read-le operator year figure e lo ly lf = rw e (figure-le operator year figure lo ly lf)
+  -- no figure and no setting of any operator passes the largest limit
+  pub figures-le : (year figure : ℕ) → year < 3 → figure < 8 → (k : ℕ) → getD (figuresOf b year figure) k 0 ≤ 100000000000
+  figures-le year figure ly lf = each-le _ _ (λ k lt. figure-le k year figure lt ly lf)
+
+  pub settings-le : (which : ℕ) → which < 3 → (k : ℕ) → getD (settingsOf b which) k 0 ≤ 100000000000
+  settings-le zero lw = each-le _ _ (λ k lt. omega (arith, cabins-le k lt))
+  settings-le (suc zero) lw = each-le _ _ (λ k lt. omega (arith, points-le k lt))
+  settings-le (suc (suc zero)) lw = each-le _ _ income-le
+  settings-le (suc (suc (suc which))) lw = absurd (omega arith)
 
   pub index-between : (number : ℕ) → number < 4 → (1 ≤ indexOf b number) × (indexOf b number ≤ 100000)
   unfolding indicesInRange

@@ -1,11 +1,10 @@
 pub mod Tables
+pub mod CountLaws
 pub mod Largest
 pub mod InRange
 pub mod Numbered
 pub mod Scores
-pub mod Weighed
 pub mod Weighting
-pub mod TableLaws
 pub mod OnesLaws
 pub mod WeightLaws
 pub mod PointLaws

@@ -1,11 +1,14 @@
--- The six indicators by number: which it is, and its yearly value.
+-- The six indicators by number: which it is, what it measures, and its yearly values as quotients.
 -- Assumes nothing.
 use Prim.Native.Nat.{ℕ, zero, suc, _*_, _<_}
-use mathlib.Core.Path.{_≡_, refl}
+use mathlib.Core.Path.{_≡_, refl, ap₂}
 use native.Mathlib.Omega.{arith}
 use Rattle.book.specs.declared.Book.{Book}
 use Rattle.book.specs.Book.{settingOf, figureOf, indexOf}
-use Rattle.indicators.specs.Indicator.{electricity, numbered, over, yearlyValue}
+use Rattle.indicators.specs.Operators.{settingsOf, figuresOf}
+use Rattle.indicators.specs.Indicator.{Measure, frequency, duration, fee, electricity, numbered, over, yearlyValue}
+use Rattle.indicators.specs.Steps.{yearlyValues, quotientsBy}
+use Rattle.indicators.proofs.Tables.{each-at, each-same}
 
 pub number-of : (number : ℕ) → number < 6 → numbered number .number ≡ number
 unfolding numbered electricity
@@ -17,36 +20,23 @@ number-of (suc (suc (suc (suc zero)))) lt = refl
 number-of (suc (suc (suc (suc (suc zero))))) lt = refl
 number-of (suc (suc (suc (suc (suc (suc number)))))) lt = absurd (omega arith)
 
--- the yearly value of each
-module _ (b : Book) (number operator year : ℕ) where
-  pub value-0 : number ≡ 0
-      → yearlyValue b (numbered number .measure) operator year ≡ over (1000000 * figureOf b operator year 0) (settingOf b operator 0)
-  unfolding numbered electricity yearlyValue
-  value-0 e = rw e refl
+-- what each measures
+pub measure-of : (number k : ℕ) (measure : Measure) → number ≡ k → numbered k .measure ≡ measure → numbered number .measure ≡ measure
+measure-of number k measure e same = rw e same
 
-  pub value-1 : number ≡ 1
-      → yearlyValue b (numbered number .measure) operator year ≡ over (1000 * figureOf b operator year 1) (figureOf b operator year 0)
-  unfolding numbered electricity yearlyValue
-  value-1 e = rw e refl
+module _ (b : Book) (year : ℕ) where
+  pub frequencies-same : (figure which : ℕ) → quotientsBy 1000000 (figuresOf b year figure) 1 (settingsOf b which) ≡ yearlyValues b (frequency figure which) year
+  unfolding quotientsBy yearlyValue
+  frequencies-same figure which =
+      each-same _ _ (λ k lt. ap₂ over (omega (arith, each-at (λ (o : ℕ). figureOf b o year figure) k lt)) (omega (arith, each-at (λ (o : ℕ). settingOf b o which) k lt)))
 
-  pub value-2 : number ≡ 2
-      → yearlyValue b (numbered number .measure) operator year ≡ over (1000000 * figureOf b operator year 2) (settingOf b operator 1)
-  unfolding numbered electricity yearlyValue
-  value-2 e = rw e refl
+  pub durations-same : (seconds weight : ℕ) → quotientsBy 1000 (figuresOf b year seconds) 1 (figuresOf b year weight) ≡ yearlyValues b (duration seconds weight) year
+  unfolding quotientsBy yearlyValue
+  durations-same seconds weight =
+      each-same _ _ (λ k lt. ap₂ over (omega (arith, each-at (λ (o : ℕ). figureOf b o year seconds) k lt)) (omega (arith, each-at (λ (o : ℕ). figureOf b o year weight) k lt)))
 
-  pub value-3 : number ≡ 3
-      → yearlyValue b (numbered number .measure) operator year ≡ over (1000 * figureOf b operator year 3) (figureOf b operator year 2)
-  unfolding numbered electricity yearlyValue
-  value-3 e = rw e refl
-
-  pub value-4 : number ≡ 4
-      → yearlyValue b (numbered number .measure) operator year
-      ≡ over (10 * figureOf b operator year 4 * indexOf b 3) (figureOf b operator year 5 * indexOf b year)
-  unfolding numbered electricity yearlyValue
-  value-4 e = rw e refl
-
-  pub value-5 : number ≡ 5
-      → yearlyValue b (numbered number .measure) operator year
-      ≡ over (10 * figureOf b operator year 6 * indexOf b 3) (figureOf b operator year 7 * indexOf b year)
-  unfolding numbered electricity yearlyValue
-  value-5 e = rw e refl
+  pub fees-same : (fees connections : ℕ)
+      → quotientsBy (10 * indexOf b 3) (figuresOf b year fees) (indexOf b year) (figuresOf b year connections) ≡ yearlyValues b (fee fees connections) year
+  unfolding quotientsBy yearlyValue
+  fees-same fees connections =
+      each-same _ _ (λ k lt. rw (each-at (λ (o : ℕ). figureOf b o year fees) k lt, each-at (λ (o : ℕ). figureOf b o year connections) k lt) (ap₂ over (omega arith) (omega arith)))

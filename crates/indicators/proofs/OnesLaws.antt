@@ -9,19 +9,12 @@ use native.Mathlib.Decide.{decLt}
 use lib.Bits.{bitAnd, and-step, and-shr}
 use lib.Count.{ones, ones-step, ones-le}
 use lib.Dec.{eqb}
-use lib.Pow.{shr-shr, pow-pos}
+use lib.Pow.{pow-pos}
 use borrow.Author.Tests.{eqb-true, eqb-false, eq-eqb, ne-eqb}
 use Rattle.calls.specs.Masks.{has}
-use Rattle.calls.proofs.MaskLaws.{has-zero, same-bits}
+use Rattle.calls.proofs.MaskLaws.{has-zero, has-half, same-bits}
 use Rattle.indicators.specs.Operators.{count}
-use Rattle.indicators.proofs.TableLaws.{count-first, count-same, count-none, some-passes}
-
-has-half : (mask k : ℕ) → has (mask / 2) k ≡ has mask (suc k)
-unfolding has
-has-half mask k =
-    let sum : 1 + k ≡ suc k = omega arith in
-    let shifted : mask / 2 / 2 ^ k ≡ mask / 2 ^ suc k = shr-shr mask 1 k ∙ ap (λ (n : ℕ). mask / 2 ^ n) sum in
-    ap (λ (n : ℕ). eqb (n % 2) 1) shifted
+use Rattle.indicators.proofs.CountLaws.{count-first, count-same, count-none, some-passes}
 
 -- the lowest digit as a number
 first-digit : (mask : ℕ) → cond (has mask 0) 1 0 ≡ mask % 2

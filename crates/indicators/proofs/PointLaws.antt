@@ -22,7 +22,8 @@ use Rattle.indicators.specs.Operators.{count}
 use Rattle.indicators.specs.Indicator.{Indicator, reliableMask, isReliable, joinedCount, reliableCount, pool}
 use Rattle.indicators.specs.Points.{isAbove, isLevelled, aboveWeight, weights, points}
 use Rattle.indicators.specs.Laws.{PointsMadeUp}
-use Rattle.indicators.proofs.TableLaws.{sum-none, count-positive, count-mono, some-passes}
+use Rattle.indicators.proofs.Tables.{sum-none}
+use Rattle.indicators.proofs.CountLaws.{count-positive, count-mono, some-passes}
 use Rattle.indicators.proofs.OnesLaws.{ones-counted, and-has, complement}
 use Rattle.indicators.proofs.WeightLaws.{over-most, over-some, one-above, above-reliable, weights-length, weight-reliable, weight-none, weight-above}
 
@@ -145,6 +146,7 @@ module _ (b : Book) (indicator : Indicator) where
         record {
           joined-counted = joined-counted;
           reliable-counted = reliable-counted;
+          reliable-exactly = reliable-exactly;
           whole = whole;
           others-none = points-none;
           above-alike = above-alike;

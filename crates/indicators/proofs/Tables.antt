@@ -1,79 +1,119 @@
--- Laws of numbers by operator: what stands at a place of a table, and counts.
+-- Laws of numbers by operator: what stands at a place of a table, sums of tables, and arrays filled from the front with a table's values.
 -- Assumes nothing.
-use mathlib.Core.Path.{_≡_, refl, sym, _∙_, ap}
-use mathlib.Core.Bool.{Bool, true, false, cond}
-use mathlib.Core.List.{List, [], _∷_, _++_}
 use Prim.Native.Nat.{ℕ, zero, suc, _+_, _*_, _≤_, _<_}
+use mathlib.Core.Path.{_≡_, refl, sym, _∙_}
+use mathlib.Core.List.{List, [], _∷_, _++_}
 use native.Mathlib.Numerals.{add-one}
 use native.Mathlib.Omega.{arith}
 use native.Mathlib.Decide.{ℕ-discrete, decLt}
-use lib.ListN.{length, getD, set, take, length-append, List·getD-append, List·getD-eq-default}
-use lib.Seq.{getD-append-seam, ext-getD}
+use lib.ListN.{length, getD, set, take, length-set, length-append, List·getD-append, List·getD-eq-default}
+use lib.Seq.{take-suc-set, take-all, getD-at}
 use Rattle.apportion.specs.Sum.{sum}
-use Rattle.apportion.proofs.Fill.{fill-more, filled}
-use Rattle.apportion.proofs.Sums.{sum-bound}
-use Rattle.indicators.specs.Operators.{table, each, count}
+use Rattle.apportion.proofs.Sums.{sum-append, sum-bound, element-le}
+use Rattle.indicators.specs.Operators.{table, each}
 
-pub length-table : {A : Type 0} (n : ℕ) (f : ℕ → A) → length (table n f) ≡ n
+module _ {A : Type 0} (f : ℕ → A) where
+  pub length-table : (n : ℕ) → length (table n f) ≡ n
+  unfolding table
+  length-table zero = refl
+  length-table (suc n) = rw (length-append, length-table n) (omega arith)
+
+  pub table-at : (n k : ℕ) (d : A) → k < n → getD (table n f) k d ≡ f k
+  unfolding table
+  table-at zero k d lt = absurd (omega arith)
+  table-at (suc n) k d lt = go (ℕ-discrete k n) (table-at n k d)
+    where
+      go : Dec (k ≡ n) → (k < n → getD (table n f) k d ≡ f k) → getD (table n f ++ (f n ∷ [])) k d ≡ f k
+      go (yes same) before = rw same (getD-at (table n f) (f n) [] d n (length-table n))
+      go (no other) before =
+          let less : k < n = omega (arith, other) in
+          List·getD-append (table n f) _ d k (rw (length-table n) less) ∙ before less
+
+  -- an array of sixteen that holds the table's values at the first i places
+  pub record Filling (i : ℕ) (out : List A) : Type 0 where
+    pub within : i ≤ 16
+    pub long : length out ≡ 16
+    pub same : take i out ≡ table i f
+
+  pub filling-none : (out : List A) → length out ≡ 16 → Filling 0 out
+  unfolding table
+  filling-none out long = record { within = omega arith; long = long; same = refl }
+
+  -- one place more
+  pub filling-more : {i : ℕ} {out : List A} (v : A) → Filling i out → i < 16 → v ≡ f i → Filling (i + 1) (set out i v)
+  unfolding table
+  filling-more {i} {out} v before lt e =
+      record {
+        within = omega arith;
+        long = length-set out i v ∙ before .long;
+        same = rw (add-one, take-suc-set out i v (omega arith), before .same, e) refl;
+      }
+
+  -- all of them
+  pub filling-all : {i : ℕ} {out : List A} → Filling i out → 16 ≤ i → out ≡ table 16 f
+  filling-all {i} {out} before le =
+      let last : i ≡ 16 = omega arith in
+      sym (take-all 16 out (omega arith)) ∙ (rw last at (before .same))
+
+-- tables of functions that agree
+table-same : {A : Type 0} (f g : ℕ → A) (n : ℕ) → ((k : ℕ) → k < n → f k ≡ g k) → table n f ≡ table n g
 unfolding table
-length-table zero f = refl
-length-table (suc n) f = rw (length-append, length-table n f) (omega arith)
+table-same f g zero same = refl
+table-same f g (suc n) same = rw (table-same f g n (λ k lt. same k (omega arith)), same n (omega arith)) refl
 
-pub table-at : {A : Type 0} (n : ℕ) (f : ℕ → A) (k : ℕ) (d : A) → k < n → getD (table n f) k d ≡ f k
-unfolding table
-table-at zero f k d lt = absurd (omega arith)
-table-at (suc n) f k d lt = go (ℕ-discrete k n) (table-at n f k d)
-  where
-    go : Dec (k ≡ n) → (k < n → getD (table n f) k d ≡ f k) → getD (table n f ++ (f n ∷ [])) k d ≡ f k
-    go (yes same) prior = rw same (ap (λ (i : ℕ). getD (table n f ++ (f n ∷ [])) i d) (sym (length-table n f)) ∙ getD-append-seam (table n f) (f n) [] d)
-    go (no other) prior = List·getD-append (table n f) (f n ∷ []) d k (rw (length-table n f) (omega arith)) ∙ prior (omega arith)
+-- the sum of a table with one more number
+pub table-sum : (f : ℕ → ℕ) (n : ℕ) → sum (table (suc n) f) ≡ sum (table n f) + f n
+unfolding table sum
+table-sum f n = rw sum-append (omega arith)
 
-pub length-each : (f : ℕ → ℕ) → length (each f) ≡ 16
+-- the same for the sixteen operators
+module _ (f : ℕ → ℕ) where
+  pub length-each : length (each f) ≡ 16
+  unfolding each
+  length-each = length-table f 16
+
+  pub each-at : (k : ℕ) → k < 16 → getD (each f) k 0 ≡ f k
+  unfolding each
+  each-at k lt = table-at f 16 k 0 lt
+
+  pub each-same : (g : ℕ → ℕ) → ((k : ℕ) → k < 16 → f k ≡ g k) → each f ≡ each g
+  unfolding each
+  each-same g same = table-same f g 16 same
+
+  -- what stands at a place is at most the sum
+  pub each-le-sum : (k : ℕ) → k < 16 → f k ≤ sum (each f)
+  each-le-sum k lt = omega (arith, element-le (each f) k, each-at k lt)
+
+  -- numbers that stay below a bound
+  module _ (bound : ℕ) (below : (k : ℕ) → k < 16 → f k ≤ bound) where
+    pub each-le : (k : ℕ) → getD (each f) k 0 ≤ bound
+    each-le k = go (decLt k 16)
+      where
+        go : Dec (k < 16) → getD (each f) k 0 ≤ bound
+        go (yes inside) = rw (each-at k inside) (below k inside)
+        go (no outside) =
+            let past : length (each f) ≤ k = omega (arith, length-each, outside) in
+            rw (List·getD-eq-default (each f) 0 past) (omega arith)
+
+    pub sum-each-le : sum (each f) ≤ 16 * bound
+    sum-each-le = rw length-each at (sum-bound (each f) bound (λ k lt. each-le k))
+
+pub filling-each : {f : ℕ → ℕ} {i : ℕ} {out : List ℕ} → Filling f i out → 16 ≤ i → out ≡ each f
 unfolding each
-length-each f = length-table 16 f
+filling-each {f} before le = filling-all f before le
 
-pub each-at : (f : ℕ → ℕ) (k : ℕ) → k < 16 → getD (each f) k 0 ≡ f k
-unfolding each
-each-at f k lt = table-at 16 f k 0 lt
+-- a list of noughts
+pub sum-none : (l : List ℕ) → ((i : ℕ) → i < length l → getD l i 0 ≡ 0) → sum l ≡ 0
+sum-none l none = omega (arith, sum-bound l 0 (λ i lt. omega (arith, none i lt)))
 
--- two tables with the same numbers are the same
-pub each-same : (f g : ℕ → ℕ) → ((k : ℕ) → k < 16 → f k ≡ g k) → each f ≡ each g
-each-same f g same =
-    ext-getD 0 (each f) (each g) (length-each f ∙ sym (length-each g))
-    (λ i lt. let small : i < 16 = rw (← length-each f) lt in each-at f i small ∙ (same i small ∙ sym (each-at g i small)))
-
--- an array filled from the front with a table's numbers
-module _ (f : ℕ → ℕ) (out : List ℕ) (i : ℕ) (long : length out ≡ 16) (so-far : take i out ≡ take i (each f)) where
-  pub each-more : (v : ℕ) → i < 16 → v ≡ f i → take (i + 1) (set out i v) ≡ take (i + 1) (each f)
-  each-more v lt e = fill-more out (each f) i v (omega arith) (omega (arith, length-each f)) so-far (e ∙ sym (each-at f i lt))
-
-  pub each-filled : i ≡ 16 → out ≡ each f
-  each-filled last = filled 16 out (each f) long (length-each f) (rw last at so-far)
-
--- a table whose numbers stay below a bound
-pub sum-each-le : (f : ℕ → ℕ) (bound : ℕ) → ((k : ℕ) → k < 16 → f k ≤ bound) → sum (each f) ≤ 16 * bound
-sum-each-le f bound below =
-    let most = sum-bound (each f) bound (λ k lt. let inside : k < 16 = rw (← length-each f) lt in rw (each-at f k inside) (below k inside)) in
-    rw (length-each f) at most
-
-pub each-le : (f : ℕ → ℕ) (bound : ℕ) → ((k : ℕ) → k < 16 → f k ≤ bound) → (k : ℕ) → getD (each f) k 0 ≤ bound
-each-le f bound below k = go (decLt k 16)
+-- a sum above 0 has a place above 0
+pub some-place : (l : List ℕ) → 0 < sum l → (i : ℕ) × (i < length l) × (0 < getD l i 0)
+unfolding sum
+some-place [] pos = absurd (omega arith)
+some-place (x ∷ l) pos = go (decLt 0 x) (some-place l)
   where
-    go : Dec (k < 16) → getD (each f) k 0 ≤ bound
-    go (yes inside) = rw (each-at f k inside) (below k inside)
-    go (no outside) =
-        let past : length (each f) ≤ k = omega (arith, length-each f, outside) in
-        rw (List·getD-eq-default (each f) 0 past) (omega arith)
-
-pub count-more : (n : ℕ) (test : ℕ → Bool) → count (n + 1) test ≡ count n test + cond (test n) 1 0
-unfolding count
-count-more n test = rw add-one refl
-
-pub count-le : (n : ℕ) (test : ℕ → Bool) → count n test ≤ n
-unfolding count
-count-le zero test = omega arith
-count-le (suc n) test = go (test n) (count-le n test)
-  where
-    go : (t : Bool) → count n test ≤ n → count n test + cond t 1 0 ≤ suc n
-    go true prior = omega arith
-    go false prior = omega arith
+    go : Dec (0 < x) → (0 < sum l → (i : ℕ) × (i < length l) × (0 < getD l i 0)) → (i : ℕ) × (i < length (x ∷ l)) × (0 < getD (x ∷ l) i 0)
+    go (yes head) rest = (0, omega arith, head)
+    go (no nought) rest =
+        let found = rest (omega (arith, nought, pos)) in
+        (suc (found .0), omega (arith, found .1), found .2)

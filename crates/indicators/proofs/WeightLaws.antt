@@ -1,9 +1,9 @@
 -- The weights of an indicator: above 0 for whoever takes part, and small enough to add up in 64 bits.
 -- Assumes nothing.
-use Prim.Native.Nat.{ℕ, zero, suc, _*_, _/_, _≤_, _<_, zero-le}
+use Prim.Native.Nat.{ℕ, _*_, _/_, _≤_, _<_, zero-le}
 use mathlib.Core.Path.{_≡_, refl, _∙_}
 use mathlib.Core.Bool.{Bool, true, false, cond}
-use mathlib.Core.List.{List, [], _∷_}
+use mathlib.Core.List.{List}
 use native.Mathlib.Nat.{div-le-of-le-mul, mul-le-mul-left, mul-le-mul, mul-pos, mul-comm}
 use native.Mathlib.Omega.{arith}
 use lib.ListN.{length, getD}
@@ -16,14 +16,9 @@ use Rattle.calls.proofs.Flags.{and-left}
 use Rattle.indicators.specs.Operators.{count}
 use Rattle.indicators.specs.Indicator.{Indicator, over, isReliable}
 use Rattle.indicators.specs.Points.{largest, scores, normalised, exponentWeight, isAbove, aboveCount, aboveWeight, levelled, linearWeight, isLevelled, weightOfOne, weights}
-use Rattle.indicators.proofs.TableLaws.{cond-le, each-length, each-at, each-le, each-sum-most, count-le, count-positive}
-
--- no element passes the largest
-pub largest-le : (l : List ℕ) (i : ℕ) → getD l i 0 ≤ largest l
-unfolding largest
-largest-le [] i = omega arith
-largest-le (x ∷ l) zero = omega arith
-largest-le (x ∷ l) (suc i) = omega (arith, largest-le l i)
+use Rattle.indicators.proofs.Tables.{length-each, each-at, each-le-sum, sum-each-le}
+use Rattle.indicators.proofs.CountLaws.{cond-le, count-le, count-positive}
+use Rattle.indicators.proofs.Largest.{largest-ge}
 
 -- a quotient, or 0, is at most a number that many times the divisor reaches
 pub over-most : (dividend divisor most : ℕ) → dividend ≤ divisor * most → over dividend divisor ≤ most
@@ -39,7 +34,7 @@ module _ (list : List ℕ) (operator : ℕ) where
   unfolding normalised
   normalised-most parts =
       over-most (parts * getD list operator 0) (largest list) parts
-      (rw (mul-comm (largest list) parts) (mul-le-mul-left parts (largest-le list operator)))
+      (rw (mul-comm (largest list) parts) (mul-le-mul-left parts (largest-ge list operator)))
 
   pub exponent-positive : 0 < exponentWeight list operator
   unfolding exponentWeight
@@ -82,11 +77,11 @@ module _ (b : Book) (indicator : Indicator) where
       → exponentWeight (scores b indicator) operator ≤ aboveWeight b indicator
   unfolding aboveWeight
   above-reaches operator lt above =
-      rw above at (each-le (λ (k : ℕ). cond (isAbove b indicator k) (exponentWeight (scores b indicator) k) 0) operator lt)
+      rw above at (each-le-sum (λ (k : ℕ). cond (isAbove b indicator k) (exponentWeight (scores b indicator) k) 0) operator lt)
 
   above-most : aboveWeight b indicator ≤ 16 * 1000000000
   unfolding aboveWeight
-  above-most = each-sum-most _ 1000000000 (λ k lt. cond-le (isAbove b indicator k) (exponent-most _ k) zero-le)
+  above-most = sum-each-le _ 1000000000 (λ k lt. cond-le (isAbove b indicator k) (exponent-most _ k) zero-le)
 
   pub above-few : aboveCount b indicator ≤ 16
   unfolding aboveCount
@@ -121,7 +116,7 @@ module _ (b : Book) (indicator : Indicator) where
   -- the list of weights
   pub weights-length : length (weights b indicator) ≡ 16
   unfolding weights
-  weights-length = each-length _
+  weights-length = length-each _
 
   pub weight-at : (operator : ℕ) → operator < 16
       → getD (weights b indicator) operator 0 ≡ cond (isReliable b indicator operator) (weightOfOne b indicator operator) 0
@@ -144,4 +139,4 @@ module _ (b : Book) (indicator : Indicator) where
 
   pub weights-sum-most : sum (weights b indicator) ≤ 256000000000
   unfolding weights
-  weights-sum-most = each-sum-most _ 16000000000 (λ k lt. cond-le (isReliable b indicator k) (one-most k) zero-le)
+  weights-sum-most = sum-each-le _ 16000000000 (λ k lt. cond-le (isReliable b indicator k) (one-most k) zero-le)

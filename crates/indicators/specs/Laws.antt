@@ -1,11 +1,11 @@
 -- What holds of an indicator of every book whose joined operators are sixteen bits. Proofs: proofs/PointLaws.antt.
 -- Assumes nothing.
-use Prim.Native.Nat.{ℕ, _+_, _≤_, _<_}
+use Prim.Native.Nat.{ℕ, _+_, _^_, _≤_, _<_}
 use mathlib.Core.Path.{_≡_}
-use mathlib.Core.Bool.{true, false, not}
+use mathlib.Core.Bool.{true, false, not, _&&_}
 use lib.ListN.{getD}
 use Rattle.book.specs.declared.Book.{Book}
-use Rattle.book.specs.Book.{isJoined}
+use Rattle.book.specs.Book.{isJoined, isMarked}
 use Rattle.apportion.specs.Sum.{sum}
 use Rattle.indicators.specs.Operators.{count}
 use Rattle.indicators.specs.Indicator.{Indicator, joinedCount, reliableCount, isReliable, pool}
@@ -15,6 +15,9 @@ pub record PointsMadeUp (b : Book) (indicator : Indicator) : Type 0 where
   -- n and m, ones of masks, are the counts over the operators
   pub joined-counted : joinedCount b ≡ count 16 (isJoined b)
   pub reliable-counted : reliableCount b indicator ≡ count 16 (isReliable b indicator)
+  -- who takes part: the joined operators "without a mark at this indicator"
+  pub reliable-exactly : getD (b .marks) (indicator .number) 0 < 2 ^ 16 → (operator : ℕ) → operator < 16
+      → isReliable b indicator operator ≡ isJoined b operator && not (isMarked b operator (indicator .number))
   -- points add up to the pool
   pub whole : sum (points b indicator) ≡ pool b indicator
   -- who does not take part gets 0

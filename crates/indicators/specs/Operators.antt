@@ -3,6 +3,8 @@
 use Prim.Native.Nat.{ℕ, zero, suc, _+_}
 use mathlib.Core.Bool.{Bool, cond}
 use mathlib.Core.List.{List, [], _∷_, _++_}
+use Rattle.book.specs.declared.Book.{Book}
+use Rattle.book.specs.Book.{figureOf, settingOf}
 
 -- f 0 to f (n - 1)
 unfoldable pub table : {A : Type 0} → ℕ → (ℕ → A) → List A
@@ -12,6 +14,13 @@ table (suc n) f = table n f ++ (f n ∷ [])
 -- a number for each of the sixteen operators
 unfoldable pub each : (ℕ → ℕ) → List ℕ
 each f = table 16 f
+
+-- one setting, and one figure of a year, of each operator
+abbrev pub settingsOf : Book → ℕ → List ℕ
+settingsOf b which = each (λ (operator : ℕ). settingOf b operator which)
+
+abbrev pub figuresOf : Book → ℕ → ℕ → List ℕ
+figuresOf b year figure = each (λ (operator : ℕ). figureOf b operator year figure)
 
 -- how many of the first n pass a test
 unfoldable pub count : ℕ → (ℕ → Bool) → ℕ

@@ -15,8 +15,9 @@ use Rattle.indicators.specs.Operators.{each}
 use Rattle.indicators.specs.Indicator.{Indicator}
 use Rattle.indicators.specs.Points.{allPoints}
 use Rattle.settlement.specs.Money.{accessPoints, returnWeights, limits, capped, balanced}
-use Rattle.settlement.proofs.Tables.{length-each, each-at, each-same}
-use Rattle.settlement.proofs.InRange.{access-at, access-le, limit-product-le}
+use Rattle.indicators.proofs.Tables.{length-each, each-at, each-same}
+use Rattle.settlement.proofs.InRange.{access-at, limit-product-le}
+use Rattle.indicators.proofs.InRange.{points-le}
 use Rattle.settlement.proofs.BalanceLaws.{capped-length, capped-most, balanced-within}
 
 -- sixteen numbers, each with a bound
@@ -39,11 +40,11 @@ module _ (more less limit : List ℕ) (bounded : (k : ℕ) → k < 16 → getD l
 
 module _ (b : Book) (ranged : inRange b ≡ true) where
   pub access-most : (k : ℕ) → k < 16 → getD (accessPoints b) k 0 ≤ 4000000
-  access-most k lt = rw (access-at b k lt) (access-le b ranged k lt)
+  access-most k lt = rw (access-at b k lt) (points-le b ranged k lt)
 
   pub access-sum : sum (accessPoints b) ≤ 64000000
   unfolding accessPoints
-  access-sum = each-sum-le (λ (operator : ℕ). settingOf b operator 1) 4000000 (λ k lt. access-le b ranged k lt)
+  access-sum = each-sum-le (λ (operator : ℕ). settingOf b operator 1) 4000000 (λ k lt. points-le b ranged k lt)
 
   pub limit-most : (k : ℕ) → k < 16 → getD (limits b) k 0 ≤ 2000000000
   unfolding limits

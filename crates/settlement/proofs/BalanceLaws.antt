@@ -11,13 +11,13 @@ use borrow.Author.Tests.{ltb-true, ltb-false}
 use Rattle.apportion.specs.Sum.{sum}
 use Rattle.apportion.specs.Share.{share}
 use Rattle.apportion.proofs.Shared.{shared}
-use Rattle.indicators.proofs.TableLaws.{each-length, each-at}
+use Rattle.indicators.proofs.Tables.{length-each, each-at}
 use Rattle.settlement.specs.Money.{capped, balanced}
 
 module _ (more less limit : List ℕ) where
   pub capped-length : length (capped more less limit) ≡ 16
   unfolding capped
-  capped-length = each-length _
+  capped-length = length-each _
 
   pub capped-most : (operator : ℕ) → operator < 16 → getD (capped more less limit) operator 0 ≤ getD limit operator 0
   unfolding capped

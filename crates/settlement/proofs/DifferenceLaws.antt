@@ -11,7 +11,7 @@ use lib.Seq.{ext-getD}
 use borrow.Author.Tests.{lt-ltb, le-ltb}
 use Rattle.apportion.specs.Sum.{sum}
 use Rattle.indicators.specs.Operators.{table}
-use Rattle.indicators.proofs.TableLaws.{table-length, table-at, table-sum}
+use Rattle.indicators.proofs.Tables.{length-table, table-at, table-sum}
 use Rattle.settlement.specs.Laws.{sumℤ}
 
 -- a difference by its sign
@@ -73,4 +73,4 @@ differences-sum f g (suc n) =
 -- the table of a list's elements is the list
 pub table-of : (l : List ℕ) (n : ℕ) → length l ≡ n → table n (λ (k : ℕ). getD l k 0) ≡ l
 table-of l n long =
-    ext-getD 0 _ l (table-length _ n ∙ sym long) (λ i lt. table-at (λ (k : ℕ). getD l k 0) n i 0 (rw table-length at lt))
+    ext-getD 0 _ l (length-table _ n ∙ sym long) (λ i lt. table-at (λ (k : ℕ). getD l k 0) n i 0 (rw length-table at lt))

@@ -1,4 +1,3 @@
-pub mod Tables
 pub mod InRange
 pub mod Signs
 pub mod DifferenceLaws

@@ -20,16 +20,16 @@ use Rattle.book.proofs.EveryLaws.{each-of-every}
 use Rattle.calls.specs.declared.Refusal.{Refusal}
 use Rattle.calls.specs.declared.Refusal.the-variants.{OutOfRange, NoneJoined, NetworkMissing, AllMarked}
 use Rattle.calls.specs.declared.Answer.the-variants.{Yes, Refused}
-use Rattle.calls.proofs.Flags.{and-other}
+use Rattle.calls.proofs.Flags.{or-right, and-other}
 use Rattle.indicators.specs.Operators.{each}
 use Rattle.indicators.specs.Indicator.{Indicator, electricity, reliableMask, isReliable, pool}
 use Rattle.indicators.specs.Points.{points, allPoints}
-use Rattle.indicators.proofs.TableLaws.{each-le, table-at, some-place}
+use Rattle.indicators.proofs.Tables.{each-le-sum, table-at, some-place}
 use Rattle.indicators.proofs.OnesLaws.{some-one}
 use Rattle.indicators.proofs.PointLaws.{points-made-up, points-length, points-reliable, reliable-joined, reliable-small, pool-above}
 use Rattle.settlement.specs.Money.{accessPoints, pot, contributions, returnWeights, returns, limits, bonuses, maluses, balanced, adjustments}
-use Rattle.settlement.specs.Settlement.{networkMissing, allMarked, settlementBy, refusing, settledBy}
-use Rattle.settlement.specs.Laws.{sumℤ, Worth, Settles, Balanced}
+use Rattle.settlement.specs.Settlement.{networkMissing, allMarked, settlementBy, refusing, settledBy, settled}
+use Rattle.settlement.specs.Laws.{sumℤ, Worth, Settles, Balanced, SettleAlike}
 use Rattle.settlement.proofs.DifferenceLaws.{none-left, difference-most, differences-sum, table-of}
 use Rattle.settlement.proofs.BalanceLaws.{capped-length, capped-most, balanced-length, balanced-sum, balanced-within}
 
@@ -61,10 +61,6 @@ settles-exactly b indicators = (
     go true er false es true en a ea accepted = absurd (refused _ accepted)
     go true er false es false en true ea accepted = absurd (refused _ accepted)
     go true er false es false en false ea accepted = record { in-range = er; somebody = es; network = en; reliable = ea }
-
-or-right : (s t : Bool) → s || t ≡ false → t ≡ false
-or-right true t e = absurd (false≢true (sym e))
-or-right false t e = e
 
 -- a joined operator has access points
 joined-access : (b : Book) → networkMissing b ≡ false → (operator : ℕ) → operator < 16 → isJoined b operator ≡ true → 0 < settingOf b operator 1
@@ -106,7 +102,7 @@ module _ (b : Book) (small : b .joined < 2 ^ 16) where
 
 -- the pot is shared whole by weights of which one is above 0
 shared-whole : (T : ℕ) (f : ℕ → ℕ) (k : ℕ) → k < 16 → 0 < f k → sum (share T (each f)) ≡ T
-shared-whole T f k lt above = shared T (each f) .whole (omega (arith, above, each-le f k lt))
+shared-whole T f k lt above = shared T (each f) .whole (omega (arith, above, each-le-sum f k lt))
 
 contributions-whole : (b : Book) → b .joined < 2 ^ 16 → eqb (b .joined) 0 ≡ false → networkMissing b ≡ false → sum (contributions b) ≡ pot b
 unfolding contributions accessPoints isJoined
@@ -167,3 +163,6 @@ balanced-if-settles b indicators small worth settles =
       adjustments-cancel = adjustments-cancel b indicators;
       within-limits = within-limits b indicators;
     }
+
+pub settle-alike : (b other : Book) → SettleAlike b other
+settle-alike b other same = ap settled same

@@ -20,14 +20,15 @@ use Rattle.calls.proofs.Flags.{and-left}
 use Rattle.indicators.specs.Operators.{each}
 use Rattle.indicators.specs.Indicator.{Indicator, isReliable}
 use Rattle.indicators.specs.Points.{points}
-use Rattle.indicators.proofs.TableLaws.{each-length, each-at}
+use Rattle.indicators.proofs.Tables.{length-each, each-at}
 use Rattle.indicators.proofs.PointLaws.{reliable-joined, points-none}
 use Rattle.settlement.specs.Money.{accessPoints, pot, contributions, returnWeights, returns, limits, adjustments}
+use Rattle.settlement.specs.Laws.{AllNought}
 use Rattle.settlement.proofs.SettledLaws.{within-limits}
 
 -- a share by a weight of 0
 none-shared : (T : ℕ) (f : ℕ → ℕ) (k : ℕ) → k < 16 → f k ≡ 0 → getD (share T (each f)) k 0 ≡ 0
-none-shared T f k lt none = shared T (each f) .none k (rw each-length lt) (each-at f k lt ∙ none)
+none-shared T f k lt none = shared T (each f) .none k (rw length-each lt) (each-at f k lt ∙ none)
 
 -- a number without size
 no-size : (z : ℤ) → natAbs z ≤ 0 → z ≡ pos 0
@@ -35,7 +36,7 @@ no-size (pos n) none = ap pos (omega arith)
 no-size (negsuc n) none = absurd (omega arith)
 
 module _ (b : Book) (ranged : inRange b ≡ true) (operator : ℕ) (lt : operator < 16) (apart : isJoined b operator ≡ false) where
-  pub setting-none : (which : ℕ) → which < 3 → settingOf b operator which ≡ 0
+  setting-none : (which : ℕ) → which < 3 → settingOf b operator which ≡ 0
   unfolding inRange settingsInRange most
   setting-none which small =
       let all : settingsInRange b ≡ true = and-left _ _ (and-left _ _ (and-left _ _ (and-left _ _ ranged))) in
@@ -44,25 +45,35 @@ module _ (b : Book) (ranged : inRange b ≡ true) (operator : ℕ) (lt : operato
       let none : leb (settingOf b operator which) 0 ≡ true = rw apart at test in
       omega (arith, leb-true (settingOf b operator which) 0 none)
 
-  pub points-unjoined : (indicator : Indicator) → getD (points b indicator) operator 0 ≡ 0
+  points-unjoined : (indicator : Indicator) → getD (points b indicator) operator 0 ≡ 0
   points-unjoined indicator = points-none b indicator operator lt (go (isReliable b indicator operator) refl)
     where
       go : (t : Bool) → isReliable b indicator operator ≡ t → isReliable b indicator operator ≡ false
       go true reliable = absurd (false≢true (sym apart ∙ reliable-joined b indicator operator reliable))
       go false marked = marked
 
-  pub contribution-none : getD (contributions b) operator 0 ≡ 0
+  contribution-none : getD (contributions b) operator 0 ≡ 0
   unfolding contributions accessPoints
   contribution-none = none-shared (pot b) _ operator lt (setting-none 1 (omega arith))
 
-  pub limit-none : getD (limits b) operator 0 ≡ 0
+  limit-none : getD (limits b) operator 0 ≡ 0
   unfolding limits
   limit-none = each-at _ operator lt ∙ rw (setting-none 2 (omega arith), mul-zero) (zero-div 1000000)
 
   module _ (indicators : List Indicator) where
-    pub return-none : getD (returns b indicators) operator 0 ≡ 0
+    return-none : getD (returns b indicators) operator 0 ≡ 0
     unfolding returns returnWeights
     return-none = none-shared (pot b) _ operator lt (rw (setting-none 1 (omega arith)) (zero-mul _))
 
-    pub adjustment-none : getD (adjustments b indicators) operator (pos 0) ≡ pos 0
+    adjustment-none : getD (adjustments b indicators) operator (pos 0) ≡ pos 0
     adjustment-none = no-size _ (omega (arith, within-limits b indicators operator lt, limit-none))
+
+    pub all-nought : AllNought b indicators operator
+    all-nought =
+        record {
+          points-nought = points-unjoined;
+          contribution-nought = contribution-none;
+          return-nought = return-none;
+          limit-nought = limit-none;
+          adjustment-nought = adjustment-none;
+        }

@@ -1,4 +1,5 @@
--- What holds of every book that settles, over a list of indicators. Proofs: proofs/SettledLaws.antt.
+-- What holds of every book that settles, over a list of indicators, and of operators not joined. Proofs: proofs/SettledLaws.antt and
+-- proofs/UnjoinedLaws.antt.
 -- Assumes nothing.
 use Prim.Native.Nat.{ℕ, _≤_, _<_}
 use mathlib.Core.Path.{_≡_}
@@ -11,8 +12,9 @@ use Rattle.book.specs.declared.Book.{Book}
 use Rattle.book.specs.Book.{inRange}
 use Rattle.apportion.specs.Sum.{sum}
 use Rattle.indicators.specs.Indicator.{Indicator}
+use Rattle.indicators.specs.Points.{points}
 use Rattle.settlement.specs.Money.{pot, contributions, returns, limits, adjustments}
-use Rattle.settlement.specs.Settlement.{networkMissing, allMarked}
+use Rattle.settlement.specs.Settlement.{networkMissing, allMarked, settled}
 
 unfoldable pub sumℤ : List ℤ → ℤ
 sumℤ [] = pos 0
@@ -37,3 +39,15 @@ module _ (b : Book) (indicators : List Indicator) where
     pub adjustments-cancel : sumℤ (adjustments b indicators) ≡ pos 0
     -- "An adjustment passes its limit when, sign aside, it is the larger": none does
     pub within-limits : (operator : ℕ) → operator < 16 → natAbs (getD (adjustments b indicators) operator (pos 0)) ≤ getD (limits b) operator 0
+
+  -- "it is all 0 .. for operators not joined"
+  pub record AllNought (operator : ℕ) : Type 0 where
+    pub points-nought : (indicator : Indicator) → getD (points b indicator) operator 0 ≡ 0
+    pub contribution-nought : getD (contributions b) operator 0 ≡ 0
+    pub return-nought : getD (returns b indicators) operator 0 ≡ 0
+    pub limit-nought : getD (limits b) operator 0 ≡ 0
+    pub adjustment-nought : getD (adjustments b indicators) operator (pos 0) ≡ pos 0
+
+-- equal books give equal settlements or the same refusal
+abbrev pub SettleAlike : Book → Book → Type 0
+SettleAlike b other = b ≡ other → settled b ≡ settled other

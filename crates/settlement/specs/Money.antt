@@ -10,13 +10,9 @@ use Rattle.book.specs.declared.Book.{Book}
 use Rattle.book.specs.Book.{settingOf}
 use Rattle.apportion.specs.Sum.{sum}
 use Rattle.apportion.specs.Share.{share}
-use Rattle.indicators.specs.Operators.{table, each}
+use Rattle.indicators.specs.Operators.{table, each, settingsOf}
 use Rattle.indicators.specs.Indicator.{Indicator}
 use Rattle.indicators.specs.Points.{allPoints}
-
--- one setting of each operator
-abbrev pub settingsOf : Book → ℕ → List ℕ
-settingsOf b which = each (λ (operator : ℕ). settingOf b operator which)
 
 unfoldable pub accessPoints : Book → List ℕ
 accessPoints b = settingsOf b 1

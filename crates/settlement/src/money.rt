@@ -7,26 +7,13 @@ ghost use lib.ListN.{getD};
 ghost use Rattle.apportion.specs.Sum.{sum};
 ghost use Rattle.book.specs.Book.{inRange};
 ghost use Rattle.indicators.specs.Operators.{table, each};
-ghost use Rattle.settlement.specs.Money.{settingsOf, accessPoints, incomes, pot, limits, capped, balanced};
+ghost use Rattle.settlement.specs.Money.{accessPoints, incomes, pot, limits, capped, balanced};
 use apportion::share;
 use apportion::total;
 use book::Book;
-use book::setting_of;
+use indicators::settings_of;
 
 const MILLION: u64 = 1000000;
-
-// One setting of each operator.
-fn settings_of(b: Book, which: u8) -> [u64; 16]
-    ensures { λ r. ⌜ r ≡ settingsOf b which ⌝ }
-{
-    let mut out = [0u64; 16];
-    let mut operator: u8 = 0;
-    while operator < 16 {
-        out[operator as usize] = setting_of(b, operator, which);
-        operator += 1;
-    }
-    out
-}
 
 pub(crate) fn access_points_of(b: Book) -> [u64; 16]
     ensures { λ r. ⌜ r ≡ accessPoints b ⌝ }

@@ -5,7 +5,7 @@ use native.Mathlib.Omega.{arith}
 use Rattle.apportion.specs.Sum.{sum}
 use Rattle.indicators.specs.Indicator.{numbered}
 use Rattle.indicators.specs.Points.{points}
-use Rattle.indicators.proofs.Weighting.{weights-sum-le}
+use Rattle.indicators.proofs.WeightLaws.{weights-sum-most}
 use borrow.Author.Needs.{needs}
 use Rattle.indicators.proofs.pools.points_of.Statement.{statement}
 use Rattle.indicators.proofs.pools.points_of.Tie as tie
@@ -19,7 +19,7 @@ weights-of-requires c κs = search needs
 share-requires : tie.Need-share-requires
 share-requires c κs =
     let start = c .before .before in
-    omega (arith, c .before .pool-of .ensures .1, ap sum (c .weights-of .ensures), weights-sum-le (start .args .b) (numbered (start .args .number)))
+    omega (arith, c .before .pool-of .ensures .1, ap sum (c .weights-of .ensures), weights-sum-most (start .args .b) (numbered (start .args .number)))
 
 returns : tie.Need-returns
 unfolding points

@@ -1,34 +1,75 @@
 -- `indicators::values::scores_of` meets its contract. The loop's invariant: the places passed hold their scores.
 -- Assumes nothing.
 use borrow.Author.Needs.{needs}
-use mathlib.Core.Path.{_≡_, refl, sym, _∙_}
-use Prim.Native.Nat.{_-_, _<_, _≤_}
 use native.Mathlib.Omega.{arith}
-use lib.ListN.{length, take, length-set}
-use Rattle.apportion.proofs.Fill.{fill-more, filled}
-use Rattle.indicators.specs.Indicator.{numbered}
-use Rattle.indicators.specs.Points.{scores}
-use Rattle.indicators.proofs.Scores.{length-scores, score-at}
+use mathlib.Core.Path.{refl, _∙_}
+use mathlib.Core.Bool.{cond}
+use Prim.Native.Nat.{ℕ, _+_, _-_}
+use lib.ListN.{getD}
+use Rattle.calls.specs.Masks.{has}
+use Rattle.indicators.specs.Indicator.{numbered, threeYears, isReliable, yearlyValue}
+use Rattle.indicators.specs.Points.{scoreOf, scores}
+use Rattle.indicators.proofs.Tables.{Filling, filling-none, filling-more, filling-each, each-at, each-same}
+use Rattle.indicators.proofs.Scores.{yearlies-le}
 use Rattle.indicators.proofs.values.scores_of.Statement.{statement}
 use Rattle.indicators.proofs.values.scores_of.Tie as tie
+use Rattle.indicators.proofs.values.scores_of.Reads as reads
+use Rattle.indicators.proofs.values.scores_of.Lts as lts
+use Rattle.indicators.proofs.values.reliable_mask.Reads as reliable-mask-reads
+use Rattle.indicators.proofs.values.score.Reads as score-reads
+use Rattle.indicators.proofs.values.yearly_values.Reads as yearly-values-reads
 
 abbrev Inv-loop : tie.InvT-loop
-Inv-loop b number mask list₀ operator₀ list operator = (operator ≤ 16) × (length list ≡ 16) × (take operator list ≡ take operator (scores b (numbered number)))
+Inv-loop number mask first second third list₀ i₀ list i = Filling (λ (k : ℕ). cond (has mask k) (getD first k 0 + getD second k 0 + getD third k 0) 0) i list
 
 abbrev μ-loop : tie.MeasureT-loop
-μ-loop b number mask list₀ operator₀ list operator = 16 - operator
+μ-loop number mask first second third list₀ i₀ list i = 16 - i
 
 reliable-mask-requires : tie.Need-reliable-mask-requires Inv-loop μ-loop
 reliable-mask-requires c κs = search needs
 
+yearly-values-requires : tie.Need-yearly-values-requires Inv-loop μ-loop
+yearly-values-requires c κs = search needs
+
+yearly-values-requires-2 : tie.Need-yearly-values-requires-2 Inv-loop μ-loop
+yearly-values-requires-2 c κs = search needs
+
+yearly-values-requires-3 : tie.Need-yearly-values-requires-3 Inv-loop μ-loop
+yearly-values-requires-3 c κs = search needs
+
 loop-holds : tie.Need-loop-holds Inv-loop μ-loop
-loop-holds c = (omega arith, refl, refl)
+loop-holds c = filling-none _ _ refl
+
+cast-score : tie.Need-cast-score Inv-loop μ-loop
+cast-score c = omega arith
+
+mul-score : tie.Need-mul-score Inv-loop μ-loop
+mul-score c = omega arith
+
+array-read-score : tie.Need-array-read-score Inv-loop μ-loop
+array-read-score c = omega arith
+
+mul-score-2 : tie.Need-mul-score-2 Inv-loop μ-loop
+mul-score-2 c = omega arith
+
+array-read-score-2 : tie.Need-array-read-score-2 Inv-loop μ-loop
+array-read-score-2 c = omega arith
+
+mul-score-3 : tie.Need-mul-score-3 Inv-loop μ-loop
+mul-score-3 c = omega arith
+
+array-read-score-3 : tie.Need-array-read-score-3 Inv-loop μ-loop
+array-read-score-3 c = omega arith
 
 score-requires : tie.Need-score-requires Inv-loop μ-loop
-score-requires c κs = search needs
-
-cast-list : tie.Need-cast-list Inv-loop μ-loop
-cast-list c = omega arith
+score-requires c κs =
+    let start = c .before .before .before .before .before .before in
+    let small = yearlies-le (start .args .b) (start .pre .0) (start .args .number) in
+    let i = c .before .loop .i in (
+      rw (c .before .before .before .before .yearly-values .ensures) (small 0 (start .pre .1) (omega arith) i),
+      rw (c .before .before .before .yearly-values2 .ensures) (small 1 (start .pre .1) (omega arith) i),
+      rw (c .before .before .yearly-values3 .ensures) (small 2 (start .pre .1) (omega arith) i),
+    )
 
 mul-list : tie.Need-mul-list Inv-loop μ-loop
 mul-list c = omega arith
@@ -36,31 +77,31 @@ mul-list c = omega arith
 array-write-list : tie.Need-array-write-list Inv-loop μ-loop
 array-write-list c = omega arith
 
-add-operator : tie.Need-add-operator Inv-loop μ-loop
-add-operator c = omega arith
+add-i : tie.Need-add-i Inv-loop μ-loop
+add-i c = omega arith
 
 loop-less : tie.Need-loop-less Inv-loop μ-loop
 loop-less c = omega arith
 
 loop-again : tie.Need-loop-again Inv-loop μ-loop
-loop-again c =
-    let start = c .before .before .before .before in
-    let here = c .before .before .loop in
-    let indicator = numbered (start .args .number) in
-    let goal = scores (start .args .b) indicator in
-    let low : here .operator < 16 = omega arith in (
-      omega arith,
-      length-set (here .list) (here .operator) _ ∙ here .inv .1,
-      fill-more (here .list) goal (here .operator) _ (omega arith) (omega (arith, length-scores (start .args .b) indicator)) (here .inv .2)
-          (c .score .ensures ∙ sym (score-at (start .args .b) indicator (here .operator) low)),
-    )
+loop-again c = filling-more _ _ (c .before .before .loop .inv) (omega arith) (c .score .ensures)
 
 returns : tie.Need-returns Inv-loop μ-loop
+unfolding scores scoreOf isReliable threeYears
 returns c =
-    let start = c .before .before .before in
-    let here = c .before .loop in
-    let last : here .operator ≡ 16 = omega arith in
-    filled 16 _ _ (here .inv .1) (length-scores (start .args .b) (numbered (start .args .number))) (rw last at (here .inv .2))
+    let start = c .before .before .before .before .before .before in
+    let value : ℕ → ℕ → ℕ = λ year k. yearlyValue (start .args .b) (numbered (start .args .number) .measure) k year in
+    filling-each (c .before .loop .inv) (omega arith)
+    ∙ each-same _ _
+    (λ k lt. rw (
+      c .before .before .before .before .before .reliable-mask .ensures,
+      c .before .before .before .before .yearly-values .ensures,
+      c .before .before .before .yearly-values2 .ensures,
+      c .before .before .yearly-values3 .ensures,
+      each-at (value 0) k lt,
+      each-at (value 1) k lt,
+      each-at (value 2) k lt,
+    ) refl)
 
 pub scores-of-spec : {M : Type 1} → statement M
 scores-of-spec =
@@ -69,12 +110,21 @@ scores-of-spec =
     Inv-loop
     μ-loop
     reliable-mask-requires
+    yearly-values-requires
+    yearly-values-requires-2
+    yearly-values-requires-3
     loop-holds
+    cast-score
+    mul-score
+    array-read-score
+    mul-score-2
+    array-read-score-2
+    mul-score-3
+    array-read-score-3
     score-requires
-    cast-list
     mul-list
     array-write-list
-    add-operator
+    add-i
     loop-less
     loop-again
     returns)

@@ -2,20 +2,17 @@
 -- Assumes nothing.
 use borrow.Author.Needs.{needs}
 use mathlib.Core.Path.{_≡_, refl, _∙_, ap}
-use Prim.Native.Nat.{_-_, _≤_}
+use Prim.Native.Nat.{_-_}
 use native.Mathlib.Omega.{arith}
-use lib.ListN.{length}
-use Rattle.indicators.specs.Operators.{each}
 use Rattle.indicators.specs.Points.{normalised, exponentWeight}
-use Rattle.indicators.proofs.Tables.{each-more, each-filled}
+use Rattle.indicators.proofs.Tables.{Filling, filling-none, filling-more, filling-each}
 use Rattle.indicators.proofs.Largest.{largest-ge, largest-le}
-use lib.ListN.{take, length-set}
 use Rattle.exponent.specs.Weight.{weightOf}
 use Rattle.indicators.proofs.weights.exponent_weights.Statement.{statement}
 use Rattle.indicators.proofs.weights.exponent_weights.Tie as tie
 
 abbrev Inv-loop : tie.InvT-loop
-Inv-loop scores top weights₀ i₀ weights i = (i ≤ 16) × (length weights ≡ 16) × (take i weights ≡ take i (each (exponentWeight scores)))
+Inv-loop scores top weights₀ i₀ weights i = Filling (exponentWeight scores) i weights
 
 abbrev μ-loop : tie.MeasureT-loop
 μ-loop scores top weights₀ i₀ weights i = 16 - i
@@ -24,7 +21,7 @@ largest-of-requires : tie.Need-largest-of-requires Inv-loop μ-loop
 largest-of-requires c κs = search needs
 
 loop-holds : tie.Need-loop-holds Inv-loop μ-loop
-loop-holds c = (omega arith, refl, refl)
+loop-holds c = filling-none _ _ refl
 
 mul-normalise : tie.Need-mul-normalise Inv-loop μ-loop
 mul-normalise c = omega arith
@@ -60,16 +57,13 @@ loop-again c =
     let scores = c .before .before .before .before .before .args .t1 in
     let here = c .before .before .before .loop in
     let top = c .before .before .before .before .largest-of .ensures in
-    let value : c .weight .result ≡ exponentWeight scores (here .i) = c .weight .ensures ∙ ap weightOf (rw top at (c .before .normalise .ensures .0)) in (
-      omega arith,
-      length-set (here .weights) (here .i) _ ∙ here .inv .1,
-      each-more (exponentWeight scores) (here .weights) (here .i) (here .inv .1) (here .inv .2) _ (omega arith) value,
-    )
+    let value : c .weight .result ≡ exponentWeight scores (here .i) = c .weight .ensures ∙ ap weightOf (rw top at (c .before .normalise .ensures .0)) in
+    filling-more _ _ (here .inv) (omega arith) value
 
 returns : tie.Need-returns Inv-loop μ-loop
 returns c =
     let here = c .before .loop in
-    each-filled (exponentWeight (c .before .before .before .args .t1)) (here .weights) (here .i) (here .inv .1) (here .inv .2) (omega arith)
+    filling-each (here .inv) (omega arith)
 
 pub exponent-weights-spec : {M : Type 1} → statement M
 exponent-weights-spec =

@@ -1,7 +1,7 @@
 -- `indicators::weights::levelled_weights` meets its contract: the operators passed have their weights.
 -- Assumes nothing.
 use borrow.Author.Needs.{needs}
-use mathlib.Core.Path.{_≡_, refl, _∙_}
+use mathlib.Core.Path.{_≡_, refl}
 use Prim.Native.Nat.{ℕ, _-_, _≤_}
 use native.Mathlib.Omega.{arith}
 use lib.ListN.{length, getD}
@@ -9,8 +9,7 @@ use Rattle.apportion.specs.Sum.{sum}
 use Rattle.indicators.specs.Operators.{each}
 use Rattle.indicators.specs.Points.{exponentWeight}
 use Rattle.indicators.specs.Steps.{aboveIn, levelledAt, levelledIn}
-use Rattle.indicators.proofs.Tables.{each-at, each-more, each-filled}
-use lib.ListN.{take, length-set}
+use Rattle.indicators.proofs.Tables.{Filling, filling-none, filling-more, filling-each, each-at}
 use Rattle.apportion.proofs.Sums.{sum-bound}
 use mathlib.Core.List.{List}
 use Rattle.exponent.proofs.Laws.{weight-most}
@@ -19,7 +18,7 @@ use Rattle.indicators.proofs.weights.levelled_weights.Statement.{statem
 use Rattle.indicators.proofs.weights.levelled_weights.Tie as tie
 
 abbrev Inv-loop : tie.InvT-loop
-Inv-loop mask scores own sum g together weights₀ i₀ weights i = (i ≤ 16) × (length weights ≡ 16) × (take i weights ≡ take i (each (levelledAt mask scores)))
+Inv-loop mask scores own sum g together weights₀ i₀ weights i = Filling (levelledAt mask scores) i weights
 
 abbrev μ-loop : tie.MeasureT-loop
 μ-loop mask scores own sum g together weights₀ i₀ weights i = 16 - i
@@ -45,7 +44,7 @@ weigh-above-requires : tie.Need-weigh-above-requires Inv-loop μ-loop
 weigh-above-requires c κs = (c .before .before .before .pre, c .before .total .ensures, own-most (c .before .before .before .args .t2) _ (c .before .before .exponent-weights .ensures))
 
 loop-holds : tie.Need-loop-holds Inv-loop μ-loop
-loop-holds c = (omega arith, refl, refl)
+loop-holds c = filling-none _ _ refl
 
 mul-levelled-weight : tie.Need-mul-levelled-weight Inv-loop μ-loop
 mul-levelled-weight c = omega arith
@@ -100,18 +99,15 @@ loop-again c =
       own,
       each-at (exponentWeight scores) (here .i) (omega arith),
     )
-    at (c .levelled-weight .ensures) in (
-      omega arith,
-      length-set (here .weights) (here .i) _ ∙ here .inv .1,
-      each-more f (here .weights) (here .i) (here .inv .1) (here .inv .2) _ (omega arith) value,
-    )
+    at (c .levelled-weight .ensures) in
+    filling-more _ _ (here .inv) (omega arith) value
 
 returns : tie.Need-returns Inv-loop μ-loop
 unfolding levelledIn
 returns c =
     let begun = c .before .before .before .before .before .before in
     let here = c .before .loop in
-    each-filled (levelledAt (begun .args .mask) (begun .args .t2)) (here .weights) (here .i) (here .inv .1) (here .inv .2) (omega arith)
+    filling-each (here .inv) (omega arith)
 
 pub levelled-weights-spec : {M : Type 1} → statement M
 levelled-weights-spec =

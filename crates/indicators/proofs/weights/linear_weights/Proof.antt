@@ -1,21 +1,18 @@
 -- `indicators::weights::linear_weights` meets its contract: the operators passed have their weights.
 -- Assumes nothing.
 use borrow.Author.Needs.{needs}
-use mathlib.Core.Path.{_≡_, refl, _∙_}
-use Prim.Native.Nat.{_-_, _≤_}
+use mathlib.Core.Path.{_≡_, refl}
+use Prim.Native.Nat.{_-_}
 use native.Mathlib.Omega.{arith}
-use lib.ListN.{length}
-use Rattle.indicators.specs.Operators.{each}
 use Rattle.indicators.specs.Points.{normalised, linearWeight}
 use Rattle.indicators.specs.Steps.{linearAt, linearIn}
-use Rattle.indicators.proofs.Tables.{each-more, each-filled}
+use Rattle.indicators.proofs.Tables.{Filling, filling-none, filling-more, filling-each}
 use Rattle.indicators.proofs.Largest.{largest-ge, largest-le}
-use lib.ListN.{take, length-set}
 use Rattle.indicators.proofs.weights.linear_weights.Statement.{statement}
 use Rattle.indicators.proofs.weights.linear_weights.Tie as tie
 
 abbrev Inv-loop : tie.InvT-loop
-Inv-loop mask scores top weights₀ i₀ weights i = (i ≤ 16) × (length weights ≡ 16) × (take i weights ≡ take i (each (linearAt mask scores)))
+Inv-loop mask scores top weights₀ i₀ weights i = Filling (linearAt mask scores) i weights
 
 abbrev μ-loop : tie.MeasureT-loop
 μ-loop mask scores top weights₀ i₀ weights i = 16 - i
@@ -24,7 +21,7 @@ largest-of-requires : tie.Need-largest-of-requires Inv-loop μ-loop
 largest-of-requires c κs = search needs
 
 loop-holds : tie.Need-loop-holds Inv-loop μ-loop
-loop-holds c = (omega arith, refl, refl)
+loop-holds c = filling-none _ _ refl
 
 mul-linear-weight : tie.Need-mul-linear-weight Inv-loop μ-loop
 mul-linear-weight c = omega arith
@@ -60,18 +57,15 @@ loop-again c =
     let begun = c .before .before .before .before in
     let f = linearAt (begun .args .mask) (begun .args .t2) in
     let here = c .before .before .loop in
-    let value : c .linear-weight .result ≡ f (here .i) = rw (c .before .before .before .largest-of .ensures) at (c .linear-weight .ensures) in (
-      omega arith,
-      length-set (here .weights) (here .i) _ ∙ here .inv .1,
-      each-more f (here .weights) (here .i) (here .inv .1) (here .inv .2) _ (omega arith) value,
-    )
+    let value : c .linear-weight .result ≡ f (here .i) = rw (c .before .before .before .largest-of .ensures) at (c .linear-weight .ensures) in
+    filling-more _ _ (here .inv) (omega arith) value
 
 returns : tie.Need-returns Inv-loop μ-loop
 unfolding linearIn
 returns c =
     let begun = c .before .before .before in
     let here = c .before .loop in
-    each-filled (linearAt (begun .args .mask) (begun .args .t2)) (here .weights) (here .i) (here .inv .1) (here .inv .2) (omega arith)
+    filling-each (here .inv) (omega arith)
 
 pub linear-weights-spec : {M : Type 1} → statement M
 linear-weights-spec =

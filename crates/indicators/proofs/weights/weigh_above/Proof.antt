@@ -4,26 +4,24 @@ use mathlib.Core.Path.{_≡_, refl, _∙_, ap}
 use mathlib.Core.Bool.{true, false}
 use Prim.Native.Nat.{ℕ, _-_, _≤_}
 use native.Mathlib.Omega.{arith}
-use lib.ListN.{length, getD}
+use lib.ListN.{getD}
 use mathlib.Core.Bool.{cond}
 use Rattle.apportion.specs.Sum.{sum}
-use Rattle.indicators.specs.Operators.{each}
 use Rattle.indicators.specs.Steps.{Weighed, aboveIn, weightIfAbove, aboveSum}
-use Rattle.indicators.proofs.Tables.{each-more, each-filled, sum-each-le}
-use lib.ListN.{take, length-set}
+use Rattle.indicators.proofs.Tables.{Filling, filling-none, filling-more, filling-each, sum-each-le}
 use mathlib.Core.List.{List}
 use mathlib.Core.Bool.{Bool}
 use Rattle.indicators.proofs.weights.weigh_above.Statement.{statement}
 use Rattle.indicators.proofs.weights.weigh_above.Tie as tie
 
 abbrev Inv-loop : tie.InvT-loop
-Inv-loop mask sum scores own counted₀ i₀ counted i = (i ≤ 16) × (length counted ≡ 16) × (take i counted ≡ take i (each (weightIfAbove mask scores own)))
+Inv-loop mask sum scores own counted₀ i₀ counted i = Filling (weightIfAbove mask scores own) i counted
 
 abbrev μ-loop : tie.MeasureT-loop
 μ-loop mask sum scores own counted₀ i₀ counted i = 16 - i
 
 loop-holds : tie.Need-loop-holds Inv-loop μ-loop
-loop-holds c = (omega arith, refl, refl)
+loop-holds c = filling-none _ _ refl
 
 mul-weight-if-above : tie.Need-mul-weight-if-above Inv-loop μ-loop
 mul-weight-if-above c = omega arith
@@ -61,11 +59,8 @@ loop-again c =
     let start = c .before .before .before in
     let here = c .before .before .loop in
     let f = weightIfAbove (start .args .mask) (start .args .t2) (start .args .t4) in
-    let value : c .weight-if-above .result ≡ f (here .i) = rw (start .pre .1) at (c .weight-if-above .ensures) in (
-      omega arith,
-      length-set (here .counted) (here .i) _ ∙ here .inv .1,
-      each-more f (here .counted) (here .i) (here .inv .1) (here .inv .2) _ (omega arith) value,
-    )
+    let value : c .weight-if-above .result ≡ f (here .i) = rw (start .pre .1) at (c .weight-if-above .ensures) in
+    filling-more _ _ (here .inv) (omega arith) value
 
 -- a weight or 0 is at most the table's first
 small : (mask : ℕ) (list own : List ℕ) → Weighed own → (k : ℕ) → weightIfAbove mask list own k ≤ 1000000000
@@ -81,7 +76,7 @@ total-requires c κs =
     let start = c .before .before in
     let here = c .before .loop in
     let f = weightIfAbove (start .args .mask) (start .args .t2) (start .args .t4) in
-    rw (each-filled f (here .counted) (here .i) (here .inv .1) (here .inv .2) (omega arith))
+    rw (filling-each (here .inv) (omega arith))
     (omega (arith, sum-each-le f 1000000000 (λ k lt. small (start .args .mask) (start .args .t2) (start .args .t4) (start .pre .2) k)))
 
 returns : tie.Need-returns Inv-loop μ-loop
@@ -90,7 +85,7 @@ returns c =
     let start = c .before .before .before in
     let here = c .before .before .loop in
     let f = weightIfAbove (start .args .mask) (start .args .t2) (start .args .t4) in
-    c .total .ensures ∙ ap sum (each-filled f (here .counted) (here .i) (here .inv .1) (here .inv .2) (omega arith))
+    c .total .ensures ∙ ap sum (filling-each (here .inv) (omega arith))
 
 pub weigh-above-spec : {M : Type 1} → statement M
 weigh-above-spec =

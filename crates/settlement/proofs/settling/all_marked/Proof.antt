@@ -4,7 +4,7 @@ use mathlib.Core.Path.{_≡_, refl, sym, _∙_}
 use Prim.Native.Nat.{ℕ, _+_, _-_, _≤_, _<_}
 use native.Mathlib.Omega.{arith}
 use borrow.Author.Tests.{eq-eqb, ne-eqb}
-use Rattle.settlement.specs.Settlement.{allMarked, nothing}
+use Rattle.settlement.specs.Settlement.{allMarked}
 use lib.ListN.{drop}
 use mathlib.Core.List.{_∷_}
 use lib.Seq.{drop-cons}

@@ -3,7 +3,6 @@
 use mathlib.Core.Path.{refl, sym, _∙_}
 use borrow.Author.Tests.{eq-eqb, ne-eqb}
 use Rattle.calls.proofs.Flags.{denied, granted}
-use Rattle.settlement.specs.Settlement.{nothing}
 use borrow.Author.Needs.{needs}
 use Rattle.settlement.proofs.settling.lacks_network.Statement.{statement}
 use Rattle.settlement.proofs.settling.lacks_network.Tie as tie

@@ -9,7 +9,7 @@ use lib.Dec.{eqb}
 use mathlib.Core.Bool.{_||_}
 use Rattle.book.specs.Book.{isJoined, settingOf}
 use Rattle.book.proofs.EveryLaws.{every-of-each, every-fails}
-use Rattle.settlement.specs.Settlement.{networkMissing, nothing}
+use Rattle.settlement.specs.Settlement.{networkMissing}
 use borrow.Author.Count.{below-more}
 use Rattle.settlement.proofs.settling.network_missing.Statement.{statement}
 use Rattle.settlement.proofs.settling.network_missing.Tie as tie

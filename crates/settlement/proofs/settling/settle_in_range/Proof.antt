@@ -3,7 +3,7 @@
 use mathlib.Core.Path.{_≡_, refl, _∙_, ap}
 use Prim.Native.Nat.{_≤_}
 use native.Mathlib.Omega.{arith}
-use Rattle.settlement.specs.Settlement.{nothing, settlementBy}
+use Rattle.settlement.specs.Settlement.{settlementBy}
 use Rattle.settlement.specs.Steps.{adjustedBy}
 use Rattle.settlement.specs.Money.{contributions, returns as Money·returns, bonuses, maluses, adjustments}
 use Rattle.settlement.proofs.Amounts.{access-most, access-sum, limit-most, weights-same, weights-sum}

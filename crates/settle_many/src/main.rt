@@ -1,0 +1,68 @@
+// Settles a full book of sixteen operators as often as it has arguments, each time with another income, and prints one number made of
+// all adjustments. It is for counting the instructions of one settlement: docs/ARCHITECTURE.md says how.
+ghost use Prim.Native.Nat.{_<_};
+use book::Book;
+use calls::Answer;
+
+fn main() {
+    let b = full_book();
+    let times = os::arg_count();
+    let mut sum = 0u64;
+    let mut i = 0;
+    while i < times {
+        sum = std::num::wrapping_add_u64(sum, settled(b, i));
+        i += 1;
+    }
+    io::print_decimal(1, sum);
+}
+
+// The settlement of the book with one income changed, folded into a number.
+fn settled(b: Book, i: usize) -> u64 {
+    let mut next = b;
+    next.settings[2] = 1000000000 + (i % 1000) as u64;
+    let s = settlement::settle(next);
+    let answer = s.answer;
+    match answer {
+        Answer::Yes => {
+            let numbers = s.settlement;
+            let returns = numbers.returns;
+            returns[0]
+        }
+        _ => 0,
+    }
+}
+
+// Sixteen operators with large and distinct values.
+fn full_book() -> Book {
+    let mut b = book::fresh();
+    b.joined = 65535;
+    let list = settings();
+    b.settings = list;
+    let amounts = figures();
+    b.figures = amounts;
+    b.pot = 20000;
+    b.cap = 10000;
+    b
+}
+
+fn settings() -> [u64; 48] {
+    let mut list = [0u64; 48];
+    let mut i = 0;
+    while i < 16 {
+        list[3 * i] = 1000 + 37 * i as u64;
+        list[3 * i + 1] = 4000000 - 10007 * i as u64;
+        list[3 * i + 2] = 100000000000 - 12345 * i as u64;
+        i += 1;
+    }
+    list
+}
+
+fn figures() -> [u64; 384] {
+    let mut list = [0u64; 384];
+    let mut i = 0;
+    while i < 384 {
+        list[i] = 100000000000 - 1234567 * i as u64;
+        i += 1;
+    }
+    list
+}
