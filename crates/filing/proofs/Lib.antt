@@ -1,3 +1,4 @@
 pub mod NumberLaws
 pub mod TagLaws
 pub mod FieldLaws
+pub mod WalkLaws

@@ -2,12 +2,14 @@
 mod contents;
 mod fields;
 mod numbers;
+mod reader;
 
 use book::Book;
 use calls::Answer;
 use calls::Call;
 use calls::Refusal;
 pub use fields::field_at;
+pub use reader::read;
 
 // What stands in a filing at an offset.
 pub enum Field {
