@@ -14,16 +14,16 @@ pub(crate) fn unsigned_at(bytes: &[u8], at: usize, width: usize) -> u64
     ensures { λ r. ⌜ (r ≡ unsigned width (now (bytes .entry)) at) × (r < 256 ^ width) ⌝ }
 {
     let mut number: u64 = 0;
-    let mut done = 0;
-    while done < width {
-        number = number * 256 + wide(bytes[at + done]);
-        done += 1;
+    let mut left = width;
+    while 0 < left {
+        number = number * 256 + wide(bytes[at + width - left]);
+        left -= 1;
     }
     number
 }
 
 fn wide(byte: u8) -> u64
-    ensures { λ r. ⌜ r ≡ byte ⌝ }
+    ensures { λ r. ⌜ (r ≡ byte) × (r < 256) ⌝ }
 {
     byte as u64
 }

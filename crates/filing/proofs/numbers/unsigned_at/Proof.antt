@@ -1,6 +1,7 @@
--- `filing::numbers::unsigned_at` meets its contract.
+-- `filing::numbers::unsigned_at` meets its contract. The loop's invariant: the number is that of the bytes passed, and fits
+-- in as many bytes.
 -- Assumes nothing.
-use Prim.Native.Nat.{_+_, _-_, _^_, _≤_, _<_}
+use Prim.Native.Nat.{ℕ, _+_, _-_, _^_, _≤_, _<_}
 use mathlib.Core.Path.{_≡_, refl}
 use native.Mathlib.Omega.{arith}
 use borrow.Author.Needs.{needs}
@@ -10,20 +11,27 @@ use Rattle.filing.proofs.numbers.unsigned_at.Statement.{statement}
 use Rattle.filing.proofs.numbers.unsigned_at.Tie as tie
 
 abbrev Inv-loop : tie.InvT-loop
-Inv-loop bytes at width number₀ done₀ number done = (done ≤ width) × (number ≡ unsigned done bytes at) × (number < 256 ^ done)
+Inv-loop bytes at width number₀ left₀ number left = (left ≤ width) × (number ≡ unsigned (width - left) bytes at) × (number < 256 ^ (width - left))
 
 abbrev μ-loop : tie.MeasureT-loop
-μ-loop bytes at width number₀ done₀ number done = width - done
+μ-loop bytes at width number₀ left₀ number left = left
 
 loop-holds : tie.Need-loop-holds Inv-loop μ-loop
 unfolding unsigned bigEndian
-loop-holds c = (search needs, refl, search needs)
+loop-holds c =
+    let none : c .before .args .width - c .before .args .width ≡ 0 = omega arith in
+    rw none (search needs, refl, search needs)
 
 mul-number : tie.Need-mul-number Inv-loop μ-loop
-mul-number c = let fits = power-fits (c .before .loop .done) (omega arith) in record { fits = omega (arith, fits) }
+mul-number c =
+    let fits = power-fits (c .before .before .before .args .width - c .before .loop .left) (omega arith) in
+    record { fits = omega (arith, fits) }
 
 add-wide : tie.Need-add-wide Inv-loop μ-loop
 add-wide c = search needs
+
+sub-wide : tie.Need-sub-wide Inv-loop μ-loop
+sub-wide c = search needs
 
 shared-slice-read-wide : tie.Need-shared-slice-read-wide Inv-loop μ-loop
 shared-slice-read-wide c = search needs
@@ -34,11 +42,12 @@ wide-requires c κs = search needs
 add-number : tie.Need-add-number Inv-loop μ-loop
 add-number c =
     let step = c .before .before .before in
-    let fits = power-fits (step .loop .done) (omega arith) in
-    record { fits = omega (arith, fits, c .wide .ensures, c .before .shared-slice-known2 .given (step .before .before .args .at + step .loop .done)) }
+    let start = step .before .before in
+    let fits = power-fits (start .args .width - step .loop .left) (omega arith) in
+    record { fits = omega (arith, fits, c .wide .ensures .1) }
 
-add-done : tie.Need-add-done Inv-loop μ-loop
-add-done c = search needs
+sub-left : tie.Need-sub-left Inv-loop μ-loop
+sub-left c = search needs
 
 loop-less : tie.Need-loop-less Inv-loop μ-loop
 loop-less c = search needs
@@ -47,13 +56,17 @@ loop-again : tie.Need-loop-again Inv-loop μ-loop
 loop-again c =
     let step = c .before .before .before in
     let start = step .before .before in
-    let more = unsigned-more (start .args .bytes .now) (start .args .at) (step .loop .done) (omega arith) in
-    (search needs, omega (arith, more, c .wide .ensures), omega (arith, power-more (step .loop .done), c .wide .ensures, c .before .shared-slice-known2 .given (start .args .at + step .loop .done)))
+    let done : ℕ = start .args .width - step .loop .left in
+    let later : start .args .width - (step .loop .left - 1) ≡ done + 1 = omega arith in
+    let place : start .args .at + start .args .width - step .loop .left ≡ start .args .at + done = omega arith in
+    let more = unsigned-more (start .args .bytes .now) (start .args .at) done (omega arith) in
+    rw later (search needs, omega (arith, rw (← place) at more, c .wide .ensures .0), omega (arith, power-more done, c .wide .ensures .1))
 
 returns : tie.Need-returns Inv-loop μ-loop
 returns c =
-    let all : c .before .loop .done ≡ c .before .before .before .args .width = omega arith in
-    rw (← all) (c .before .loop .inv .1, c .before .loop .inv .2)
+    let width = c .before .before .before .args .width in
+    let all : width - c .before .loop .left ≡ width = omega arith in
+    (rw all at (c .before .loop .inv .1), rw all at (c .before .loop .inv .2))
 
 pub unsigned-at-spec : {M : Type 1} → statement M
 unsigned-at-spec =
@@ -64,10 +77,11 @@ unsigned-at-spec =
     loop-holds
     mul-number
     add-wide
+    sub-wide
     shared-slice-read-wide
     wide-requires
     add-number
-    add-done
+    sub-left
     loop-less
     loop-again
     returns)

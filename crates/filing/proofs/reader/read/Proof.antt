@@ -1,4 +1,5 @@
--- `filing::reader::read` meets its contract.
+-- `filing::reader::read` meets its contract. The loop's invariant: the offset is inside the filing, and what the reading comes to
+-- in the end is what it came to at the start.
 -- Assumes nothing.
 use mathlib.Core.Path.{_≡_, refl, _∙_}
 use borrow.Author.Needs.{needs}
