@@ -1,0 +1,62 @@
+-- `filing::reader::step` meets its contract.
+-- Assumes nothing.
+use borrow.Author.Needs.{needs}
+use mathlib.Core.Path.{sym, _∙_}
+use native.Mathlib.Omega.{arith}
+use Rattle.filing.specs.Steps.{stepped}
+use Rattle.filing.proofs.FieldLaws.{stands}
+use Rattle.filing.proofs.reader.step.Statement.{statement}
+use Rattle.filing.proofs.reader.step.Tie as tie
+
+field-at-requires : tie.Need-field-at-requires
+field-at-requires c κs = search needs
+
+enum-known-filing-call : tie.Need-enum-known-filing-call
+enum-known-filing-call c = search needs
+
+advance-requires : tie.Need-advance-requires
+advance-requires c κs =
+    let read = c .before .before .before in
+    let start = read .before .before in
+    let filing = sym (read .field-at .ensures) ∙ c .before .filing-call .given .1 in
+    let placed = rw filing at (stands (start .args .bytes .now) (start .args .reached .offset)) in
+    omega (arith, placed .0)
+
+enum-told : tie.Need-enum-told
+enum-told c = search needs
+
+stop-requires : tie.Need-stop-requires
+stop-requires c κs = search needs
+
+enum-known-refusal : tie.Need-enum-known-refusal
+enum-known-refusal c = search needs
+
+stop-requires-2 : tie.Need-stop-requires-2
+stop-requires-2 c κs = search needs
+
+returns : tie.Need-returns
+unfolding stepped
+returns c = rw (sym (c .before .before .before .before .field-at .ensures) ∙ c .before .before .filing-call .given .1) (c .advance .ensures)
+
+returns-2 : tie.Need-returns-2
+unfolding stepped
+returns-2 c = rw (sym (c .before .before .before .field-at .ensures) ∙ c .before .enum-told .given .1) (c .stop .ensures)
+
+returns-3 : tie.Need-returns-3
+unfolding stepped
+returns-3 c = rw (sym (c .before .before .before .before .field-at .ensures) ∙ c .before .before .refusal .given .1) (c .stop2 .ensures)
+
+pub step-spec : {M : Type 1} → statement M
+step-spec =
+    tie.close
+    (tie.spec
+    field-at-requires
+    enum-known-filing-call
+    advance-requires
+    enum-told
+    stop-requires
+    enum-known-refusal
+    stop-requires-2
+    returns
+    returns-2
+    returns-3)

@@ -1,0 +1,4 @@
+pub mod Field
+pub mod Reader
+pub mod Steps
+pub mod Laws

@@ -1,0 +1,118 @@
+// Reading a filing into a book: its fields applied in order, up to the first refusal.
+ghost use mathlib.Core.Path.{_≡_};
+ghost use Prim.Native.Nat.{_≤_, _<_};
+ghost use lib.ListN.{length};
+ghost use Rattle.book.specs.Calls.{apply as Calls·apply};
+ghost use Rattle.filing.specs.Field.{fieldAt};
+ghost use Rattle.filing.specs.Reader.{isRefused, read as Reader·read};
+ghost use Rattle.filing.specs.Steps.{stopped, advanced, stepped};
+use crate::Field;
+use crate::Reading;
+use crate::fields::field_at;
+use book::Book;
+use book::apply;
+use book::in_range;
+use calls::Answer;
+use calls::Call;
+use calls::Refusal;
+
+// A reading under way: what it has reached, and whether it goes on with a next field.
+struct Walk {
+    reading: Reading,
+    continues: bool,
+}
+
+pub fn read(b: Book, bytes: &[u8]) -> Reading
+    ensures { λ r. ⌜ r ≡ Reader·read b (now (bytes .entry)) ⌝ }
+{
+    if !in_range(b) {
+        return Reading {
+            book: b,
+            applied: 0,
+            offset: 0,
+            answer: Answer::Refused(Refusal::OutOfRange),
+        };
+    }
+    let mut walk = Walk {
+        reading: Reading {
+            book: b,
+            applied: 0,
+            offset: 0,
+            answer: Answer::Yes,
+        },
+        continues: true,
+    };
+    while walk.continues {
+        walk = step(walk.reading, bytes);
+    }
+    walk.reading
+}
+
+// The field at the offset.
+fn step(reached: Reading, bytes: &[u8]) -> Walk
+    requires { ⌜ (reached .applied ≤ reached .offset) × (reached .offset ≤ length (now bytes)) ⌝ }
+    ensures { λ r. ⌜ r ≡ stepped reached (fieldAt (now (bytes .entry)) (reached .offset)) ⌝ }
+{
+    match field_at(bytes, reached.offset) {
+        Field::Filing { filing_call, next } => advance(reached, filing_call, next),
+        Field::End => stop(reached, Answer::Yes),
+        Field::Refused(refusal) => stop(reached, Answer::Refused(refusal)),
+    }
+}
+
+// A call applied; one that is refused leaves the book, the number applied and the offset.
+fn advance(reached: Reading, filing_call: Call, next: usize) -> Walk
+    requires { ⌜ reached .applied < next ⌝ }
+    ensures { λ r. ⌜ r ≡ advanced reached next (Calls·apply (reached .book) «filing_call») ⌝ }
+{
+    let filed = apply(reached.book, filing_call);
+    let book = filed.book;
+    let answer = filed.answer;
+    if is_refused(answer) {
+        return Walk {
+            reading: Reading {
+                book,
+                applied: reached.applied,
+                offset: reached.offset,
+                answer,
+            },
+            continues: false,
+        };
+    }
+    Walk {
+        reading: Reading {
+            book,
+            applied: reached.applied + 1,
+            offset: next,
+            answer,
+        },
+        continues: true,
+    }
+}
+
+// The end, or a field that its bytes refuse.
+fn stop(reached: Reading, answer: Answer) -> Walk
+    ensures { λ r. ⌜ r ≡ stopped reached answer ⌝ }
+{
+    let book = reached.book;
+    Walk {
+        reading: Reading {
+            book,
+            applied: reached.applied,
+            offset: reached.offset,
+            answer,
+        },
+        continues: false,
+    }
+}
+
+fn is_refused(answer: Answer) -> bool
+    ensures { λ r. ⌜ r ≡ isRefused answer ⌝ }
+{
+    match answer {
+        Answer::Refused(refusal) => true,
+        Answer::Yes => false,
+        Answer::Counted { year } => false,
+        Answer::LeftOut(reason) => false,
+    }
+}
