@@ -4,3 +4,6 @@ pub mod DigitLaws
 pub mod SignLaws
 pub mod SumLaws
 pub mod LineLaws
+pub mod PrintedLaws
+pub mod FittingLaws
+pub mod AnswerLaws

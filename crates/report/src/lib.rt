@@ -1,8 +1,10 @@
 // The printed settlement of a book, in a lent buffer.
 mod lines;
+mod reporting;
 mod text;
 
 use calls::Refusal;
+pub use reporting::report;
 
 // How many bytes were written, or why none.
 pub enum Reported {
