@@ -4,6 +4,7 @@ pub mod DigitLaws
 pub mod SignLaws
 pub mod SumLaws
 pub mod LineLaws
+pub mod ColumnLaws
 pub mod PrintedLaws
 pub mod FittingLaws
 pub mod AnswerLaws

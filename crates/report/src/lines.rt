@@ -121,8 +121,8 @@ fn put_adjustment(out: &mut [u8], at: usize, n: i64) -> usize
     requires { ⌜ (natAbs n < 2 ^ 62) × (at + length ((32 ∷ signedDecimal n) ++ (10 ∷ [])) ≤ length (now out)) ⌝ }
     ensures { λ r. ⌜ (now (out .exit) ≡ written (now (out .entry)) at ((32 ∷ signedDecimal n) ++ (10 ∷ []))) × (r ≡ at + length ((32 ∷ signedDecimal n) ++ (10 ∷ []))) ⌝ }
 {
-    let next = put_byte(out, at, b' ');
-    let last = put_signed(out, next, n);
+    let first = put_byte(out, at, b' ');
+    let last = put_signed(out, first, n);
     put_byte(out, last, b'\n')
 }
 

@@ -37,7 +37,7 @@ returns-2 c =
     let accepted : settled (begun .args .b) .answer ≡ Yes = told-accepted (begun .args .b) (rw (c .before .before .before .before .before .before .settle .ensures) at (c .before .before .before .before .match .keys2)) in
     let whole = report-accepted (begun .args .b) (begun .args .buffer .now) accepted in
     let printed = rw (c .before .before .before .before .before .before .settle .ensures) at (c .before .before .print .ensures) in
-    (printed .0 ∙ whole .0, printed .1 ∙ whole .1)
+    (rw (← whole .0) (printed .0), rw (← whole .1) (printed .1))
 
 pub report-spec : {M : Type 1} → statement M
 report-spec =
