@@ -12,7 +12,10 @@ pub const YEAR_SECONDS: i128 = 31_536_000;
 pub const EARLIEST_START: i128 = -31_536_000;
 pub const LATEST_END: i128 = 94_607_999;
 /// The longest interruption that is left out as short, in seconds.
+#[cfg(not(feature = "slip"))]
 pub const LONGEST_SHORT: i128 = 180;
+#[cfg(feature = "slip")]
+pub const LONGEST_SHORT: i128 = 179;
 /// The greatest weight of one MV interruption.
 pub const MOST_WEIGHT: u32 = 100_000;
 

@@ -3,6 +3,7 @@
 
 pub mod book;
 pub mod calls;
+pub mod compare;
 pub mod exponent;
 pub mod filing;
 pub mod generator;

@@ -2,17 +2,20 @@
 //! prints the answers, which the modules compute.
 
 use model::book::Book;
-use model::{exponent, filing, generator, product, program, script, sharing, writer};
+use model::{compare, exponent, filing, generator, product, program, script, sharing, writer};
 use std::fs;
 use std::io::{self, BufRead, BufWriter, ErrorKind, Write};
 use std::path::Path;
 use std::process::ExitCode;
 
 const SUBCOMMANDS: &str = "expected one of: share, product, table, calls, encode, \
-    program FILE, rewrite FILE, generate SEED FIRST COUNT DIR, answers SEED FIRST COUNT";
+    program FILE, rewrite FILE, generate SEED FIRST COUNT DIR, \
+    answers SEED FIRST COUNT, compare PROGRAM DIR SEED FIRST COUNT";
 
 /// The exit status of `rewrite` when a field is refused.
 const REFUSED: u8 = 1;
+/// The exit status of `compare` when the program and the model differ.
+const DIFFERENT: u8 = 1;
 /// The exit status for malformed input.
 const MALFORMED: u8 = 2;
 
@@ -79,9 +82,36 @@ fn dispatch(words: &[&str], output: &mut impl Write) -> Result<u8, String> {
                 print(output, &printed)?;
             }
         }
+        ["compare", program, folder, seed, first, count] => {
+            let numbers = numbers_of(first, count)?;
+            let seed = read_number(seed)?;
+            let program =
+                fs::canonicalize(program).map_err(|error| format!("{program}: {error}"))?;
+            fs::create_dir_all(folder).map_err(|error| format!("{folder}: {error}"))?;
+            if let Some(mismatch) = compare::compare(&program, Path::new(folder), seed, numbers)? {
+                print(output, &described(&mismatch, &program, folder, seed))?;
+                return Ok(DIFFERENT);
+            }
+        }
         _ => return Err(SUBCOMMANDS.to_string()),
     }
     Ok(0)
+}
+
+/// What a mismatch was, and how to repeat it.
+fn described(mismatch: &compare::Mismatch, program: &Path, folder: &str, seed: u64) -> Vec<u8> {
+    let mut text = format!(
+        "filing {} of seed {seed} is kept as {}\nto repeat: model compare {} {folder} {seed} {} 1\nthe model prints:\n",
+        mismatch.number,
+        mismatch.kept.display(),
+        program.display(),
+        mismatch.number,
+    )
+    .into_bytes();
+    text.extend_from_slice(&mismatch.expected);
+    text.extend_from_slice(b"the program prints:\n");
+    text.extend_from_slice(&mismatch.printed);
+    text
 }
 
 /// The bytes of a file, or none if it is missing.

@@ -1,0 +1,48 @@
+-- What the program prints for the bytes of a filing (01, "The printed settlement").
+-- Assumes nothing.
+use Prim.Native.Nat.{ℕ}
+use mathlib.Core.Bool.{cond}
+use mathlib.Core.List.{List, _++_}
+use lib.Dec.{ltb}
+use lib.ListN.{length}
+use Rattle.calls.specs.declared.Refusal.{Refusal}
+use Rattle.calls.specs.declared.Answer.{Answer}
+use Rattle.calls.specs.declared.Answer.the-variants.{Yes, Counted, LeftOut, Refused}
+use Rattle.calls.specs.Answers.{numberOf}
+use Rattle.book.specs.declared.Book.{Book}
+use Rattle.book.specs.Book.{freshBook}
+use Rattle.settlement.specs.Settlement.{settled}
+use Rattle.filing.specs.declared.Reading.{Reading}
+use Rattle.filing.specs.Reader.{read}
+use Rattle.report.specs.Text.{bytesOf, decimal}
+use Rattle.report.specs.Lines.{textOf}
+
+-- "a longer file prints `too long`"
+unfoldable pub longestFiling : ℕ
+longestFiling = 65536
+
+-- "A refused field prints `refused 4 at 0` (number, offset)"
+unfoldable pub refusedField : ℕ → ℕ → List ℕ
+refusedField number offset = bytesOf "refused " ++ decimal number ++ bytesOf " at " ++ decimal offset ++ bytesOf "\n"
+
+-- "a refused settlement `refused 10`"
+unfoldable pub refusedSettlement : ℕ → List ℕ
+refusedSettlement number = bytesOf "refused " ++ decimal number ++ bytesOf "\n"
+
+-- what one of two texts a refusal, or no refusal, calls for
+unfoldable pub unless : Answer → (ℕ → List ℕ) → List ℕ → List ℕ
+unless Yes refused text = text
+unless (Counted year) refused text = text
+unless (LeftOut reason) refused text = text
+unless (Refused refusal) refused text = refused (numberOf refusal)
+
+-- the printed settlement of a book, or its refusal
+unfoldable pub settlementText : Book → List ℕ
+settlementText b = unless (settled b .answer) refusedSettlement (textOf b)
+
+-- a filing that was read: the first field refused, or the settlement of the book
+unfoldable pub readingText : Reading → List ℕ
+readingText r = unless (r .answer) (λ (number : ℕ). refusedField number (r .offset)) (settlementText (r .book))
+
+unfoldable pub outputOf : List ℕ → List ℕ
+outputOf filing = cond (ltb longestFiling (length filing)) (bytesOf "too long\n") (readingText (read freshBook filing))

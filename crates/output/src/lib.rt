@@ -1,0 +1,65 @@
+// From the bytes of a filing to the bytes that the program prints: every decision of the program.
+ghost use mathlib.Core.Path.{_≡_};
+ghost use Prim.Native.Nat.{_≤_};
+ghost use lib.ListN.{length};
+ghost use Rattle.report.specs.Lines.{putInto};
+ghost use Rattle.output.specs.Output.{refusedField, refusedSettlement, settlementText, outputOf};
+use book::Book;
+use calls::Answer;
+use calls::number_of;
+use filing::read;
+use report::Reported;
+use report::put_decimal;
+use report::put_word;
+use report::report;
+
+const LONGEST_FILING: usize = 65536;
+
+// Puts what is printed at the front of a buffer, leaves the bytes after it, and answers how many there are.
+pub fn output(filing: &[u8], out: &mut [u8; 2048]) -> usize
+    ensures { λ r. ⌜ r ≡ length (outputOf (now (filing .entry))) ⌝ }
+    ensures { λ r. ⌜ now (out .exit) ≡ putInto (now (out .entry)) (outputOf (now (filing .entry))) ⌝ }
+{
+    if LONGEST_FILING < filing.len() {
+        return put_word(out, 0, b"too long\n");
+    }
+    let reading = read(book::fresh(), filing);
+    let offset = reading.offset;
+    let b = reading.book;
+    let answer = reading.answer;
+    match answer {
+        Answer::Refused(refusal) => put_refused_field(out, number_of(refusal), offset),
+        _ => put_settlement(out, b),
+    }
+}
+
+// The report of a book, or its refusal.
+fn put_settlement(out: &mut [u8; 2048], b: Book) -> usize
+    ensures { λ r. ⌜ r ≡ length (settlementText b) ⌝ }
+    ensures { λ r. ⌜ now (out .exit) ≡ putInto (now (out .entry)) (settlementText b) ⌝ }
+{
+    match report(b, out) {
+        Reported::Written(count) => count,
+        Reported::Refusing(refusal) => put_refused_settlement(out, number_of(refusal)),
+    }
+}
+
+fn put_refused_settlement(out: &mut [u8; 2048], number: u8) -> usize
+    ensures { λ r. ⌜ r ≡ length (refusedSettlement number) ⌝ }
+    ensures { λ r. ⌜ now (out .exit) ≡ putInto (now (out .entry)) (refusedSettlement number) ⌝ }
+{
+    let first = put_word(out, 0, b"refused ");
+    let last = put_decimal(out, first, number as u64);
+    put_word(out, last, b"\n")
+}
+
+fn put_refused_field(out: &mut [u8; 2048], number: u8, offset: usize) -> usize
+    ensures { λ r. ⌜ r ≡ length (refusedField number offset) ⌝ }
+    ensures { λ r. ⌜ now (out .exit) ≡ putInto (now (out .entry)) (refusedField number offset) ⌝ }
+{
+    let first = put_word(out, 0, b"refused ");
+    let second = put_decimal(out, first, number as u64);
+    let third = put_word(out, second, b" at ");
+    let last = put_decimal(out, third, offset as u64);
+    put_word(out, last, b"\n")
+}

@@ -1,0 +1,10 @@
+-- Laws about the bytes of the report.
+pub mod WrittenLaws
+pub mod DigitLaws
+pub mod SignLaws
+pub mod SumLaws
+pub mod LineLaws
+pub mod ColumnLaws
+pub mod PrintedLaws
+pub mod FittingLaws
+pub mod AnswerLaws

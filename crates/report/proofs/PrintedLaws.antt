@@ -1,0 +1,144 @@
+-- How long the printed settlement is, and that a book that settles can be printed.
+-- Assumes nothing.
+use Prim.Native.Nat.{ℕ, zero, suc, _+_, _*_, _^_, _≤_, _<_}
+use mathlib.Core.Path.{_≡_, refl}
+use mathlib.Core.Bool.{Bool, true, false, cond}
+use mathlib.Core.List.{List, [], _∷_, _++_}
+use native.Mathlib.Nat.{suc-mul}
+use native.Mathlib.Omega.{arith}
+use lib.IntN.{pos}
+use lib.ListN.{length, getD, length-append}
+use Rattle.calls.specs.declared.Answer.the-variants.{Yes}
+use Rattle.book.specs.declared.Book.{Book}
+use Rattle.book.specs.Book.{isJoined, inRange}
+use Rattle.apportion.specs.Sum.{sum}
+use Rattle.apportion.specs.Share.{share}
+use Rattle.apportion.proofs.Sums.{sum-append, sum-bound, element-le}
+use Rattle.apportion.proofs.Shared.{shared}
+use Rattle.indicators.specs.Indicator.{Indicator, electricity, numbered, pool}
+use Rattle.indicators.specs.Points.{weights, points}
+use Rattle.indicators.proofs.WeightLaws.{weights-length}
+use Rattle.settlement.specs.declared.Settlement.{Settlement}
+use Rattle.settlement.specs.Money.{accessPoints, pot, contributions, returnWeights, returns}
+use Rattle.settlement.specs.Settlement.{pointsOfAll, settlementBy, settledBy, settled}
+use Rattle.settlement.specs.Laws.{Settles}
+use Rattle.indicators.proofs.Tables.{length-each}
+use Rattle.settlement.proofs.InRange.{pot-le}
+use Rattle.settlement.proofs.Amounts.{limit-most}
+use Rattle.settlement.proofs.Gathering.{share-le, pool-le}
+use Rattle.settlement.proofs.SettledLaws.{settles-exactly, adjustments-cancel, within-limits}
+use Rattle.report.specs.Text.{bytesOf, decimal}
+use Rattle.report.specs.Lines.{line, header, pointsOfOperator, operatorLine, operatorLines, lastLine, printed, textOf}
+use Rattle.report.specs.Steps.{Printable}
+use Rattle.report.proofs.DigitLaws.{decimal-length, signed-length}
+use Rattle.report.proofs.SumLaws.{points-most}
+
+line-length : (name points out received adjustment : List ℕ)
+    → length (line name points out received adjustment) ≡ length name + length points + length out + length received + length adjustment + 5
+unfolding line
+line-length name points out received adjustment = simp length-append (omega arith)
+
+-- a number of the machine
+number-length : (n : ℕ) → n < 2 ^ 64 → length (decimal n) ≤ 20
+number-length n lt = decimal-length 19 n (omega arith)
+
+module _ (b : Book) (s : Settlement) (printable : Printable s) where
+  operator-length : (operator : ℕ) → operator < 16 → length (operatorLine s operator) ≤ 88
+  unfolding operatorLine pointsOfOperator
+  operator-length operator lt =
+      rw line-length
+      (omega (
+        arith,
+        decimal-length 1 operator (omega arith),
+        number-length (pointsOfOperator s operator) (omega (arith, points-most (s .points) operator (printable .points-few))),
+        number-length (getD (s .contributions) operator 0) (omega (arith, element-le (s .contributions) operator, printable .contributions-few)),
+        number-length (getD (s .returns) operator 0) (omega (arith, element-le (s .returns) operator, printable .returns-few)),
+        signed-length (getD (s .adjustments) operator (pos 0)) (omega (arith, printable .adjustments-small operator lt)),
+      ))
+
+  operators-length : (n : ℕ) → n ≤ 16 → length (operatorLines b s n) ≤ n * 88
+  unfolding operatorLines
+  operators-length zero le = omega arith
+  operators-length (suc n) le =
+      let before = operators-length n (omega arith) in
+      rw (length-append, suc-mul) (omega (arith, before, go (isJoined b n)))
+    where
+      go : (t : Bool) → length (cond t (operatorLine s n) []) ≤ 88
+      go true = operator-length n (omega arith)
+      go false = omega arith
+
+  last-length : length (lastLine s) ≤ 89
+  unfolding lastLine bytesOf
+  last-length =
+      rw (line-length, printable .adjustments-cancel)
+      (omega (
+        arith,
+        number-length (sum (s .points)) (omega (arith, printable .points-few)),
+        number-length (sum (s .contributions)) (omega (arith, printable .contributions-few)),
+        number-length (sum (s .returns)) (omega (arith, printable .returns-few)),
+        signed-length (pos 0) (omega arith),
+      ))
+
+  header-length : length header ≡ 34
+  unfolding header line bytesOf
+  header-length = refl
+
+  pub printed-length : length (printed b s) ≤ 2048
+  unfolding printed
+  printed-length =
+      rw (length-append (header ++ operatorLines b s 16) (lastLine s), length-append header (operatorLines b s 16))
+      (omega (arith, header-length, operators-length 16 (omega arith), last-length))
+
+-- shares add up to at most as many times the total as there are
+shares-le : (T : ℕ) (list : List ℕ) → length list ≡ 16 → sum (share T list) ≤ 16 * T
+shares-le T list long = rw (shared T list .long, long) at (sum-bound (share T list) T (λ k lt. share-le T list k))
+
+module _ (b : Book) where
+  -- indicators whose pools stay below a bound
+  Modest : List Indicator → Type 0
+  Modest [] = Unit {0}
+  Modest (indicator ∷ rest) = (pool b indicator ≤ 739200) × Modest rest
+
+  all-points-le : (indicators : List Indicator) → Modest indicators → sum (pointsOfAll b indicators) ≤ length indicators * 11827200
+  unfolding Modest pointsOfAll points sum
+  all-points-le [] modest = omega arith
+  all-points-le (indicator ∷ rest) modest =
+      let shares = shares-le (pool b indicator) (weights b indicator) (weights-length b indicator) in
+      rw (sum-append, suc-mul) (omega (arith, shares, modest .0, all-points-le rest (modest .1)))
+
+  modest-electricity : Modest electricity
+  unfolding Modest electricity numbered
+  modest-electricity =
+      (pool-le b 0 (omega arith), (pool-le b 1 (omega arith), (pool-le b 2 (omega arith), (pool-le b 3 (omega arith), (pool-le b 4 (omega arith), (pool-le b 5 (omega arith), tt))))))
+
+  six-indicators : length electricity ≡ 6
+  unfolding electricity
+  six-indicators = refl
+
+  settlement-printable : inRange b ≡ true → Printable (settlementBy b electricity)
+  unfolding settlementBy contributions returns accessPoints returnWeights
+  settlement-printable ranged =
+      record {
+        points-few = omega (arith, rw six-indicators at (all-points-le electricity modest-electricity));
+        contributions-few = omega (arith, shares-le (pot b) (accessPoints b) (length-each _), pot-le b ranged);
+        returns-few = omega (arith, shares-le (pot b) (returnWeights b electricity) (length-each _), pot-le b ranged);
+        adjustments-small = λ operator lt. omega (arith, within-limits b electricity operator lt, limit-most b ranged operator lt);
+        adjustments-cancel = adjustments-cancel b electricity;
+      }
+
+  module _ (accepted : settled b .answer ≡ Yes) where
+    settles : Settles b electricity
+    unfolding settled
+    settles = settles-exactly b electricity .0 accepted
+
+    settled-so : settled b .settlement ≡ settlementBy b electricity
+    unfolding settled settledBy
+    settled-so = rw (settles .in-range, settles .somebody, settles .network, settles .reliable) refl
+
+    pub printable : Printable (settled b .settlement)
+    printable = rw settled-so (settlement-printable (settles .in-range))
+
+    -- the text of a book that settles has its place in 2048 bytes
+    pub text-fits : length (textOf b) ≤ 2048
+    unfolding textOf
+    text-fits = printed-length b (settled b .settlement) printable

@@ -1,0 +1,53 @@
+-- `report::lines::put_last` meets its contract.
+-- Assumes nothing.
+use mathlib.Core.List.{[], _∷_}
+use native.Mathlib.Omega.{arith}
+use Rattle.report.proofs.WrittenLaws.{room-first, room-after, put-then}
+use Rattle.report.proofs.LineLaws.{lastColumns, last-parts}
+use borrow.Author.Needs.{needs}
+use Rattle.report.proofs.lines.put_last.Statement.{statement}
+use Rattle.report.proofs.lines.put_last.Tie as tie
+
+slice-aggregate-put-word : tie.Need-slice-aggregate-put-word
+slice-aggregate-put-word c = search needs
+
+put-word-requires : tie.Need-put-word-requires
+put-word-requires c κs =
+    let begun = c .before .before .before .before .before .before in
+    room-first (begun .args .out .now) (begun .args .at) (97 ∷ 108 ∷ 108 ∷ []) (lastColumns (begun .args .s)) (rw (last-parts (begun .args .s) (begun .pre .0 .adjustments-cancel)) at (begun .pre .1))
+
+total-points-requires : tie.Need-total-points-requires
+total-points-requires c κs = search needs
+
+total-requires : tie.Need-total-requires
+total-requires c κs = search needs
+
+total-requires-2 : tie.Need-total-requires-2
+total-requires-2 c κs = search needs
+
+put-columns-requires : tie.Need-put-columns-requires
+put-columns-requires c κs =
+    let begun = c .before .before .before .before .before .before .before .before .before .before .before .before .before in
+    rw (c .before .before .total-points .ensures, c .before .total .ensures, c .total2 .ensures) (omega arith, room-after (begun .args .out .now) (begun .args .at) (97 ∷ 108 ∷ 108 ∷ []) (lastColumns (begun .args .s)) (rw (last-parts (begun .args .s) (begun .pre .0 .adjustments-cancel)) at (begun .pre .1)) (c .before .before .before .before .before .before .put-word .ensures))
+
+same-length : tie.Need-same-length
+same-length c = search needs
+
+returns : tie.Need-returns
+returns c =
+    let begun = c .before .before .before .before .before .before .before .before .before .before .before .before .before .before .before .before in
+    rw (last-parts (begun .args .s) (begun .pre .0 .adjustments-cancel))
+    (put-then (begun .args .out .now) (begun .args .at) (97 ∷ 108 ∷ 108 ∷ []) (lastColumns (begun .args .s)) (rw (last-parts (begun .args .s) (begun .pre .0 .adjustments-cancel)) at (begun .pre .1)) (c .before .before .before .before .before .before .before .before .before .put-word .ensures) (rw (c .before .before .before .before .before .total-points .ensures, c .before .before .before .before .total .ensures, c .before .before .before .total2 .ensures) at (c .before .before .put-columns .ensures)))
+
+pub put-last-spec : {M : Type 1} → statement M
+put-last-spec =
+    tie.close
+    (tie.spec
+    slice-aggregate-put-word
+    put-word-requires
+    total-points-requires
+    total-requires
+    total-requires-2
+    put-columns-requires
+    same-length
+    returns)

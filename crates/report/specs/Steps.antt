@@ -1,0 +1,33 @@
+-- What inner functions of the report leave in a slice, and what holds of a settlement that they print.
+-- Assumes nothing.
+use Prim.Native.Nat.{ℕ, _+_, _*_, _^_, _<_}
+use mathlib.Core.Path.{_≡_}
+use mathlib.Core.List.{List, [], _++_}
+use lib.IntN.{ℤ, pos, natAbs}
+use lib.ListN.{length, getD, take, drop}
+use Rattle.apportion.specs.Sum.{sum}
+use Rattle.indicators.specs.Operators.{table}
+use Rattle.settlement.specs.declared.Settlement.{Settlement}
+use Rattle.settlement.specs.Laws.{sumℤ}
+use Rattle.report.specs.Text.{decimal, signedDecimal}
+use Rattle.report.specs.Lines.{line}
+
+-- a list with a text put at a place
+unfoldable pub written : List ℕ → ℕ → List ℕ → List ℕ
+written old at text = take at old ++ text ++ drop (at + length text) old
+
+-- all of a line but its name
+unfoldable pub columns : ℕ → ℕ → ℕ → ℤ → List ℕ
+columns points out received adjustment = line [] (decimal points) (decimal out) (decimal received) (signedDecimal adjustment)
+
+-- an operator's points over all indicators, from the list of all points
+unfoldable pub pointsAt : List ℕ → ℕ → ℕ
+pointsAt points operator = sum (table 6 (λ (number : ℕ). getD points (16 * number + operator) 0))
+
+-- sums and sizes stay within a machine's numbers, and adjustments cancel
+pub record Printable (s : Settlement) : Type 0 where
+  pub points-few : sum (s .points) < 2 ^ 60
+  pub contributions-few : sum (s .contributions) < 2 ^ 60
+  pub returns-few : sum (s .returns) < 2 ^ 60
+  pub adjustments-small : (operator : ℕ) → operator < 16 → natAbs (getD (s .adjustments) operator (pos 0)) < 2 ^ 60
+  pub adjustments-cancel : sumℤ (s .adjustments) ≡ pos 0

@@ -1,0 +1,42 @@
+// The report: a book is settled, its lines are put together aside, and then into the buffer if they fit.
+ghost use mathlib.Core.Path.{_≡_};
+ghost use lib.ListN.{length};
+ghost use Rattle.report.specs.Lines.{printed, fitting, afterwards, reportAnswer, reportBuffer};
+ghost use Rattle.report.specs.Steps.{Printable};
+use crate::Reported;
+use crate::lines::put_lines;
+use crate::text::put_word;
+use book::Book;
+use calls::Answer;
+use calls::Refusal;
+use settlement::Settlement;
+use settlement::settle;
+
+// A refusal leaves the buffer; otherwise the bytes after the text stay.
+pub fn report(b: Book, buffer: &mut [u8]) -> Reported
+    ensures { λ r. ⌜ r ≡ reportAnswer b (now (buffer .entry)) ⌝ }
+    ensures { λ r. ⌜ now (buffer .exit) ≡ reportBuffer b (now (buffer .entry)) ⌝ }
+{
+    let settled = settle(b);
+    let s = settled.settlement;
+    let answer = settled.answer;
+    match answer {
+        Answer::Refused(refusal) => Reported::Refusing(refusal),
+        _ => print(b, s, buffer),
+    }
+}
+
+// 13, or the lines.
+fn print(b: Book, s: Settlement, buffer: &mut [u8]) -> Reported
+    requires { ⌜ Printable s ⌝ }
+    ensures { λ r. ⌜ r ≡ fitting (length (now (buffer .entry))) (printed b s) ⌝ }
+    ensures { λ r. ⌜ now (buffer .exit) ≡ afterwards (now (buffer .entry)) (printed b s) (fitting (length (now (buffer .entry))) (printed b s)) ⌝ }
+{
+    let mut text = [0u8; 2048];
+    let count = put_lines(&mut text, b, s);
+    if buffer.len() < count {
+        return Reported::Refusing(Refusal::BufferTooShort);
+    }
+    put_word(buffer, 0, &text[..count]);
+    Reported::Written(count)
+}

@@ -1,0 +1,48 @@
+#!/usr/bin/env bash
+# Counts the instructions of the program and of the model on the same filings of 65,536 bytes, and prints both and their ratio.
+# It needs valgrind. Nothing here is held to a limit.
+set -euo pipefail
+cd "$(dirname "$0")/.."
+(cd model && cargo build --quiet --release --offline)
+model=$PWD/model/target/release/model
+program=$PWD/target/bin/quality
+work=$(mktemp -d)
+trap 'rm -rf "$work"' EXIT
+
+# Sixteen operators with a network, then fields of one kind or of all by turns, up to 65,536 bytes exactly.
+calls() { # KIND
+    awk -v kind="$1" '
+        function put(text, size) { print text; left -= size }
+        function amount(i) { put("amount " i % 16 " " i % 3 " " i % 8 " 0 " 1000 + i, 15) }
+        function interruption(i) { put("interruption " i % 16 " 0 0 " i % 5 " " 1000 * i " " 1000 * i + 900 " " 1 + i % 50, 27) }
+        BEGIN {
+            left = 65536
+            for (o = 0; o < 16; o++) put("join " o, 4)
+            for (o = 0; o < 16; o++) for (w = 0; w < 3; w++) put("setting " o " " w " " 2000 + 100 * o, 13)
+            put("rates 5000 10000", 11)
+            for (i = 0; left >= 100; i++) {
+                if (kind == "amounts" || (kind == "mixed" && i % 2 == 0)) amount(i)
+                else interruption(i)
+                if (kind == "mixed" && i % 10 == 0) put("mark " i % 16 " " i % 6 " " i % 2, 6)
+            }
+            while (left % 8 != 0) put(left % 2 ? "rates 5000 10000" : "mark 0 0 0", left % 2 ? 11 : 6)
+            while (left > 0) put("index " left % 4 " " 10000 + left, 8)
+        }'
+}
+
+# The instructions of a command.
+instructions() { # COMMAND..
+    valgrind --tool=callgrind --callgrind-out-file=/dev/null "$@" 2>&1 >/dev/null | awk '/Collected/ { print $4 }'
+}
+
+printf '%-14s %14s %14s %7s\n' filing program model ratio
+for kind in amounts interruptions mixed; do
+    mkdir "$work/$kind"
+    calls "$kind" | "$model" encode >"$work/$kind/filing.q"
+    [ "$(wc -c <"$work/$kind/filing.q")" = 65536 ]
+    cmp <(cd "$work/$kind" && "$program") <("$model" program "$work/$kind/filing.q")
+    ours=$(cd "$work/$kind" && instructions "$program")
+    theirs=$(instructions "$model" program "$work/$kind/filing.q")
+    awk -v kind="$kind" -v ours="$ours" -v theirs="$theirs" \
+        'BEGIN { printf "%-14s %14d %14d %7.2f\n", kind, ours, theirs, ours / theirs }'
+done

@@ -1,0 +1,41 @@
+#!/usr/bin/env bash
+# Runs the program and the independent model on generated filings and compares every byte that they print.
+# usage: tests/filings.sh [COUNT [SEED]]; the filings of a seed are always the same.
+set -euo pipefail
+cd "$(dirname "$0")/.."
+count=${1:-3000}
+seed=${2:-1}
+program=target/bin/quality
+
+(cd model && cargo build --quiet --release --offline)
+work=$(mktemp -d)
+trap 'rm -rf "$work"' EXIT
+
+# A part of the filings. On a mismatch the filing is kept in the folder mismatches.
+part() { # NAME FIRST COUNT
+    if model/target/release/model compare "$program" "$work/$1" "$seed" "$2" "$3" >"$work/$1.said" 2>&1; then
+        return
+    fi
+    cat "$work/$1.said" >&2
+    mkdir -p mismatches
+    cp "$work/$1"/mismatch-*.q mismatches/ 2>/dev/null || true
+    echo "tests/filings.sh: the filing is in mismatches/; to repeat: tests/filings.sh $count $seed" >&2
+    return 1
+}
+
+half=$((count / 2))
+part low 0 "$half" &
+low=$!
+part high "$half" $((count - half))
+wait "$low"
+echo "filings: $count of seed $seed agree"
+
+# The comparison can fail: a model with one mistake is caught.
+(cd model && cargo build --quiet --release --offline --features slip --target-dir target/slip)
+if model/target/slip/release/model compare "$program" "$work/slip" "$seed" 0 3000 >"$work/slip.said"; then
+    echo "tests/filings.sh: a wrong model was not noticed" >&2
+    exit 1
+fi
+grep -q 'is kept as' "$work/slip.said"
+ls "$work/slip"/mismatch-*.q >"$work/kept"
+echo "filings: a wrong model is noticed, at $(sed -n '1s/ is kept.*//p' "$work/slip.said")"

@@ -1,0 +1,27 @@
+#!/usr/bin/env bash
+# Runs the program as staff do: on the examples, without a filing, and on one that cannot be read.
+set -euo pipefail
+cd "$(dirname "$0")/.."
+(cd model && cargo build --quiet --release --offline)
+model=$PWD/model/target/release/model
+program=$PWD/target/bin/quality
+work=$(mktemp -d)
+trap 'rm -rf "$work"' EXIT
+
+fail() {
+    echo "tests/program.sh: $1" >&2
+    exit 1
+}
+
+for example in examples/*/; do
+    "$model" encode <"$example/calls.txt" | cmp - "$example/filing.q"
+    ./settle "$example" | cmp - <("$model" program "$example/filing.q")
+done
+cmp examples/case-m/filing.q crates/quality/data/filing.q
+echo "program: the examples print what the model prints"
+
+[ "$(cd "$work" && "$program")" = "refused 10" ] || fail "a missing filing does not count as empty"
+mkdir "$work/filing.q"
+[ -z "$(cd "$work" && "$program" 2>"$work/said")" ] || fail "a filing that cannot be read prints something"
+[ -s "$work/said" ] || fail "a filing that cannot be read is not told"
+echo "program: a missing filing counts as empty, one that cannot be read is told"
