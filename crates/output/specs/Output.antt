@@ -5,7 +5,6 @@ use mathlib.Core.Bool.{cond}
 use mathlib.Core.List.{List, _++_}
 use lib.Dec.{ltb}
 use lib.ListN.{length}
-use Rattle.calls.specs.declared.Refusal.{Refusal}
 use Rattle.calls.specs.declared.Answer.{Answer}
 use Rattle.calls.specs.declared.Answer.the-variants.{Yes, Counted, LeftOut, Refused}
 use Rattle.calls.specs.Answers.{numberOf}
@@ -21,13 +20,16 @@ use Rattle.report.specs.Lines.{textOf}
 unfoldable pub longestFiling : ℕ
 longestFiling = 65536
 
+unfoldable pub refusedBy : ℕ → List ℕ
+refusedBy number = bytesOf "refused " ++ decimal number
+
 -- "A refused field prints `refused 4 at 0` (number, offset)"
 unfoldable pub refusedField : ℕ → ℕ → List ℕ
-refusedField number offset = bytesOf "refused " ++ decimal number ++ bytesOf " at " ++ decimal offset ++ bytesOf "\n"
+refusedField number offset = refusedBy number ++ bytesOf " at " ++ decimal offset ++ bytesOf "\n"
 
 -- "a refused settlement `refused 10`"
 unfoldable pub refusedSettlement : ℕ → List ℕ
-refusedSettlement number = bytesOf "refused " ++ decimal number ++ bytesOf "\n"
+refusedSettlement number = refusedBy number ++ bytesOf "\n"
 
 -- what one of two texts a refusal, or no refusal, calls for
 unfoldable pub unless : Answer → (ℕ → List ℕ) → List ℕ → List ℕ

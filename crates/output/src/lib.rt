@@ -1,9 +1,10 @@
 // From the bytes of a filing to the bytes that the program prints: every decision of the program.
 ghost use mathlib.Core.Path.{_≡_};
-ghost use Prim.Native.Nat.{_≤_};
+ghost use Prim.Native.Nat.{_+_, _≤_};
 ghost use lib.ListN.{length};
 ghost use Rattle.report.specs.Lines.{putInto};
-ghost use Rattle.output.specs.Output.{refusedField, refusedSettlement, settlementText, outputOf};
+ghost use Rattle.report.specs.Steps.{written};
+ghost use Rattle.output.specs.Output.{refusedBy, refusedField, refusedSettlement, settlementText, outputOf};
 use book::Book;
 use calls::Answer;
 use calls::number_of;
@@ -34,7 +35,8 @@ pub fn output(filing: &[u8], out: &mut [u8; 2048]) -> usize
 }
 
 // The report of a book, or its refusal.
-fn put_settlement(out: &mut [u8; 2048], b: Book) -> usize
+fn put_settlement(out: &mut [u8], b: Book) -> usize
+    requires { ⌜ 2048 ≤ length (now out) ⌝ }
     ensures { λ r. ⌜ r ≡ length (settlementText b) ⌝ }
     ensures { λ r. ⌜ now (out .exit) ≡ putInto (now (out .entry)) (settlementText b) ⌝ }
 {
@@ -44,22 +46,30 @@ fn put_settlement(out: &mut [u8; 2048], b: Book) -> usize
     }
 }
 
-fn put_refused_settlement(out: &mut [u8; 2048], number: u8) -> usize
+fn put_refused_settlement(out: &mut [u8], number: u8) -> usize
+    requires { ⌜ 2048 ≤ length (now out) ⌝ }
     ensures { λ r. ⌜ r ≡ length (refusedSettlement number) ⌝ }
     ensures { λ r. ⌜ now (out .exit) ≡ putInto (now (out .entry)) (refusedSettlement number) ⌝ }
 {
-    let first = put_word(out, 0, b"refused ");
-    let last = put_decimal(out, first, number as u64);
+    let last = put_refused(out, number);
     put_word(out, last, b"\n")
 }
 
-fn put_refused_field(out: &mut [u8; 2048], number: u8, offset: usize) -> usize
+fn put_refused_field(out: &mut [u8], number: u8, offset: usize) -> usize
+    requires { ⌜ 2048 ≤ length (now out) ⌝ }
     ensures { λ r. ⌜ r ≡ length (refusedField number offset) ⌝ }
     ensures { λ r. ⌜ now (out .exit) ≡ putInto (now (out .entry)) (refusedField number offset) ⌝ }
 {
-    let first = put_word(out, 0, b"refused ");
-    let second = put_decimal(out, first, number as u64);
-    let third = put_word(out, second, b" at ");
-    let last = put_decimal(out, third, offset as u64);
+    let first = put_refused(out, number);
+    let second = put_word(out, first, b" at ");
+    let last = put_decimal(out, second, offset as u64);
     put_word(out, last, b"\n")
+}
+
+fn put_refused(out: &mut [u8], number: u8) -> usize
+    requires { ⌜ 2048 ≤ length (now out) ⌝ }
+    ensures { λ r. ⌜ (now (out .exit) ≡ written (now (out .entry)) 0 (refusedBy number)) × (r ≡ 0 + length (refusedBy number)) ⌝ }
+{
+    let next = put_word(out, 0, b"refused ");
+    put_decimal(out, next, number as u64)
 }

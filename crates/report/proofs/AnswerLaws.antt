@@ -2,7 +2,7 @@
 -- Assumes nothing.
 use mathlib.Core.Path.{_≡_, refl}
 use mathlib.Core.Bool.{Bool, true, false, cond, not}
-use mathlib.Core.Logic.{inl, inr}
+use mathlib.Core.Logic.{_⊎_, inl, inr}
 use mathlib.Core.List.{List, [], _∷_}
 use Prim.Native.Nat.{ℕ, _<_}
 use native.Mathlib.Omega.{arith}
@@ -46,7 +46,7 @@ settling b = go (inRange b) (eqb (b .joined) 0) (networkMissing b) (allMarked b 
     go true false false true = tt
     go true false false false = tt
 
-first-three : (tag : ℕ) → OneOf (0 ∷ 1 ∷ 2 ∷ []) tag → tag < 3
+pub first-three : (tag : ℕ) → OneOf (0 ∷ 1 ∷ 2 ∷ []) tag → tag < 3
 first-three tag (inl e) = omega arith
 first-three tag (inr (inl e)) = omega arith
 first-three tag (inr (inr e)) = omega arith
@@ -60,6 +60,16 @@ no-refusal (LeftOut reason) kind tag = absurd kind
 no-refusal (Refused refusal) kind tag = absurd (omega (arith, first-three 3 tag))
 
 module _ (b : Book) where
+  pub yes-or-refused : (settled b .answer ≡ Yes) ⊎ ((refusal : Refusal) × (settled b .answer ≡ Refused refusal))
+  unfolding Settling
+  yes-or-refused = go (settled b .answer) refl (settling b)
+    where
+      go : (answer : Answer) → settled b .answer ≡ answer → Settling answer → (settled b .answer ≡ Yes) ⊎ ((refusal : Refusal) × (settled b .answer ≡ Refused refusal))
+      go Yes e kind = inl e
+      go (Counted year) e kind = absurd kind
+      go (LeftOut reason) e kind = absurd kind
+      go (Refused refusal) e kind = inr (refusal, e)
+
   pub told-accepted : OneOf (0 ∷ 1 ∷ 2 ∷ []) (tagOf the-type (settled b .answer)) → settled b .answer ≡ Yes
   told-accepted tag = no-refusal (settled b .answer) (settling b) tag
 

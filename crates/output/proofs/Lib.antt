@@ -1,0 +1,4 @@
+-- Laws about what the program prints.
+pub mod RefusalLaws
+pub mod SettlementLaws
+pub mod OutputLaws

@@ -1,0 +1,46 @@
+-- The lines of a refusal are short, and they are put together one part after the other.
+-- Assumes nothing.
+use Prim.Native.Nat.{ℕ, _+_, _^_, _≤_, _<_}
+use mathlib.Core.Path.{_≡_, _∙_}
+use mathlib.Core.List.{List, _++_}
+use native.Mathlib.Omega.{arith}
+use lib.ListN.{length, length-append}
+use Rattle.report.specs.Text.{bytesOf, decimal}
+use Rattle.report.specs.Lines.{putInto}
+use Rattle.report.proofs.DigitLaws.{decimal-length}
+use Rattle.report.proofs.WrittenLaws.{Put}
+use Rattle.report.proofs.FittingLaws.{written-front}
+use Rattle.output.specs.Output.{refusedBy, refusedField, refusedSettlement}
+
+-- a number of 64 bits has at most twenty digits
+pub digits-few : (n : ℕ) → n < 2 ^ 64 → length (decimal n) ≤ 20
+digits-few n small = decimal-length 19 n (omega arith)
+
+module _ (number : ℕ) (small : number < 2 ^ 64) where
+  pub by-length : length (refusedBy number) ≤ 28
+  unfolding refusedBy bytesOf
+  by-length = omega (arith, length-append (bytesOf "refused ") (decimal number), digits-few number small)
+
+  pub settlement-length : length (refusedSettlement number) ≤ 29
+  unfolding refusedSettlement bytesOf
+  settlement-length = omega (arith, length-append (refusedBy number) (bytesOf "\n"), by-length)
+
+  pub field-length : (offset : ℕ) → offset < 2 ^ 64 → length (refusedField number offset) ≤ 53
+  unfolding refusedField bytesOf
+  field-length offset within =
+      omega (
+        arith,
+        length-append (refusedBy number ++ bytesOf " at " ++ decimal offset) (bytesOf "\n"),
+        length-append (refusedBy number ++ bytesOf " at ") (decimal offset),
+        length-append (refusedBy number) (bytesOf " at "),
+        by-length,
+        digits-few offset within,
+      )
+
+-- all of them fit a buffer of 2048 bytes
+pub room : (old text : List ℕ) (most : ℕ) → 2048 ≤ length old → length text ≤ most → most ≤ 2048 → 0 + length text ≤ length old
+room old text most long short few = omega arith
+
+-- a text put at the front of a buffer, and how long it is
+pub at-front : (old text : List ℕ) {new : List ℕ} {after : ℕ} → Put old 0 text new after → (after ≡ length text) × (new ≡ putInto old text)
+at-front old text put = (omega (arith, put .1), put .0 ∙ written-front old text)

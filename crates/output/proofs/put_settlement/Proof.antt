@@ -1,0 +1,69 @@
+-- `output::put_settlement` meets its contract.
+-- Assumes nothing.
+use mathlib.Core.Path.{_≡_, sym, ap, subst, _∙_}
+use lib.ListN.{length}
+use Rattle.report.specs.Lines.{putInto}
+use Rattle.output.specs.Output.{refusedSettlement, settlementText}
+use Rattle.output.proofs.SettlementLaws.{Told, told}
+use borrow.Author.Needs.{needs}
+use Rattle.output.proofs.put_settlement.Statement.{statement}
+use Rattle.output.proofs.put_settlement.Tie as tie
+use Rattle.output.proofs.put_settlement.Reads as reads
+use Rattle.output.proofs.put_settlement.Lts as lts
+use Rattle.calls.proofs.number_of.Reads as number-of-reads
+use Rattle.output.proofs.put_refused_settlement.Reads as put-refused-settlement-reads
+use Rattle.report.proofs.report.Reads as report-reads
+
+report-requires : tie.Need-report-requires
+report-requires c κs = search needs
+
+enum-known-count : tie.Need-enum-known-count
+enum-known-count c = search needs
+
+enum-known-refusal : tie.Need-enum-known-refusal
+enum-known-refusal c = search needs
+
+number-of-requires : tie.Need-number-of-requires
+number-of-requires c κs = search needs
+
+put-refused-settlement-requires : tie.Need-put-refused-settlement-requires
+put-refused-settlement-requires c κs = search needs
+
+same-length : tie.Need-same-length
+same-length c = search needs
+
+returns : tie.Need-returns
+returns c =
+    let begun = c .before .before .before .before .before .before .before .before in
+    let old = begun .args .out .now in
+    let printed = c .before .before .before .before .before .report .ensures in
+    let whole = subst (Told (begun .args .b) old) (sym (printed .0) ∙ c .before .count .given .1) (told (begun .args .b) old (begun .pre)) in
+    (whole .0, printed .1 ∙ whole .1)
+
+same-length-2 : tie.Need-same-length-2
+same-length-2 c = search needs
+
+returns-2 : tie.Need-returns-2
+returns-2 c =
+    let begun = c .before .before .before .before .before .before .before .before .before .before .before .before .before in
+    let old = begun .args .out .now in
+    let printed = c .before .before .before .before .before .before .before .before .before .before .report .ensures in
+    let line = c .before .before .put-refused-settlement .ensures in
+    let whole = subst (Told (begun .args .b) old) (sym (printed .0) ∙ c .before .before .before .before .before .before .refusal .given .1) (told (begun .args .b) old (begun .pre)) in
+    let number = c .before .before .before .number-of in
+    let text : refusedSettlement (number .result) ≡ settlementText (begun .args .b) = ap refusedSettlement (number .ensures) ∙ whole .0 in
+    (line .0 ∙ ap length text, line .1 ∙ (λ i. putInto ((printed .1 ∙ whole .1) i) (text i)))
+
+pub put-settlement-spec : {M : Type 1} → statement M
+put-settlement-spec =
+    tie.close
+    (tie.spec
+    report-requires
+    enum-known-count
+    enum-known-refusal
+    number-of-requires
+    put-refused-settlement-requires
+    same-length
+    returns
+    same-length-2
+    returns-2)
