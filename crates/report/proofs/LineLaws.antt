@@ -16,7 +16,7 @@ use Rattle.settlement.specs.declared.Settlement.{Settlement}
 use Rattle.settlement.specs.Laws.{sumℤ}
 use Rattle.report.specs.Text.{bytesOf, decimal, signedDecimal}
 use Rattle.report.specs.Lines.{line, pointsOfOperator, operatorLine, operatorLines, lastLine}
-use Rattle.report.specs.Steps.{columns, pointsAt}
+use Rattle.report.specs.Steps.{columns}
 
 after-name : (name a b c d e : List ℕ) → name ++ a ++ b ++ c ++ d ++ e ≡ name ++ (a ++ b ++ c ++ d ++ e)
 after-name name a b c d e = simp append-assoc
@@ -38,10 +38,10 @@ columns-parts points out received adjustment = append-assoc ((32 ∷ decimal poi
 module _ (s : Settlement) where
   abbrev pub operatorColumns : ℕ → List ℕ
   operatorColumns operator =
-      columns (pointsAt (s .points) operator) (getD (s .contributions) operator 0) (getD (s .returns) operator 0) (getD (s .adjustments) operator (pos 0))
+      columns (pointsOfOperator s operator) (getD (s .contributions) operator 0) (getD (s .returns) operator 0) (getD (s .adjustments) operator (pos 0))
 
   pub operator-parts : (operator : ℕ) → operatorLine s operator ≡ decimal operator ++ operatorColumns operator
-  unfolding operatorLine pointsOfOperator pointsAt
+  unfolding operatorLine
   operator-parts operator = line-named (decimal operator) _ _ _ _
 
   abbrev pub lastColumns : List ℕ

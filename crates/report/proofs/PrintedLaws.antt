@@ -42,6 +42,10 @@ line-length name points out received adjustment = simp length-append (omega arit
 number-length : (n : ℕ) → n < 2 ^ 64 → length (decimal n) ≤ 20
 number-length n lt = decimal-length 19 n (omega arith)
 
+header-length : length header ≡ 34
+unfolding header line bytesOf
+header-length = refl
+
 module _ (b : Book) (s : Settlement) (printable : Printable s) where
   operator-length : (operator : ℕ) → operator < 16 → length (operatorLine s operator) ≤ 88
   unfolding operatorLine pointsOfOperator
@@ -79,10 +83,6 @@ module _ (b : Book) (s : Settlement) (printable : Printable s) where
         signed-length (pos 0) (omega arith),
       ))
 
-  header-length : length header ≡ 34
-  unfolding header line bytesOf
-  header-length = refl
-
   pub printed-length : length (printed b s) ≤ 2048
   unfolding printed
   printed-length =
@@ -92,6 +92,10 @@ module _ (b : Book) (s : Settlement) (printable : Printable s) where
 -- shares add up to at most as many times the total as there are
 shares-le : (T : ℕ) (list : List ℕ) → length list ≡ 16 → sum (share T list) ≤ 16 * T
 shares-le T list long = rw (shared T list .long, long) at (sum-bound (share T list) T (λ k lt. share-le T list k))
+
+six-indicators : length electricity ≡ 6
+unfolding electricity
+six-indicators = refl
 
 module _ (b : Book) where
   -- indicators whose pools stay below a bound
@@ -110,10 +114,6 @@ module _ (b : Book) where
   unfolding Modest electricity numbered
   modest-electricity =
       (pool-le b 0 (omega arith), (pool-le b 1 (omega arith), (pool-le b 2 (omega arith), (pool-le b 3 (omega arith), (pool-le b 4 (omega arith), (pool-le b 5 (omega arith), tt))))))
-
-  six-indicators : length electricity ≡ 6
-  unfolding electricity
-  six-indicators = refl
 
   settlement-printable : inRange b ≡ true → Printable (settlementBy b electricity)
   unfolding settlementBy contributions returns accessPoints returnWeights

@@ -1,12 +1,11 @@
 -- What inner functions of the report leave in a slice, and what holds of a settlement that they print.
 -- Assumes nothing.
-use Prim.Native.Nat.{ℕ, _+_, _*_, _^_, _<_}
+use Prim.Native.Nat.{ℕ, _+_, _^_, _<_}
 use mathlib.Core.Path.{_≡_}
 use mathlib.Core.List.{List, [], _++_}
 use lib.IntN.{ℤ, pos, natAbs}
 use lib.ListN.{length, getD, take, drop}
 use Rattle.apportion.specs.Sum.{sum}
-use Rattle.indicators.specs.Operators.{table}
 use Rattle.settlement.specs.declared.Settlement.{Settlement}
 use Rattle.settlement.specs.Laws.{sumℤ}
 use Rattle.report.specs.Text.{decimal, signedDecimal}
@@ -19,10 +18,6 @@ written old at text = take at old ++ text ++ drop (at + length text) old
 -- all of a line but its name
 unfoldable pub columns : ℕ → ℕ → ℕ → ℤ → List ℕ
 columns points out received adjustment = line [] (decimal points) (decimal out) (decimal received) (signedDecimal adjustment)
-
--- an operator's points over all indicators, from the list of all points
-unfoldable pub pointsAt : List ℕ → ℕ → ℕ
-pointsAt points operator = sum (table 6 (λ (number : ℕ). getD points (16 * number + operator) 0))
 
 -- sums and sizes stay within a machine's numbers, and adjustments cancel
 pub record Printable (s : Settlement) : Type 0 where

@@ -8,8 +8,8 @@ ghost use lib.ListN.{length};
 ghost use Rattle.book.specs.Book.{isJoined};
 ghost use Rattle.apportion.specs.Sum.{sum};
 ghost use Rattle.report.specs.Text.{decimal, signedDecimal};
-ghost use Rattle.report.specs.Lines.{header, operatorLine, operatorLines, lastLine, printed};
-ghost use Rattle.report.specs.Steps.{written, columns, pointsAt, Printable};
+ghost use Rattle.report.specs.Lines.{pointsOfOperator, operatorLine, operatorLines, lastLine, printed};
+ghost use Rattle.report.specs.Steps.{written, columns, Printable};
 use crate::text::put_byte;
 use crate::text::put_decimal;
 use crate::text::put_signed;
@@ -56,7 +56,6 @@ fn put_operator(out: &mut [u8], at: usize, s: Settlement, operator: usize) -> us
     requires { ⌜ Printable s × (operator < 16) × (at + length (operatorLine s operator) ≤ length (now out)) ⌝ }
     ensures { λ r. ⌜ (now (out .exit) ≡ written (now (out .entry)) at (operatorLine s operator)) × (r ≡ at + length (operatorLine s operator)) ⌝ }
 {
-    let points = s.points;
     let paid = s.contributions;
     let received = s.returns;
     let adjustments = s.adjustments;
@@ -64,7 +63,7 @@ fn put_operator(out: &mut [u8], at: usize, s: Settlement, operator: usize) -> us
     put_columns(
         out,
         next,
-        points_at(points, operator),
+        points_of_operator(s, operator),
         paid[operator],
         received[operator],
         adjustments[operator],
@@ -127,10 +126,11 @@ fn put_adjustment(out: &mut [u8], at: usize, n: i64) -> usize
 }
 
 // An operator's points over all indicators.
-fn points_at(points: [u64; 96], operator: usize) -> u64
-    requires { ⌜ (operator < 16) × (sum points < 2 ^ 60) ⌝ }
-    ensures { λ r. ⌜ r ≡ pointsAt points operator ⌝ }
+fn points_of_operator(s: Settlement, operator: usize) -> u64
+    requires { ⌜ (operator < 16) × (sum (s .points) < 2 ^ 60) ⌝ }
+    ensures { λ r. ⌜ r ≡ pointsOfOperator s operator ⌝ }
 {
+    let points = s.points;
     let mut t = 0;
     let mut number = 0;
     while number < 6 {

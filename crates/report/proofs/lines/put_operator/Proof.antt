@@ -14,11 +14,11 @@ use Rattle.report.proofs.lines.put_operator.Tie as tie
 
 put-decimal-requires : tie.Need-put-decimal-requires
 put-decimal-requires c κs =
-    let begun = c .before .before .before .before .before .before in
+    let begun = c .before .before .before .before .before in
     room-first (begun .args .out .now) (begun .args .at) (decimal (begun .args .operator)) (operatorColumns (begun .args .s) (begun .args .operator)) (rw (operator-parts (begun .args .s) (begun .args .operator)) at (begun .pre .2))
 
-points-at-requires : tie.Need-points-at-requires
-points-at-requires c κs = search needs
+points-of-operator-requires : tie.Need-points-of-operator-requires
+points-of-operator-requires c κs = search needs
 
 mul-put-columns : tie.Need-mul-put-columns
 mul-put-columns c = search needs
@@ -40,26 +40,26 @@ array-copy-out-put-columns c = search needs
 
 put-columns-requires : tie.Need-put-columns-requires
 put-columns-requires c κs =
-    let begun = c .before .before .before .before .before .before .before .before .before .before .before .before in
+    let begun = c .before .before .before .before .before .before .before .before .before .before .before in
     let small : natAbs (getD (begun .args .s .adjustments) (begun .args .operator) (pos 0)) < 2 ^ 62 = omega (arith, begun .pre .0 .adjustments-small (begun .args .operator) (begun .pre .1)) in
-    rw (again (getD (begun .args .s .adjustments) (begun .args .operator) (pos 0)) small, c .before .points-at .ensures) (small, room-after (begun .args .out .now) (begun .args .at) (decimal (begun .args .operator)) (operatorColumns (begun .args .s) (begun .args .operator)) (rw (operator-parts (begun .args .s) (begun .args .operator)) at (begun .pre .2)) (c .before .before .before .before .before .put-decimal .ensures))
+    rw (again (getD (begun .args .s .adjustments) (begun .args .operator) (pos 0)) small, c .before .points-of-operator .ensures) (small, room-after (begun .args .out .now) (begun .args .at) (decimal (begun .args .operator)) (operatorColumns (begun .args .s) (begun .args .operator)) (rw (operator-parts (begun .args .s) (begun .args .operator)) at (begun .pre .2)) (c .before .before .before .before .before .put-decimal .ensures))
 
 same-length : tie.Need-same-length
 same-length c = search needs
 
 returns : tie.Need-returns
 returns c =
-    let begun = c .before .before .before .before .before .before .before .before .before .before .before .before .before .before .before in
+    let begun = c .before .before .before .before .before .before .before .before .before .before .before .before .before .before in
     let small : natAbs (getD (begun .args .s .adjustments) (begun .args .operator) (pos 0)) < 2 ^ 62 = omega (arith, begun .pre .0 .adjustments-small (begun .args .operator) (begun .pre .1)) in
     rw (operator-parts (begun .args .s) (begun .args .operator))
-    (put-then (begun .args .out .now) (begun .args .at) (decimal (begun .args .operator)) (operatorColumns (begun .args .s) (begun .args .operator)) (rw (operator-parts (begun .args .s) (begun .args .operator)) at (begun .pre .2)) (c .before .before .before .before .before .before .before .before .put-decimal .ensures) (rw (again (getD (begun .args .s .adjustments) (begun .args .operator) (pos 0)) small, c .before .before .before .before .points-at .ensures) at (c .before .before .put-columns .ensures)))
+    (put-then (begun .args .out .now) (begun .args .at) (decimal (begun .args .operator)) (operatorColumns (begun .args .s) (begun .args .operator)) (rw (operator-parts (begun .args .s) (begun .args .operator)) at (begun .pre .2)) (c .before .before .before .before .before .before .before .before .put-decimal .ensures) (rw (again (getD (begun .args .s .adjustments) (begun .args .operator) (pos 0)) small, c .before .before .before .before .points-of-operator .ensures) at (c .before .before .put-columns .ensures)))
 
 pub put-operator-spec : {M : Type 1} → statement M
 put-operator-spec =
     tie.close
     (tie.spec
     put-decimal-requires
-    points-at-requires
+    points-of-operator-requires
     mul-put-columns
     array-read-put-columns
     mul-put-columns-2

@@ -31,11 +31,11 @@ array-share-prefix-text c =
 slice-aggregate-put-word : tie.Need-slice-aggregate-put-word
 slice-aggregate-put-word c =
     let begun = c .before .before .before .before .before .before .before in
-    rw (length-take) (omega (arith, c .before .before .before .before .put-lines .ensures .1, c .before .before .before .before .put-lines .kept .0, printed-length (begun .args .b) (begun .args .s) (begun .pre)))
+    rw length-take (omega (arith, c .before .before .before .before .put-lines .ensures .1, c .before .before .before .before .put-lines .kept .0, printed-length (begun .args .b) (begun .args .s) (begun .pre)))
 
 put-word-requires : tie.Need-put-word-requires
 put-word-requires c κs =
-    rw (length-take) (omega (arith, c .before .before .if1 .left))
+    rw length-take (omega (arith, c .before .before .if1 .left))
 
 same-length : tie.Need-same-length
 same-length c = search needs

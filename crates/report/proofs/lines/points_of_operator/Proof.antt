@@ -1,12 +1,12 @@
--- `report::lines::points_at` meets its contract. The loop's invariant: t is the sum of the points passed.
+-- `report::lines::points_of_operator` meets its contract. The loop's invariant: t is the sum of the points passed.
 -- Assumes nothing.
 use Prim.Native.Nat.{_-_, _≤_}
 use native.Mathlib.Omega.{arith}
 use borrow.Author.Needs.{needs}
-use Rattle.report.specs.Steps.{pointsAt}
+use Rattle.report.specs.Lines.{pointsOfOperator}
 use Rattle.report.proofs.SumLaws.{Summing, summing-none, summing-most, summing-more, summing-all, operatorsPoints, six, point-at, points-most}
-use Rattle.report.proofs.lines.points_at.Statement.{statement}
-use Rattle.report.proofs.lines.points_at.Tie as tie
+use Rattle.report.proofs.lines.points_of_operator.Statement.{statement}
+use Rattle.report.proofs.lines.points_of_operator.Tie as tie
 
 abbrev Inv-loop : tie.InvT-loop
 Inv-loop operator points t₀ number₀ t number = (number ≤ 6) × Summing (operatorsPoints points operator) number t
@@ -31,11 +31,11 @@ array-read-t c = search needs
 
 add-t-2 : tie.Need-add-t-2 Inv-loop μ-loop
 add-t-2 c =
-    let points = c .before .before .args .t1 in
-    let operator = c .before .before .args .operator in
+    let points = c .before .before .before .args .s .points in
+    let operator = c .before .before .before .args .operator in
     let here = c .before .loop in
     let most = summing-most (operatorsPoints points operator) (here .inv .1) (omega (arith, six points operator)) in
-    rw (point-at points operator (here .number) (omega arith)) (record { fits = omega (arith, most, points-most points operator (c .before .before .pre .1)) })
+    rw (point-at points operator (here .number) (omega arith)) (record { fits = omega (arith, most, points-most points operator (c .before .before .before .pre .1)) })
 
 add-number : tie.Need-add-number Inv-loop μ-loop
 add-number c = search needs
@@ -45,20 +45,20 @@ loop-less c = search needs
 
 loop-again : tie.Need-loop-again Inv-loop μ-loop
 loop-again c =
-    let points = c .before .before .args .t1 in
-    let operator = c .before .before .args .operator in
+    let points = c .before .before .before .args .s .points in
+    let operator = c .before .before .before .args .operator in
     let here = c .before .loop in
     (omega arith, summing-more (operatorsPoints points operator) (here .inv .1) _ (omega (arith, six points operator)) (point-at points operator (here .number) (omega arith)))
 
 returns : tie.Need-returns Inv-loop μ-loop
-unfolding pointsAt
+unfolding pointsOfOperator
 returns c =
-    let points = c .before .before .args .t1 in
-    let operator = c .before .before .args .operator in
+    let points = c .before .before .before .args .s .points in
+    let operator = c .before .before .before .args .operator in
     summing-all (operatorsPoints points operator) (c .before .loop .inv .1) (omega (arith, six points operator))
 
-pub points-at-spec : {M : Type 1} → statement M
-points-at-spec =
+pub points-of-operator-spec : {M : Type 1} → statement M
+points-of-operator-spec =
     tie.close
     (tie.spec
     Inv-loop
