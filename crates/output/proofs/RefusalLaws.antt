@@ -4,7 +4,7 @@ use Prim.Native.Nat.{ℕ, _+_, _^_, _≤_, _<_}
 use mathlib.Core.Path.{_≡_, _∙_}
 use mathlib.Core.List.{List, _++_}
 use native.Mathlib.Omega.{arith}
-use lib.ListN.{length, length-append}
+use lib.ListN.{length, drop, length-append}
 use Rattle.report.specs.Text.{bytesOf, decimal}
 use Rattle.report.specs.Lines.{putInto}
 use Rattle.report.proofs.DigitLaws.{decimal-length}
@@ -44,3 +44,8 @@ room old text most long short few = omega arith
 -- a text put at the front of a buffer, and how long it is
 pub at-front : (old text : List ℕ) {new : List ℕ} {after : ℕ} → Put old 0 text new after → (after ≡ length text) × (new ≡ putInto old text)
 at-front old text put = (omega (arith, put .1), put .0 ∙ written-front old text)
+
+-- a text at the front of a buffer is no longer than the buffer then is
+pub front-within : (old text : List ℕ) → length text ≤ length (putInto old text)
+unfolding putInto
+front-within old text = omega (arith, length-append text (drop (length text) old))

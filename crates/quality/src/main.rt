@@ -5,7 +5,7 @@ use libc::ENOENT;
 use libc::STDOUT_FILENO;
 use output::output;
 
-const NAME: &[u8; 8] = b"filing.q";
+const NAME: [u8; 8] = *b"filing.q";
 
 // One byte more than a filing may have, so that a longer one shows.
 fn main() {
@@ -13,7 +13,7 @@ fn main() {
     let length = read_filing(&mut filing);
     let error = os::errno();
     if error != 0 && error != ENOENT {
-        os::fail(NAME);
+        os::fail(&NAME);
         return;
     }
     let mut text = [0u8; 2048];
@@ -27,7 +27,7 @@ fn main() {
 fn read_filing(filing: &mut [u8]) -> usize
     ensures { λ r. ⌜ Counts r (now (filing .exit)) ⌝ }
 {
-    let fd = os::open_read(NAME);
+    let fd = os::open_read(&NAME);
     if fd < 0 {
         return 0;
     }
