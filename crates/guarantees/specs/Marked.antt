@@ -20,6 +20,9 @@ use Rattle.indicators.specs.Operators.{each}
 use Rattle.indicators.specs.Indicator.{electricity}
 use Rattle.indicators.specs.Points.{levelled, allPoints}
 use Rattle.settlement.specs.Settlement.{settled}
+use Rattle.report.specs.Text.{bytesOf}
+use Rattle.report.specs.Lines.{textOf}
+use Rattle.output.specs.Output.{outputOf}
 
 -- what the last of some calls on a fresh book is answered
 abbrev pub lastSaid : List Call → Said
@@ -40,6 +43,23 @@ caseM cap =
 
 abbrev pub firstTwo : {A : Type 0} → List A → List A
 firstTwo list = take 2 list
+
+-- every statement of a list holds
+abbrev pub All : List (Type 0) → Type 0
+All [] = Unit {0}
+All (statement ∷ rest) = statement × All rest
+
+-- "A refused field prints `refused 4 at 0` (number, offset)", and the examples that the table of answers gives in bytes
+abbrev pub refusedFilings : List (Type 0)
+refusedFilings =
+    (outputOf (1 ∷ 0 ∷ 1 ∷ 16 ∷ []) ≡ bytesOf "refused 4 at 0\n")
+    ∷ (outputOf (1 ∷ 0 ∷ []) ≡ bytesOf "refused 1 at 0\n")
+    ∷ (outputOf (99 ∷ 0 ∷ 0 ∷ []) ≡ bytesOf "refused 2 at 0\n")
+    ∷ (outputOf (1 ∷ 0 ∷ 2 ∷ 0 ∷ 0 ∷ []) ≡ bytesOf "refused 3 at 0\n")
+    ∷ (outputOf (5 ∷ 0 ∷ 3 ∷ 0 ∷ 6 ∷ 1 ∷ []) ≡ bytesOf "refused 5 at 0\n")
+    ∷ (outputOf (1 ∷ 0 ∷ 1 ∷ 0 ∷ 1 ∷ 0 ∷ 1 ∷ 0 ∷ []) ≡ bytesOf "refused 6 at 4\n")
+    ∷ (outputOf (5 ∷ 0 ∷ 3 ∷ 0 ∷ 0 ∷ 1 ∷ []) ≡ bytesOf "refused 7 at 0\n")
+    ∷ []
 
 abbrev pub marked : List (Type 0)
 marked =
@@ -66,11 +86,14 @@ marked =
     ∷ (firstTwo (settled (bookOf (caseM 10000)) .settlement .adjustments) ≡ pos 11463 ∷ negℤ (pos 11463) ∷ [])
     -- "M with cap rate 50 adjusts by 5000 and -5000"
     ∷ (firstTwo (settled (bookOf (caseM 50)) .settlement .adjustments) ≡ pos 5000 ∷ negℤ (pos 5000) ∷ [])
+    -- the lines that the program prints for M
+    ∷ (textOf (bookOf (caseM 10000))
+    ≡ bytesOf
+    "operator points out in adjustment\n0 65036 375000 386463 11463\n1 62464 1125000 1113537 -11463\nall 127500 1500000 1500000 0\n")
+    -- filings that are refused at a field
+    ∷ All refusedFilings
+    -- "a refused settlement `refused 10`": a fresh book
+    ∷ (outputOf [] ≡ bytesOf "refused 10\n")
     -- "weights 10, 8, 4 with the first two better become 18, 18, 8"
     ∷ (levelled 2 18 true 10 ∷ levelled 2 18 true 8 ∷ levelled 2 18 false 4 ∷ [] ≡ 18 ∷ 18 ∷ 8 ∷ [])
     ∷ []
-
--- every statement of a list holds
-abbrev pub All : List (Type 0) → Type 0
-All [] = Unit {0}
-All (statement ∷ rest) = statement × All rest
