@@ -1,5 +1,2 @@
-pub mod NumberLaws
-pub mod TagLaws
-pub mod FieldLaws
 pub mod WalkLaws
 pub mod ReadLaws

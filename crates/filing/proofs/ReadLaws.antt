@@ -15,13 +15,13 @@ use Rattle.book.specs.Book.{freshBook, inRange}
 use Rattle.book.specs.Calls.{apply, file, filedBook, filedAnswers}
 use Rattle.book.specs.Demand.{bookOf}
 use Rattle.book.proofs.Kept.{kept}
-use Rattle.filing.specs.declared.Field.{Field}
-use Rattle.filing.specs.declared.Field.the-variants.{Filing, End, Refused}
+use Rattle.fields.specs.declared.Field.{Field}
+use Rattle.fields.specs.declared.Field.the-variants.{Filing, End, Refused}
 use Rattle.filing.specs.declared.Reading.{Reading}
-use Rattle.filing.specs.Field.{fieldAt}
+use Rattle.fields.specs.Field.{fieldAt}
 use Rattle.filing.specs.Reader.{Fields, field, ended, broken, followed, fieldsFrom, fieldsOf, isRefused, reading, run, read}
 use Rattle.filing.specs.Laws.{callsIn, offsetsIn, ending, ReadAsCalls}
-use Rattle.filing.proofs.FieldLaws.{Stands, stands}
+use Rattle.fields.proofs.FieldLaws.{Stands, stands}
 
 -- a book that stays in range whatever is filed to it
 abbrev Sound : Book → Type 0

@@ -15,14 +15,14 @@ use Rattle.book.specs.declared.Filed.{Filed}
 use Rattle.book.specs.Book.{isJoined, figureOf}
 use Rattle.book.specs.Table.{answerTo}
 use Rattle.book.specs.Calls.{changed, answered, apply}
-use Rattle.filing.specs.declared.Field.{Field}
-use Rattle.filing.specs.declared.Field.the-variants.{Filing, End, Refused}
+use Rattle.fields.specs.declared.Field.{Field}
+use Rattle.fields.specs.declared.Field.the-variants.{Filing, End, Refused}
 use Rattle.filing.specs.declared.Reading.{Reading}
 use Rattle.filing.specs.declared.reader.Walk.{Walk}
-use Rattle.filing.specs.Field.{fieldAt}
+use Rattle.fields.specs.Field.{fieldAt}
 use Rattle.filing.specs.Reader.{Fields, field, followed, fieldsFrom, isRefused, reading, run}
 use Rattle.filing.specs.Steps.{stopped, held, moved, advanced, stepped}
-use Rattle.filing.proofs.FieldLaws.{Stands, at-end, stands}
+use Rattle.fields.proofs.FieldLaws.{Stands, at-end, stands}
 
 -- with as many fields allowed as bytes are left, one more changes nothing
 fields-enough : (most : ℕ) (bytes : List ℕ) (at : ℕ) → length bytes ≤ most + at → fieldsFrom (suc most) bytes at ≡ fieldsFrom most bytes at

@@ -1,4 +1,3 @@
-pub mod Field
 pub mod Reader
 pub mod Steps
 pub mod Laws

@@ -12,10 +12,10 @@ use Rattle.calls.specs.declared.Answer.the-variants.{Yes, Counted, LeftOut, Ref
 use Rattle.book.specs.declared.Book.{Book}
 use Rattle.book.specs.Book.{inRange}
 use Rattle.book.specs.Calls.{apply}
-use Rattle.filing.specs.declared.Field.{Field}
-use Rattle.filing.specs.declared.Field.the-variants.{Filing, End, Refused}
+use Rattle.fields.specs.declared.Field.{Field}
+use Rattle.fields.specs.declared.Field.the-variants.{Filing, End, Refused}
 use Rattle.filing.specs.declared.Reading.{Reading}
-use Rattle.filing.specs.Field.{fieldAt}
+use Rattle.fields.specs.Field.{fieldAt}
 
 -- "A filing is a run of fields": each a call with the offset of its tag; the run goes to the end, or to a field refused by 1, 2 or 3
 pub data Fields : Type 0 where

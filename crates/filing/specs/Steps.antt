@@ -6,8 +6,8 @@ use Rattle.calls.specs.declared.Answer.{Answer}
 use Rattle.calls.specs.declared.Answer.the-variants.{Yes, Refused as Refusing}
 use Rattle.book.specs.declared.Filed.{Filed}
 use Rattle.book.specs.Calls.{apply}
-use Rattle.filing.specs.declared.Field.{Field}
-use Rattle.filing.specs.declared.Field.the-variants.{Filing, End, Refused}
+use Rattle.fields.specs.declared.Field.{Field}
+use Rattle.fields.specs.declared.Field.the-variants.{Filing, End, Refused}
 use Rattle.filing.specs.declared.Reading.{Reading}
 use Rattle.filing.specs.declared.reader.Walk.{Walk}
 use Rattle.filing.specs.Reader.{isRefused, reading}

@@ -26,9 +26,9 @@ use Rattle.indicators.specs.Points.{largest, scoreOf, scores, normalised, expon
 use Rattle.settlement.specs.Money.{accessPoints, incomes, pot, contributions, returnWeights, returns, limits, capped, balanced, bonuses, maluses, adjustments}
 use Rattle.settlement.specs.Settlement.{networkMissing, allMarked, pointsOfAll, settlementBy, nothing, refusing, settledBy, settled}
 use Rattle.settlement.specs.Laws.{sumℤ}
-use Rattle.filing.specs.Field.{bigEndian, unsigned, twosComplement, signed, tags, isKnown, tagged, fieldAt}
+use Rattle.fields.specs.Field.{bigEndian, unsigned, twosComplement, signed, tags, isKnown, tagged, fieldAt}
 use Rattle.filing.specs.Reader.{followed, fieldsFrom, fieldsOf, isRefused, reading, run, read}
-use Rattle.report.specs.Text.{bytesOf, digits, decimal, signedDecimal}
+use Rattle.text.specs.Text.{bytesOf, digits, decimal, signedDecimal}
 use Rattle.report.specs.Lines.{line, header, pointsOfOperator, operatorLine, operatorLines, lastLine, printed, textOf}
 use Rattle.output.specs.Output.{longestFiling, refusedBy, refusedField, refusedSettlement, unless, settlementText, readingText, outputOf}
 use lib.Count.{ones, onesIn}

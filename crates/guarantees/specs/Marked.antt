@@ -20,7 +20,7 @@ use Rattle.indicators.specs.Operators.{each}
 use Rattle.indicators.specs.Indicator.{electricity}
 use Rattle.indicators.specs.Points.{levelled, allPoints}
 use Rattle.settlement.specs.Settlement.{settled}
-use Rattle.report.specs.Text.{bytesOf}
+use Rattle.text.specs.Text.{bytesOf}
 use Rattle.report.specs.Lines.{textOf}
 use Rattle.output.specs.Output.{outputOf}
 

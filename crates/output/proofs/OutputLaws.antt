@@ -15,7 +15,7 @@ use Rattle.calls.specs.declared.Answer.the-variants.{Yes, Counted, LeftOut, Ref
 use Rattle.calls.specs.Answers.{numberOf}
 use Rattle.book.specs.Book.{freshBook}
 use Rattle.filing.specs.Reader.{read}
-use Rattle.report.specs.Text.{bytesOf}
+use Rattle.text.specs.Text.{bytesOf}
 use Rattle.report.proofs.AnswerLaws.{first-three}
 use Rattle.output.specs.Output.{longestFiling, unless, refusedField, settlementText, readingText, outputOf}
 

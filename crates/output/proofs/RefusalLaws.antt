@@ -5,10 +5,10 @@ use mathlib.Core.Path.{_≡_, _∙_}
 use mathlib.Core.List.{List, _++_}
 use native.Mathlib.Omega.{arith}
 use lib.ListN.{length, drop, length-append}
-use Rattle.report.specs.Text.{bytesOf, decimal}
+use Rattle.text.specs.Text.{bytesOf, decimal}
 use Rattle.report.specs.Lines.{putInto}
-use Rattle.report.proofs.DigitLaws.{decimal-length}
-use Rattle.report.proofs.WrittenLaws.{Put}
+use Rattle.text.proofs.DigitLaws.{decimal-length}
+use Rattle.text.proofs.WrittenLaws.{Put}
 use Rattle.report.proofs.FittingLaws.{written-front}
 use Rattle.output.specs.Output.{refusedBy, refusedField, refusedSettlement}
 

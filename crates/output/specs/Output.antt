@@ -13,7 +13,7 @@ use Rattle.book.specs.Book.{freshBook}
 use Rattle.settlement.specs.Settlement.{settled}
 use Rattle.filing.specs.declared.Reading.{Reading}
 use Rattle.filing.specs.Reader.{read}
-use Rattle.report.specs.Text.{bytesOf, decimal}
+use Rattle.text.specs.Text.{bytesOf, decimal}
 use Rattle.report.specs.Lines.{textOf}
 
 -- "a longer file prints `too long`"

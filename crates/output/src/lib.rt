@@ -3,15 +3,15 @@ ghost use mathlib.Core.Path.{_≡_};
 ghost use Prim.Native.Nat.{_+_, _≤_};
 ghost use lib.ListN.{length};
 ghost use Rattle.report.specs.Lines.{putInto};
-ghost use Rattle.report.specs.Steps.{written};
+ghost use Rattle.text.specs.Steps.{written};
 ghost use Rattle.output.specs.Output.{refusedBy, refusedField, refusedSettlement, settlementText, outputOf};
 use book::Book;
 use calls::Answer;
 use calls::number_of;
 use filing::read;
 use report::Reported;
-use report::put_decimal;
-use report::put_word;
+use text::put_decimal;
+use text::put_word;
 use report::report;
 
 const LONGEST_FILING: usize = 65536;

@@ -4,9 +4,9 @@ use Prim.Native.Nat.{ℕ, _+_, _≤_}
 use mathlib.Core.List.{List, [], _∷_, _++_}
 use lib.IntN.{ℤ}
 use lib.ListN.{length}
-use Rattle.report.specs.Text.{decimal, signedDecimal}
+use Rattle.text.specs.Text.{decimal, signedDecimal}
 use Rattle.report.specs.Steps.{columns}
-use Rattle.report.proofs.WrittenLaws.{Put, room-first, room-after, put-then, three-first, three-second, three-third, put-three}
+use Rattle.text.proofs.WrittenLaws.{Put, room-first, room-after, put-then, three-first, three-second, three-third, put-three}
 use Rattle.report.proofs.LineLaws.{columns-parts}
 
 -- a number after a space

@@ -10,7 +10,7 @@ use borrow.Author.Tests.{lt-ltb, le-ltb}
 use Rattle.calls.specs.declared.Refusal.the-variants.{BufferTooShort}
 use Rattle.report.specs.declared.Reported.the-variants.{Written, Refusing}
 use Rattle.report.specs.Lines.{putInto, fitting, afterwards}
-use Rattle.report.specs.Steps.{written}
+use Rattle.text.specs.Steps.{written}
 
 -- a text put at the front, and the front of what holds it
 pub written-front : (buffer text : List ℕ) → written buffer 0 text ≡ putInto buffer text

@@ -1,7 +1,4 @@
 -- Laws about the bytes of the report.
-pub mod WrittenLaws
-pub mod DigitLaws
-pub mod SignLaws
 pub mod SumLaws
 pub mod LineLaws
 pub mod ColumnLaws

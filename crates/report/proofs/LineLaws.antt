@@ -14,7 +14,7 @@ use Rattle.book.specs.Book.{isJoined}
 use Rattle.apportion.specs.Sum.{sum}
 use Rattle.settlement.specs.declared.Settlement.{Settlement}
 use Rattle.settlement.specs.Laws.{sumℤ}
-use Rattle.report.specs.Text.{bytesOf, decimal, signedDecimal}
+use Rattle.text.specs.Text.{bytesOf, decimal, signedDecimal}
 use Rattle.report.specs.Lines.{line, pointsOfOperator, operatorLine, operatorLines, lastLine}
 use Rattle.report.specs.Steps.{columns}
 

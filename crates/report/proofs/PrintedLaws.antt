@@ -27,10 +27,10 @@ use Rattle.settlement.proofs.InRange.{pot-le}
 use Rattle.settlement.proofs.Amounts.{limit-most}
 use Rattle.settlement.proofs.Gathering.{share-le, pool-le}
 use Rattle.settlement.proofs.SettledLaws.{settles-exactly, adjustments-cancel, within-limits}
-use Rattle.report.specs.Text.{bytesOf, decimal}
+use Rattle.text.specs.Text.{bytesOf, decimal}
 use Rattle.report.specs.Lines.{line, header, pointsOfOperator, operatorLine, operatorLines, lastLine, printed, textOf}
 use Rattle.report.specs.Steps.{Printable}
-use Rattle.report.proofs.DigitLaws.{decimal-length, signed-length}
+use Rattle.text.proofs.DigitLaws.{decimal-length, signed-length}
 use Rattle.report.proofs.SumLaws.{points-most}
 
 line-length : (name points out received adjustment : List ℕ)

@@ -1,4 +1,2 @@
-pub mod Text
 pub mod Lines
 pub mod Steps
-pub mod Laws

@@ -18,7 +18,7 @@ use Rattle.settlement.specs.Settlement.{settled}
 use Rattle.settlement.specs.Laws.{sumℤ}
 use Rattle.report.specs.declared.Reported.{Reported}
 use Rattle.report.specs.declared.Reported.the-variants.{Written, Refusing}
-use Rattle.report.specs.Text.{bytesOf, decimal, signedDecimal}
+use Rattle.text.specs.Text.{bytesOf, decimal, signedDecimal}
 
 -- "single spaces, each line ended by byte 10"
 unfoldable pub line : List ℕ → List ℕ → List ℕ → List ℕ → List ℕ → List ℕ

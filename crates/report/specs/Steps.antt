@@ -1,4 +1,4 @@
--- What inner functions of the report leave in a slice, and what holds of a settlement that they print.
+-- A line without its name, and what holds of a settlement that inner functions of the report print.
 -- Assumes nothing.
 use Prim.Native.Nat.{ℕ, _+_, _^_, _<_}
 use mathlib.Core.Path.{_≡_}
@@ -8,12 +8,8 @@ use lib.ListN.{length, getD, take, drop}
 use Rattle.apportion.specs.Sum.{sum}
 use Rattle.settlement.specs.declared.Settlement.{Settlement}
 use Rattle.settlement.specs.Laws.{sumℤ}
-use Rattle.report.specs.Text.{decimal, signedDecimal}
+use Rattle.text.specs.Text.{decimal, signedDecimal}
 use Rattle.report.specs.Lines.{line}
-
--- a list with a text put at a place
-unfoldable pub written : List ℕ → ℕ → List ℕ → List ℕ
-written old at text = take at old ++ text ++ drop (at + length text) old
 
 -- all of a line but its name
 unfoldable pub columns : ℕ → ℕ → ℕ → ℤ → List ℕ

@@ -5,7 +5,7 @@ ghost use Rattle.report.specs.Lines.{printed, fitting, afterwards, repor
 ghost use Rattle.report.specs.Steps.{Printable};
 use crate::Reported;
 use crate::lines::put_lines;
-use crate::text::put_word;
+use text::put_word;
 use book::Book;
 use calls::Answer;
 use calls::Refusal;

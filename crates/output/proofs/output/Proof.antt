@@ -4,7 +4,7 @@ use mathlib.Core.Path.{_≡_, sym, ap, subst, _∙_}
 use mathlib.Core.List.{[], _∷_}
 use native.Mathlib.Omega.{arith}
 use lib.ListN.{length}
-use Rattle.report.specs.Text.{bytesOf}
+use Rattle.text.specs.Text.{bytesOf}
 use Rattle.report.specs.Lines.{putInto}
 use Rattle.output.specs.Output.{refusedField, settlementText}
 use types.Run.{OneOf}
@@ -26,7 +26,7 @@ use Rattle.calls.proofs.number_of.Reads as number-of-reads
 use Rattle.filing.proofs.read.Reads as read-reads
 use Rattle.output.proofs.put_refused_field.Reads as put-refused-field-reads
 use Rattle.output.proofs.put_settlement.Reads as put-settlement-reads
-use Rattle.report.proofs.put_word.Reads as put-word-reads
+use Rattle.text.proofs.put_word.Reads as put-word-reads
 
 slice-aggregate-put-word : tie.Need-slice-aggregate-put-word
 slice-aggregate-put-word c = search needs

@@ -2,8 +2,8 @@
 -- Assumes nothing.
 use Prim.Native.Nat.{_^_, _<_}
 use native.Mathlib.Omega.{arith}
-use Rattle.report.specs.Text.{bytesOf, decimal}
-use Rattle.report.proofs.WrittenLaws.{room-after, put-then}
+use Rattle.text.specs.Text.{bytesOf, decimal}
+use Rattle.text.proofs.WrittenLaws.{room-after, put-then}
 use Rattle.output.specs.Output.{refusedBy}
 use Rattle.output.proofs.RefusalLaws.{by-length, room}
 use borrow.Author.Needs.{needs}
@@ -11,8 +11,8 @@ use Rattle.output.proofs.put_refused.Statement.{statement}
 use Rattle.output.proofs.put_refused.Tie as tie
 use Rattle.output.proofs.put_refused.Reads as reads
 use Rattle.output.proofs.put_refused.Lts as lts
-use Rattle.report.proofs.put_decimal.Reads as put-decimal-reads
-use Rattle.report.proofs.put_word.Reads as put-word-reads
+use Rattle.text.proofs.put_decimal.Reads as put-decimal-reads
+use Rattle.text.proofs.put_word.Reads as put-word-reads
 
 slice-aggregate-put-word : tie.Need-slice-aggregate-put-word
 slice-aggregate-put-word c = search needs

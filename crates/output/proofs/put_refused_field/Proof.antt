@@ -3,8 +3,8 @@
 use Prim.Native.Nat.{_^_, _<_}
 use mathlib.Core.List.{_++_}
 use native.Mathlib.Omega.{arith}
-use Rattle.report.specs.Text.{bytesOf, decimal}
-use Rattle.report.proofs.WrittenLaws.{room-first, room-after, put-then, three-second, three-third, put-three}
+use Rattle.text.specs.Text.{bytesOf, decimal}
+use Rattle.text.proofs.WrittenLaws.{room-first, room-after, put-then, three-second, three-third, put-three}
 use Rattle.output.specs.Output.{refusedBy, refusedField}
 use Rattle.output.proofs.RefusalLaws.{field-length, room, at-front}
 use borrow.Author.Needs.{needs}
@@ -13,8 +13,8 @@ use Rattle.output.proofs.put_refused_field.Tie as tie
 use Rattle.output.proofs.put_refused_field.Reads as reads
 use Rattle.output.proofs.put_refused_field.Lts as lts
 use Rattle.output.proofs.put_refused.Reads as put-refused-reads
-use Rattle.report.proofs.put_decimal.Reads as put-decimal-reads
-use Rattle.report.proofs.put_word.Reads as put-word-reads
+use Rattle.text.proofs.put_decimal.Reads as put-decimal-reads
+use Rattle.text.proofs.put_word.Reads as put-word-reads
 
 put-refused-requires : tie.Need-put-refused-requires
 put-refused-requires c κs = search needs

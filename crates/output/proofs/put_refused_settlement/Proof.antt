@@ -2,8 +2,8 @@
 -- Assumes nothing.
 use Prim.Native.Nat.{_^_, _<_}
 use native.Mathlib.Omega.{arith}
-use Rattle.report.specs.Text.{bytesOf}
-use Rattle.report.proofs.WrittenLaws.{room-after, put-then}
+use Rattle.text.specs.Text.{bytesOf}
+use Rattle.text.proofs.WrittenLaws.{room-after, put-then}
 use Rattle.output.specs.Output.{refusedBy, refusedSettlement}
 use Rattle.output.proofs.RefusalLaws.{settlement-length, room, at-front}
 use borrow.Author.Needs.{needs}
@@ -12,7 +12,7 @@ use Rattle.output.proofs.put_refused_settlement.Tie as tie
 use Rattle.output.proofs.put_refused_settlement.Reads as reads
 use Rattle.output.proofs.put_refused_settlement.Lts as lts
 use Rattle.output.proofs.put_refused.Reads as put-refused-reads
-use Rattle.report.proofs.put_word.Reads as put-word-reads
+use Rattle.text.proofs.put_word.Reads as put-word-reads
 
 put-refused-requires : tie.Need-put-refused-requires
 put-refused-requires c κs = search needs

@@ -4,7 +4,7 @@ use borrow.Author.Needs.{needs}
 use mathlib.Core.Path.{sym, _∙_}
 use native.Mathlib.Omega.{arith}
 use Rattle.filing.specs.Steps.{stepped}
-use Rattle.filing.proofs.FieldLaws.{stands}
+use Rattle.fields.proofs.FieldLaws.{stands}
 use Rattle.filing.proofs.reader.step.Statement.{statement}
 use Rattle.filing.proofs.reader.step.Tie as tie
 

@@ -1,9 +1,9 @@
 -- `report::lines::put_adjustment` meets its contract.
 -- Assumes nothing.
 use mathlib.Core.List.{[], _∷_}
-use Rattle.report.specs.Text.{signedDecimal}
-use Rattle.report.proofs.WrittenLaws.{three-second, three-third, put-three}
-use Rattle.report.proofs.SignLaws.{again}
+use Rattle.text.specs.Text.{signedDecimal}
+use Rattle.text.proofs.WrittenLaws.{three-second, three-third, put-three}
+use Rattle.text.proofs.SignLaws.{again}
 use borrow.Author.Needs.{needs}
 use Rattle.report.proofs.lines.put_adjustment.Statement.{statement}
 use Rattle.report.proofs.lines.put_adjustment.Tie as tie

@@ -1,8 +1,8 @@
 -- `report::lines::put_column` meets its contract.
 -- Assumes nothing.
 use mathlib.Core.List.{[], _∷_}
-use Rattle.report.specs.Text.{decimal}
-use Rattle.report.proofs.WrittenLaws.{put-then}
+use Rattle.text.specs.Text.{decimal}
+use Rattle.text.proofs.WrittenLaws.{put-then}
 use borrow.Author.Needs.{needs}
 use Rattle.report.proofs.lines.put_column.Statement.{statement}
 use Rattle.report.proofs.lines.put_column.Tie as tie

@@ -1,7 +1,7 @@
 -- `report::lines::put_columns` meets its contract.
 -- Assumes nothing.
 use Rattle.report.proofs.ColumnLaws.{points-room, out-room, received-room, adjustment-room, columns-put}
-use Rattle.report.proofs.SignLaws.{again}
+use Rattle.text.proofs.SignLaws.{again}
 use borrow.Author.Needs.{needs}
 use Rattle.report.proofs.lines.put_columns.Statement.{statement}
 use Rattle.report.proofs.lines.put_columns.Tie as tie

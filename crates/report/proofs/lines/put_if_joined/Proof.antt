@@ -1,7 +1,7 @@
 -- `report::lines::put_if_joined` meets its contract.
 -- Assumes nothing.
 use Rattle.calls.proofs.Flags.{denied, granted}
-use Rattle.report.proofs.WrittenLaws.{put-nothing}
+use Rattle.text.proofs.WrittenLaws.{put-nothing}
 use borrow.Author.Needs.{needs}
 use Rattle.report.proofs.lines.put_if_joined.Statement.{statement}
 use Rattle.report.proofs.lines.put_if_joined.Tie as tie

@@ -2,7 +2,7 @@
 -- Assumes nothing.
 use mathlib.Core.List.{[], _∷_}
 use native.Mathlib.Omega.{arith}
-use Rattle.report.proofs.WrittenLaws.{room-first, room-after, put-then}
+use Rattle.text.proofs.WrittenLaws.{room-first, room-after, put-then}
 use Rattle.report.proofs.LineLaws.{lastColumns, last-parts}
 use borrow.Author.Needs.{needs}
 use Rattle.report.proofs.lines.put_last.Statement.{statement}

@@ -1,8 +1,8 @@
 -- `report::lines::put_lines` meets its contract.
 -- Assumes nothing.
-use Rattle.report.specs.Text.{bytesOf}
+use Rattle.text.specs.Text.{bytesOf}
 use Rattle.report.specs.Lines.{line, header, operatorLines, lastLine, printed}
-use Rattle.report.proofs.WrittenLaws.{three-first, three-second, three-third, put-three}
+use Rattle.text.proofs.WrittenLaws.{three-first, three-second, three-third, put-three}
 use borrow.Author.Needs.{needs}
 use Rattle.report.proofs.lines.put_lines.Statement.{statement}
 use Rattle.report.proofs.lines.put_lines.Tie as tie

@@ -4,9 +4,9 @@ use Prim.Native.Nat.{_^_, _<_}
 use native.Mathlib.Omega.{arith}
 use lib.IntN.{pos, natAbs}
 use lib.ListN.{getD}
-use Rattle.report.specs.Text.{decimal}
-use Rattle.report.proofs.WrittenLaws.{room-first, room-after, put-then}
-use Rattle.report.proofs.SignLaws.{again}
+use Rattle.text.specs.Text.{decimal}
+use Rattle.text.proofs.WrittenLaws.{room-first, room-after, put-then}
+use Rattle.text.proofs.SignLaws.{again}
 use Rattle.report.proofs.LineLaws.{operatorColumns, operator-parts}
 use borrow.Author.Needs.{needs}
 use Rattle.report.proofs.lines.put_operator.Statement.{statement}

@@ -6,7 +6,7 @@ use native.Mathlib.Omega.{arith}
 use borrow.Author.Needs.{needs}
 use lib.ListN.{length}
 use Rattle.report.specs.Lines.{operatorLines}
-use Rattle.report.proofs.WrittenLaws.{Put, put-nothing, room-after, put-then}
+use Rattle.text.proofs.WrittenLaws.{Put, put-nothing, room-after, put-then}
 use Rattle.report.proofs.LineLaws.{addition, lines-more, lines-within}
 use Rattle.report.proofs.lines.put_operators.Statement.{statement}
 use Rattle.report.proofs.lines.put_operators.Tie as tie

@@ -1,0 +1,83 @@
+-- What stands at an offset: one law for each answer of the field reader, and where each answer leaves the offset.
+-- Assumes nothing.
+use Prim.Native.Nat.{ℕ, _+_, _-_, _≤_, _<_}
+use mathlib.Core.Path.{_≡_, refl}
+use mathlib.Core.Bool.{Bool, true, false, cond, not, _||_}
+use mathlib.Core.List.{List}
+use native.Mathlib.Omega.{arith}
+use lib.Dec.{eqb, ltb}
+use lib.ListN.{length, take, drop}
+use borrow.Author.Tests.{lt-ltb, le-ltb, eq-eqb, ne-eqb, ltb-false, eqb-true}
+use Rattle.calls.specs.declared.Call.{Call}
+use Rattle.calls.specs.declared.Refusal.the-variants.{Truncated, UnknownTag, WrongLength}
+use Rattle.fields.specs.declared.Field.{Field}
+use Rattle.fields.specs.declared.Field.the-variants.{Filing, End, Refused}
+use Rattle.fields.specs.Field.{byte, unsigned, isKnown, tagged, fieldAt}
+
+-- how an answer leaves the offset: a call ends 3 bytes on or more and does not pass the end
+abbrev pub Stands : List ℕ → ℕ → Field → Type 0
+Stands bytes at (Filing call next) = (at + 3 ≤ next) × (next ≤ length bytes)
+Stands bytes at End = length bytes ≤ at
+Stands bytes at (Refused refusal) = Unit {0}
+
+module _ (bytes : List ℕ) (at : ℕ) where
+  abbrev left : ℕ
+  left = length bytes - at
+
+  abbrev size : ℕ
+  size = unsigned 2 bytes (at + 1)
+
+  abbrev tag : ℕ
+  tag = byte bytes at
+
+  pub at-end : length bytes ≤ at → fieldAt bytes at ≡ End
+  unfolding fieldAt
+  at-end le = rw (eq-eqb left 0 (omega arith)) refl
+
+  module _ (more : at < length bytes) where
+    some-left : eqb left 0 ≡ false
+    some-left = ne-eqb left 0 (λ e. omega arith)
+
+    pub no-length : left < 3 → fieldAt bytes at ≡ Refused Truncated
+    unfolding fieldAt
+    no-length lt = rw (some-left, lt-ltb left 3 lt) refl
+
+    module _ (whole : 3 ≤ left) where
+      pub passes-end : left - 3 < size → fieldAt bytes at ≡ Refused Truncated
+      unfolding fieldAt
+      passes-end lt = rw (some-left, le-ltb left 3 whole, lt-ltb (left - 3) size lt) refl
+
+      module _ (within : size ≤ left - 3) where
+        pub unknown-tag : isKnown tag ≡ false → fieldAt bytes at ≡ Refused UnknownTag
+        unfolding fieldAt
+        unknown-tag e = rw (some-left, le-ltb left 3 whole, le-ltb (left - 3) size within, e) refl
+
+        module _ (known : isKnown tag ≡ true) where
+          pub wrong-length : (size ≡ tagged tag .size → ⊥) → fieldAt bytes at ≡ Refused WrongLength
+          unfolding fieldAt
+          wrong-length differs =
+              rw (some-left, le-ltb left 3 whole, le-ltb (left - 3) size within, known, ne-eqb size (tagged tag .size) differs) refl
+
+          pub filed : size ≡ tagged tag .size → fieldAt bytes at ≡ Filing (tagged tag .call (take size (drop (at + 3) bytes))) (at + 3 + size)
+          unfolding fieldAt
+          filed same = rw (some-left, le-ltb left 3 whole, le-ltb (left - 3) size within, known, eq-eqb size (tagged tag .size) same) refl
+
+  pub stands : Stands bytes at (fieldAt bytes at)
+  unfolding fieldAt
+  stands =
+      go (eqb left 0) (ltb left 3) (ltb (left - 3) size) (not (isKnown tag)) (not (eqb size (tagged tag .size))) _ refl refl refl
+    where
+      go : (none short long unknown wrong : Bool) (call : Call) → eqb left 0 ≡ none → ltb left 3 ≡ short → ltb (left - 3) size ≡ long
+          → Stands bytes at
+          (cond none End
+          (cond (short || long) (Refused Truncated)
+          (cond unknown (Refused UnknownTag) (cond wrong (Refused WrongLength) (Filing call (at + 3 + size))))))
+      go true short long unknown wrong call none-left s l = omega (arith, eqb-true left 0 none-left)
+      go false true long unknown wrong call n s l = tt
+      go false false true unknown wrong call n s l = tt
+      go false false false true wrong call n s l = tt
+      go false false false false true call n s l = tt
+      go false false false false false call n s l =
+          let whole : 3 ≤ left = ltb-false left 3 s in
+          let within : size ≤ left - 3 = ltb-false (left - 3) size l in
+          (omega arith, omega arith)

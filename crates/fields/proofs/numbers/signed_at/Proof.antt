@@ -1,0 +1,25 @@
+-- `fields::numbers::signed_at` meets its contract.
+-- Assumes nothing.
+use borrow.Author.Needs.{needs}
+use mathlib.Core.Path.{ap, _∙_}
+use mir.Syntax.{w64}
+use mir.Val.{SFits}
+use Rattle.calls.proofs.Times.{back}
+use Rattle.fields.specs.Field.{twosComplement, signed}
+use Rattle.fields.proofs.numbers.signed_at.Statement.{statement}
+use Rattle.fields.proofs.numbers.signed_at.Tie as tie
+
+unsigned-at-requires : tie.Need-unsigned-at-requires
+unsigned-at-requires c κs = search needs
+
+signed-of-requires : tie.Need-signed-of-requires
+signed-of-requires c κs = search needs
+
+returns : tie.Need-returns
+unfolding signed
+returns c =
+    let fits : SFits w64 (c .signed-of .result) = record { sfits = c .signed-of .ok } in
+    back fits ∙ c .signed-of .ensures ∙ ap twosComplement (c .before .unsigned-at .ensures .0)
+
+pub signed-at-spec : {M : Type 1} → statement M
+signed-at-spec = tie.close (tie.spec unsigned-at-requires signed-of-requires returns)

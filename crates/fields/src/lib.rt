@@ -1,0 +1,16 @@
+// A field of a filing: its bytes, and the call that they give.
+mod contents;
+mod fields;
+mod numbers;
+
+use calls::Call;
+use calls::Refusal;
+pub use fields::field_at;
+
+// What stands in a filing at an offset.
+pub enum Field {
+    // A call, and the offset after it.
+    Filing { filing_call: Call, next: usize },
+    End,
+    Refused(Refusal),
+}

@@ -1,0 +1,45 @@
+// The numbers of a filing: big-endian, unsigned or two's complement.
+ghost use mathlib.Core.Path.{_≡_};
+ghost use Prim.Native.Nat.{_+_, _^_, _≤_, _<_};
+ghost use lib.ListN.{length};
+ghost use Rattle.fields.specs.Field.{unsigned, twosComplement, signed};
+
+// Half of what 64 bits hold: from here on the number is negative.
+const NEGATIVE_FROM: u64 = 9223372036854775808;
+
+const ALL_BITS: u64 = 18446744073709551615;
+
+pub(crate) fn unsigned_at(bytes: &[u8], at: usize, width: usize) -> u64
+    requires { ⌜ (at + width ≤ length (now bytes)) × (width ≤ 8) ⌝ }
+    ensures { λ r. ⌜ (r ≡ unsigned width (now (bytes .entry)) at) × (r < 256 ^ width) ⌝ }
+{
+    let mut number: u64 = 0;
+    let mut left = width;
+    while 0 < left {
+        number = number * 256 + wide(bytes[at + width - left]);
+        left -= 1;
+    }
+    number
+}
+
+fn wide(byte: u8) -> u64
+    ensures { λ r. ⌜ (r ≡ byte) × (r < 256) ⌝ }
+{
+    byte as u64
+}
+
+fn signed_of(bits: u64) -> i64
+    ensures { λ r. ⌜ r ≡ twosComplement bits ⌝ }
+{
+    if bits < NEGATIVE_FROM {
+        return bits as i64;
+    }
+    -1 - (ALL_BITS - bits) as i64
+}
+
+pub(crate) fn signed_at(bytes: &[u8], at: usize) -> i64
+    requires { ⌜ at + 8 ≤ length (now bytes) ⌝ }
+    ensures { λ r. ⌜ r ≡ signed (now (bytes .entry)) at ⌝ }
+{
+    signed_of(unsigned_at(bytes, at, 8))
+}

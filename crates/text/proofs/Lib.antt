@@ -1,0 +1,4 @@
+-- Laws about texts in a lent slice.
+pub mod WrittenLaws
+pub mod DigitLaws
+pub mod SignLaws

@@ -1,0 +1,9 @@
+-- What the writers of this crate leave in a slice.
+-- Assumes nothing.
+use Prim.Native.Nat.{ℕ, _+_}
+use mathlib.Core.List.{List, _++_}
+use lib.ListN.{length, take, drop}
+
+-- a list with a text put at a place
+unfoldable pub written : List ℕ → ℕ → List ℕ → List ℕ
+written old at text = take at old ++ text ++ drop (at + length text) old
