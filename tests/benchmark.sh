@@ -2,12 +2,7 @@
 # Counts the instructions of the program and of the model on the same filings of 65,536 bytes, and prints both and their ratio.
 # It needs valgrind. Nothing here is held to a limit.
 set -euo pipefail
-cd "$(dirname "$0")/.."
-(cd model && cargo build --quiet --release --offline)
-model=$PWD/model/target/release/model
-program=$PWD/target/bin/quality
-work=$(mktemp -d)
-trap 'rm -rf "$work"' EXIT
+. "$(dirname "$0")/common.sh"
 
 # Sixteen operators with a network, then fields of one kind or of all by turns, up to 65,536 bytes exactly.
 calls() { # KIND

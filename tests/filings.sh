@@ -2,24 +2,18 @@
 # Runs the program and the independent model on generated filings and compares every byte that they print.
 # usage: tests/filings.sh [COUNT [SEED]]; the filings of a seed are always the same.
 set -euo pipefail
-cd "$(dirname "$0")/.."
+. "$(dirname "$0")/common.sh"
 count=${1:-3000}
 seed=${2:-1}
-program=target/bin/quality
-
-(cd model && cargo build --quiet --release --offline)
-work=$(mktemp -d)
-trap 'rm -rf "$work"' EXIT
 
 # A part of the filings. On a mismatch the filing is kept in the folder mismatches.
 part() { # NAME FIRST COUNT
-    if model/target/release/model compare "$program" "$work/$1" "$seed" "$2" "$3" >"$work/$1.said" 2>&1; then
+    if "$model" compare "$program" "$work/$1" "$seed" "$2" "$3" >"$work/$1.said" 2>&1; then
         return
     fi
-    cat "$work/$1.said" >&2
     mkdir -p mismatches
-    cp "$work/$1"/mismatch-*.q mismatches/ 2>/dev/null || true
-    echo "tests/filings.sh: the filing is in mismatches/; to repeat: tests/filings.sh $count $seed" >&2
+    cp "$work/$1"/mismatch-*.q mismatches/ || true
+    sed "s|$work/$1|mismatches|g; s|model compare|$model compare|" "$work/$1.said" >&2
     return 1
 }
 

@@ -1,12 +1,7 @@
 #!/usr/bin/env bash
 # Runs the program as staff do: on the examples, without a filing, and on one that cannot be read.
 set -euo pipefail
-cd "$(dirname "$0")/.."
-(cd model && cargo build --quiet --release --offline)
-model=$PWD/model/target/release/model
-program=$PWD/target/bin/quality
-work=$(mktemp -d)
-trap 'rm -rf "$work"' EXIT
+. "$(dirname "$0")/common.sh"
 
 fail() {
     echo "tests/program.sh: $1" >&2

@@ -3,6 +3,8 @@
 
 pub mod book;
 pub mod calls;
+#[cfg(test)]
+mod case_m;
 pub mod compare;
 pub mod exponent;
 pub mod filing;

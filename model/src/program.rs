@@ -38,6 +38,7 @@ pub fn printed(file: Option<&[u8]>) -> Vec<u8> {
 #[cfg(test)]
 mod tests {
     use super::*;
+    use crate::case_m;
     use crate::script;
 
     /// The filing of text commands.
@@ -54,33 +55,14 @@ mod tests {
         assert_eq!(output, expected);
     }
 
-    const CASE_M: [&str; 11] = [
-        "join 0",
-        "join 1",
-        "setting 0 0 100",
-        "setting 1 0 100",
-        "setting 0 1 1000",
-        "setting 1 1 3000",
-        "setting 0 2 100000000",
-        "setting 1 2 200000000",
-        "amount 1 0 4 0 50000",
-        "amount 1 0 5 0 100",
-        "rates 5000 10000",
-    ];
-
-    const PRINTED_M: &str = "operator points out in adjustment\n\
-        0 65036 375000 386463 11463\n\
-        1 62464 1125000 1113537 -11463\n\
-        all 127500 1500000 1500000 0\n";
-
     #[test]
     fn marked_case_m() {
-        prints(&encoded(&CASE_M), PRINTED_M);
+        prints(&encoded(&case_m::CALLS), case_m::PRINTED);
     }
 
     #[test]
     fn marked_case_m_with_cap_rate_50() {
-        let mut filing = encoded(&CASE_M);
+        let mut filing = encoded(&case_m::CALLS);
         filing.extend(encoded(&["rates 5000 50"]));
         let expected = "operator points out in adjustment\n\
             0 65036 375000 386463 5000\n\
@@ -109,7 +91,7 @@ mod tests {
         let below = encoded(&["join 0", "amount 0 0 0 1 1"]);
         prints(&below, "refused 9 at 4\n");
         prints(&encoded(&["join 0"]), "refused 11\n");
-        let marked = encoded(&[
+        let marked = [
             "join 0",
             "setting 0 0 1",
             "setting 0 1 1",
@@ -119,24 +101,20 @@ mod tests {
             "mark 0 3 1",
             "mark 0 4 1",
             "mark 0 5 1",
-        ]);
-        prints(&marked, "refused 12\n");
+        ];
+        prints(&encoded(&marked), "refused 12\n");
         // Six marks without cabins and access points: the lower number.
-        let marked = encoded(&[
-            "join 0",
-            "mark 0 0 1",
-            "mark 0 1 1",
-            "mark 0 2 1",
-            "mark 0 3 1",
-            "mark 0 4 1",
-            "mark 0 5 1",
-        ]);
-        prints(&marked, "refused 11\n");
+        let bare: Vec<&str> = marked
+            .iter()
+            .filter(|call| !call.starts_with("setting"))
+            .copied()
+            .collect();
+        prints(&encoded(&bare), "refused 11\n");
     }
 
     #[test]
     fn refused_field_prints_nothing_of_the_book() {
-        let mut filing = encoded(&CASE_M);
+        let mut filing = encoded(&case_m::CALLS);
         let length = filing.len();
         filing.push(1);
         prints(&filing, &format!("refused 1 at {length}\n"));
@@ -146,7 +124,7 @@ mod tests {
 
     /// Case M followed by its rates once more, up to a length of that form.
     fn filled(length: usize) -> Vec<u8> {
-        let mut filing = encoded(&CASE_M);
+        let mut filing = encoded(&case_m::CALLS);
         let rates = encoded(&["rates 5000 10000"]);
         let index = encoded(&["index 1 10000"]);
         while filing.len() < length {
@@ -163,8 +141,8 @@ mod tests {
 
     #[test]
     fn longest_files() {
-        prints(&filled(65_535), PRINTED_M);
-        prints(&filled(65_536), PRINTED_M);
+        prints(&filled(65_535), case_m::PRINTED);
+        prints(&filled(65_536), case_m::PRINTED);
         prints(&filled(65_537), "too long\n");
         prints(&filled(65_538), "too long\n");
         prints(&filled(131_072), "too long\n");

@@ -48,30 +48,14 @@ pub fn lines(book: &Book, settlement: &Settlement) -> String {
 #[cfg(test)]
 mod tests {
     use super::*;
+    use crate::case_m;
     use crate::filing::read;
     use crate::generator;
     use crate::script;
 
-    const CASE_M: &str = "operator points out in adjustment\n\
-        0 65036 375000 386463 11463\n\
-        1 62464 1125000 1113537 -11463\n\
-        all 127500 1500000 1500000 0\n";
-
     fn case_m() -> Book {
         let mut book = Book::fresh();
-        for command in [
-            "join 0",
-            "join 1",
-            "setting 0 0 100",
-            "setting 1 0 100",
-            "setting 0 1 1000",
-            "setting 1 1 3000",
-            "setting 0 2 100000000",
-            "setting 1 2 200000000",
-            "amount 1 0 4 0 50000",
-            "amount 1 0 5 0 100",
-            "rates 5000 10000",
-        ] {
+        for command in case_m::CALLS {
             assert_eq!(script::answer(&mut book, command), Ok("yes".to_string()));
         }
         book
@@ -99,7 +83,7 @@ mod tests {
 
     #[test]
     fn marked_case_m() {
-        assert_eq!(reported(&case_m()), CASE_M);
+        assert_eq!(reported(&case_m()), case_m::PRINTED);
     }
 
     #[test]
@@ -116,14 +100,14 @@ mod tests {
     #[test]
     fn buffers() {
         let book = case_m();
-        let length = CASE_M.len();
+        let length = case_m::PRINTED.len();
         assert_eq!(length, 34 + 28 + 31 + 29);
         let mut buffer = vec![7; length];
         assert_eq!(report(&book, &mut buffer), Ok(length));
-        assert_eq!(buffer, CASE_M.as_bytes());
+        assert_eq!(buffer, case_m::PRINTED.as_bytes());
         let mut buffer = vec![7; length + 3];
         assert_eq!(report(&book, &mut buffer), Ok(length));
-        assert_eq!(buffer[..length], *CASE_M.as_bytes());
+        assert_eq!(buffer[..length], *case_m::PRINTED.as_bytes());
         assert_eq!(buffer[length..], [7; 3]);
         for short in 0..length {
             let mut buffer = vec![7; short];

@@ -20,9 +20,10 @@ use Rattle.calls.specs.Call.{timesInRange, weightInRange, detailsInRange, secon
 use Rattle.book.specs.Table.{joinsAgain, lacksOperator, some, refuse, passesLimit, fallsBelow, answerTo}
 use Rattle.book.specs.Calls.{withJoined, withFigures, entered, enterAll, changed, answered, apply, file, filedBook, filedAnswers}
 use Rattle.book.specs.Calls.{withSettings, withRates}
-use Rattle.indicators.specs.Operators.{table, each, count}
-use Rattle.indicators.specs.Indicator.{electricity, over, yearlyValue, threeYears, reliableMask, isReliable, joinedCount, reliableCount, pool}
-use Rattle.indicators.specs.Points.{largest, scoreOf, scores, normalised, exponentWeight, isAbove, aboveCount, aboveWeight, levelled, linearWeight, isLevelled, weightOfOne, weights, points, allPoints}
+use Rattle.values.specs.Operators.{table, each, count}
+use Rattle.values.specs.Indicator.{electricity, over, yearlyValue, threeYears, reliableMask, isReliable, joinedCount, reliableCount, pool}
+use Rattle.values.specs.Indicator.{scoreOf, scores}
+use Rattle.indicators.specs.Points.{largest, normalised, exponentWeight, isAbove, aboveCount, aboveWeight, levelled, linearWeight, isLevelled, weightOfOne, weights, points, allPoints}
 use Rattle.settlement.specs.Money.{accessPoints, incomes, pot, contributions, returnWeights, returns, limits, capped, balanced, bonuses, maluses, adjustments}
 use Rattle.settlement.specs.Settlement.{networkMissing, allMarked, pointsOfAll, settlementBy, nothing, refusing, settledBy, settled}
 use Rattle.settlement.specs.Laws.{sumℤ}

@@ -16,8 +16,8 @@ use Rattle.calls.specs.Answers.{Said, yes-said, counted-in, left-out-under, ref
 use Rattle.book.specs.Book.{freshBook, figureOf}
 use Rattle.book.specs.Calls.{filedAnswers}
 use Rattle.book.specs.Demand.{bookOf}
-use Rattle.indicators.specs.Operators.{each}
-use Rattle.indicators.specs.Indicator.{electricity}
+use Rattle.values.specs.Operators.{each}
+use Rattle.values.specs.Indicator.{electricity}
 use Rattle.indicators.specs.Points.{levelled, allPoints}
 use Rattle.settlement.specs.Settlement.{settled}
 use Rattle.text.specs.Text.{bytesOf}

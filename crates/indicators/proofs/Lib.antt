@@ -1,9 +1,4 @@
-pub mod Tables
-pub mod CountLaws
 pub mod Largest
-pub mod InRange
-pub mod Numbered
-pub mod Scores
 pub mod Weighting
 pub mod OnesLaws
 pub mod WeightLaws

@@ -13,8 +13,8 @@ use lib.Pow.{pow-pos}
 use borrow.Author.Tests.{eqb-true, eqb-false, eq-eqb, ne-eqb}
 use Rattle.calls.specs.Masks.{has}
 use Rattle.calls.proofs.MaskLaws.{has-zero, has-half, same-bits}
-use Rattle.indicators.specs.Operators.{count}
-use Rattle.indicators.proofs.CountLaws.{count-first, count-same, count-none, some-passes}
+use Rattle.values.specs.Operators.{count}
+use Rattle.values.proofs.CountLaws.{count-first, count-same, count-none, some-passes}
 
 -- the lowest digit as a number
 first-digit : (mask : ℕ) → cond (has mask 0) 1 0 ≡ mask % 2

@@ -18,12 +18,12 @@ use Rattle.apportion.specs.Share.{share}
 use Rattle.apportion.specs.Laws.{Shared}
 use Rattle.apportion.proofs.Sums.{element-le}
 use Rattle.apportion.proofs.Shared.{shared}
-use Rattle.indicators.specs.Operators.{count}
-use Rattle.indicators.specs.Indicator.{Indicator, reliableMask, isReliable, joinedCount, reliableCount, pool}
+use Rattle.values.specs.Operators.{count}
+use Rattle.values.specs.Indicator.{Indicator, reliableMask, isReliable, joinedCount, reliableCount, pool}
 use Rattle.indicators.specs.Points.{isAbove, isLevelled, aboveWeight, weights, points}
 use Rattle.indicators.specs.Laws.{PointsMadeUp}
-use Rattle.indicators.proofs.Tables.{sum-none}
-use Rattle.indicators.proofs.CountLaws.{count-positive, count-mono, some-passes}
+use Rattle.values.proofs.Tables.{sum-none}
+use Rattle.values.proofs.CountLaws.{count-positive, count-mono, some-passes}
 use Rattle.indicators.proofs.OnesLaws.{ones-counted, and-has, complement}
 use Rattle.indicators.proofs.WeightLaws.{over-most, over-some, one-above, above-reliable, weights-length, weight-reliable, weight-none, weight-above}
 

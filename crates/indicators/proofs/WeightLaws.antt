@@ -13,11 +13,12 @@ use Rattle.apportion.specs.Sum.{sum}
 use Rattle.book.specs.declared.Book.{Book}
 use Rattle.exponent.proofs.Laws.{weight-positive, weight-most}
 use Rattle.calls.proofs.Flags.{and-left}
-use Rattle.indicators.specs.Operators.{count}
-use Rattle.indicators.specs.Indicator.{Indicator, over, isReliable}
-use Rattle.indicators.specs.Points.{largest, scores, normalised, exponentWeight, isAbove, aboveCount, aboveWeight, levelled, linearWeight, isLevelled, weightOfOne, weights}
-use Rattle.indicators.proofs.Tables.{length-each, each-at, each-le-sum, sum-each-le}
-use Rattle.indicators.proofs.CountLaws.{cond-le, count-le, count-positive}
+use Rattle.values.specs.Operators.{count}
+use Rattle.values.specs.Indicator.{Indicator, over, isReliable}
+use Rattle.values.specs.Indicator.{scores}
+use Rattle.indicators.specs.Points.{largest, normalised, exponentWeight, isAbove, aboveCount, aboveWeight, levelled, linearWeight, isLevelled, weightOfOne, weights}
+use Rattle.values.proofs.Tables.{length-each, each-at, each-le-sum, sum-each-le}
+use Rattle.values.proofs.CountLaws.{cond-le, count-le, count-positive}
 use Rattle.indicators.proofs.Largest.{largest-ge}
 
 -- a quotient, or 0, is at most a number that many times the divisor reaches

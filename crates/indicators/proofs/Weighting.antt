@@ -6,11 +6,12 @@ use Prim.Native.Nat.{ℕ, zero, suc, _≤_, _<_}
 use native.Mathlib.Omega.{arith}
 use Rattle.book.specs.declared.Book.{Book}
 use Rattle.apportion.specs.Sum.{sum}
-use Rattle.indicators.specs.Operators.{each}
-use Rattle.indicators.specs.Indicator.{Indicator, electricity, numbered, reliableMask, isReliable, reliableCount}
-use Rattle.indicators.specs.Points.{scores, exponentWeight, isAbove, aboveCount, aboveWeight, isLevelled, weightOfOne, weights}
+use Rattle.values.specs.Operators.{each}
+use Rattle.values.specs.Indicator.{Indicator, electricity, numbered, reliableMask, isReliable, reliableCount}
+use Rattle.values.specs.Indicator.{scores}
+use Rattle.indicators.specs.Points.{exponentWeight, isAbove, aboveCount, aboveWeight, isLevelled, weightOfOne, weights}
 use Rattle.indicators.specs.Steps.{aboveIn, weightIfAbove, aboveSum, levelledAt, levelledIn, linearAt, linearIn}
-use Rattle.indicators.proofs.Tables.{each-at, each-same}
+use Rattle.values.proofs.Tables.{each-at, each-same}
 
 -- the first four indicators are levelled, the others linear
 pub levels : (number : ℕ) → number < 4 → isLevelled (numbered number .measure) ≡ true

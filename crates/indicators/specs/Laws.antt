@@ -7,8 +7,8 @@ use lib.ListN.{getD}
 use Rattle.book.specs.declared.Book.{Book}
 use Rattle.book.specs.Book.{isJoined, isMarked}
 use Rattle.apportion.specs.Sum.{sum}
-use Rattle.indicators.specs.Operators.{count}
-use Rattle.indicators.specs.Indicator.{Indicator, joinedCount, reliableCount, isReliable, pool}
+use Rattle.values.specs.Operators.{count}
+use Rattle.values.specs.Indicator.{Indicator, joinedCount, reliableCount, isReliable, pool}
 use Rattle.indicators.specs.Points.{isAbove, isLevelled, points}
 
 pub record PointsMadeUp (b : Book) (indicator : Indicator) : Type 0 where

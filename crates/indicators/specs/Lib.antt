@@ -1,5 +1,3 @@
-pub mod Operators
-pub mod Indicator
 pub mod Points
 pub mod Steps
 pub mod Laws

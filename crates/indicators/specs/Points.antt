@@ -9,20 +9,13 @@ use Rattle.book.specs.declared.Book.{Book}
 use Rattle.apportion.specs.Sum.{sum}
 use Rattle.apportion.specs.Share.{share}
 use Rattle.exponent.specs.Weight.{weightOf}
-use Rattle.indicators.specs.Operators.{each, count}
-use Rattle.indicators.specs.Indicator.{Measure, frequency, duration, fee, Indicator, over, threeYears, isReliable, reliableCount, pool}
+use Rattle.values.specs.Operators.{each, count}
+use Rattle.values.specs.Indicator.{Measure, frequency, duration, fee, Indicator, over, isReliable, reliableCount, pool, scores}
 
 -- the largest of a list
 unfoldable pub largest : List ℕ → ℕ
 largest [] = 0
 largest (x ∷ xs) = max x (largest xs)
-
--- the s of one that takes part; "Marked operators get 0 and count nowhere else"
-unfoldable pub scoreOf : Book → Indicator → ℕ → ℕ
-scoreOf b indicator operator = cond (isReliable b indicator operator) (threeYears b (indicator .measure) operator) 0
-
-unfoldable pub scores : Book → Indicator → List ℕ
-scores b indicator = each (scoreOf b indicator)
 
 -- a score as so many parts of the largest: 01's k (1000 parts) and e (100,000 parts)
 unfoldable pub normalised : ℕ → List ℕ → ℕ → ℕ

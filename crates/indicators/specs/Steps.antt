@@ -1,4 +1,4 @@
--- What inner functions take and give: yearly values by operator, and parts of specs/Points.antt over a mask and a list of scores.
+-- What inner functions take and give: parts of specs/Points.antt over a mask and a list of scores.
 -- Assumes nothing.
 use Prim.Native.Nat.{ℕ, _*_, _≤_}
 use mathlib.Core.Bool.{Bool, cond, _&&_}
@@ -8,23 +8,8 @@ use lib.Dec.{ltb}
 use lib.ListN.{getD}
 use Rattle.apportion.specs.Sum.{sum}
 use Rattle.calls.specs.Masks.{has}
-use Rattle.book.specs.declared.Book.{Book}
-use Rattle.indicators.specs.Operators.{each, count}
-use Rattle.indicators.specs.Indicator.{Measure, over, yearlyValue}
+use Rattle.values.specs.Operators.{each, count}
 use Rattle.indicators.specs.Points.{exponentWeight, levelled, linearWeight}
-
--- a yearly value of each operator
-abbrev pub yearlyValues : Book → Measure → ℕ → List ℕ
-yearlyValues b measure year = each (λ (operator : ℕ). yearlyValue b measure operator year)
-
--- quotients operator by operator, dividends and divisors each multiplied first
-unfoldable pub quotientsBy : ℕ → List ℕ → ℕ → List ℕ → List ℕ
-quotientsBy factor dividends scale divisors =
-    each (λ (operator : ℕ). over (factor * getD dividends operator 0) (scale * getD divisors operator 0))
-
--- no score passes three years of the largest yearly value
-abbrev pub Scored : List ℕ → Type 0
-Scored list = (place : ℕ) → getD list place 0 ≤ 300000000000000000
 
 -- no weight passes the table's first
 abbrev pub Weighed : List ℕ → Type 0

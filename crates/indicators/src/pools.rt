@@ -3,15 +3,15 @@ ghost use mathlib.Core.Path.{_≡_};
 ghost use mathlib.Core.Bool.{true};
 ghost use Prim.Native.Nat.{_≤_, _<_};
 ghost use Rattle.book.specs.Book.{inRange};
-ghost use Rattle.indicators.specs.Indicator.{pool, numbered};
+ghost use Rattle.values.specs.Indicator.{pool, numbered};
 ghost use Rattle.indicators.specs.Points.{weights, points};
-use crate::values::divide;
-use crate::values::reliable_mask;
-use crate::values::scores_of;
 use crate::weights::levelled_weights;
 use crate::weights::linear_weights;
 use crate::weights::ones_of;
 use book::Book;
+use values::divide;
+use values::reliable_mask;
+use values::scores_of;
 
 // In hundredths, by operator.
 pub fn points_of(b: Book, number: u8) -> [u64; 16]

@@ -6,10 +6,11 @@ ghost use lib.Count.{ones};
 ghost use lib.Dec.{ltb};
 ghost use Rattle.calls.specs.Masks.{has};
 ghost use Rattle.apportion.specs.Sum.{sum as Sum·sum};
-ghost use Rattle.indicators.specs.Operators.{each, count};
-ghost use Rattle.indicators.specs.Indicator.{over};
+ghost use Rattle.values.specs.Operators.{each, count};
+ghost use Rattle.values.specs.Indicator.{over};
 ghost use Rattle.indicators.specs.Points.{largest, exponentWeight, levelled};
-ghost use Rattle.indicators.specs.Steps.{Scored, Weighed, aboveIn, aboveSum, levelledIn, linearIn};
+ghost use Rattle.values.specs.Steps.{Scored};
+ghost use Rattle.indicators.specs.Steps.{Weighed, aboveIn, aboveSum, levelledIn, linearIn};
 use calls::has_bit;
 
 // A indicators: better operators share alike.

@@ -10,9 +10,9 @@ use calls::Answer;
 use calls::number_of;
 use filing::read;
 use report::Reported;
+use report::report;
 use text::put_decimal;
 use text::put_word;
-use report::report;
 
 const LONGEST_FILING: usize = 65536;
 

@@ -17,7 +17,7 @@ use Rattle.calls.specs.declared.Answer.{Answer}
 use Rattle.calls.specs.declared.Answer.the-variants.{Yes, Counted, LeftOut, Refused}
 use Rattle.book.specs.declared.Book.{Book}
 use Rattle.book.specs.Book.{inRange}
-use Rattle.indicators.specs.Indicator.{electricity}
+use Rattle.values.specs.Indicator.{electricity}
 use Rattle.settlement.specs.Settlement.{networkMissing, allMarked, settlementBy, refusing, settledBy, settled}
 use Rattle.report.specs.declared.Reported.the-variants.{Refusing}
 use Rattle.report.specs.Lines.{fitting, reported, afterwards, textOf, reportAnswer, reportBuffer}

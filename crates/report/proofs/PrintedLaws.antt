@@ -15,14 +15,14 @@ use Rattle.apportion.specs.Sum.{sum}
 use Rattle.apportion.specs.Share.{share}
 use Rattle.apportion.proofs.Sums.{sum-append, sum-bound, element-le}
 use Rattle.apportion.proofs.Shared.{shared}
-use Rattle.indicators.specs.Indicator.{Indicator, electricity, numbered, pool}
+use Rattle.values.specs.Indicator.{Indicator, electricity, numbered, pool}
 use Rattle.indicators.specs.Points.{weights, points}
 use Rattle.indicators.proofs.WeightLaws.{weights-length}
 use Rattle.settlement.specs.declared.Settlement.{Settlement}
 use Rattle.settlement.specs.Money.{accessPoints, pot, contributions, returnWeights, returns}
 use Rattle.settlement.specs.Settlement.{pointsOfAll, settlementBy, settledBy, settled}
 use Rattle.settlement.specs.Laws.{Settles}
-use Rattle.indicators.proofs.Tables.{length-each}
+use Rattle.values.proofs.Tables.{length-each}
 use Rattle.settlement.proofs.InRange.{pot-le}
 use Rattle.settlement.proofs.Amounts.{limit-most}
 use Rattle.settlement.proofs.Gathering.{share-le, pool-le}

@@ -8,8 +8,8 @@ use lib.ListN.{length, getD, take}
 use lib.Seq.{take-all}
 use Rattle.apportion.specs.Sum.{sum}
 use Rattle.apportion.proofs.Sums.{sum-take-suc, take-le, sum-bound, element-le}
-use Rattle.indicators.specs.Operators.{table}
-use Rattle.indicators.proofs.Tables.{length-table, table-at}
+use Rattle.values.specs.Operators.{table}
+use Rattle.values.proofs.Tables.{length-table, table-at}
 
 -- t is the sum of the first i
 pub record Summing (xs : List ℕ) (i t : ℕ) : Type 0 where

@@ -12,7 +12,7 @@ use Rattle.calls.specs.declared.Answer.the-variants.{Yes, Counted, LeftOut, Ref
 use Rattle.book.specs.declared.Book.{Book}
 use Rattle.book.specs.Book.{isJoined}
 use Rattle.apportion.specs.Sum.{sum}
-use Rattle.indicators.specs.Operators.{table}
+use Rattle.values.specs.Operators.{table}
 use Rattle.settlement.specs.declared.Settlement.{Settlement}
 use Rattle.settlement.specs.Settlement.{settled}
 use Rattle.settlement.specs.Laws.{sumℤ}

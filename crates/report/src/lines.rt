@@ -11,14 +11,14 @@ ghost use Rattle.text.specs.Text.{decimal, signedDecimal};
 ghost use Rattle.report.specs.Lines.{pointsOfOperator, operatorLine, operatorLines, lastLine, printed};
 ghost use Rattle.text.specs.Steps.{written};
 ghost use Rattle.report.specs.Steps.{columns, Printable};
-use text::put_byte;
-use text::put_decimal;
-use text::put_signed;
-use text::put_word;
 use apportion::total;
 use book::Book;
 use book::is_joined;
 use settlement::Settlement;
+use text::put_byte;
+use text::put_decimal;
+use text::put_signed;
+use text::put_word;
 
 // The header, the joined operators rising, and the sums.
 pub(crate) fn put_lines(out: &mut [u8], b: Book, s: Settlement) -> usize

@@ -5,12 +5,12 @@ ghost use Rattle.report.specs.Lines.{printed, fitting, afterwards, repor
 ghost use Rattle.report.specs.Steps.{Printable};
 use crate::Reported;
 use crate::lines::put_lines;
-use text::put_word;
 use book::Book;
 use calls::Answer;
 use calls::Refusal;
 use settlement::Settlement;
 use settlement::settle;
+use text::put_word;
 
 // A refusal leaves the buffer; otherwise the bytes after the text stay.
 pub fn report(b: Book, buffer: &mut [u8]) -> Reported

@@ -11,13 +11,13 @@ use Rattle.book.specs.declared.Book.{Book}
 use Rattle.book.specs.Book.{settingOf, inRange}
 use Rattle.apportion.specs.Sum.{sum}
 use Rattle.apportion.proofs.Sums.{sum-bound}
-use Rattle.indicators.specs.Operators.{each}
-use Rattle.indicators.specs.Indicator.{Indicator}
+use Rattle.values.specs.Operators.{each}
+use Rattle.values.specs.Indicator.{Indicator}
 use Rattle.indicators.specs.Points.{allPoints}
 use Rattle.settlement.specs.Money.{accessPoints, returnWeights, limits, capped, balanced}
-use Rattle.indicators.proofs.Tables.{length-each, each-at, each-same}
+use Rattle.values.proofs.Tables.{length-each, each-at, each-same}
 use Rattle.settlement.proofs.InRange.{access-at, limit-product-le}
-use Rattle.indicators.proofs.InRange.{points-le}
+use Rattle.values.proofs.InRange.{points-le}
 use Rattle.settlement.proofs.BalanceLaws.{capped-length, capped-most, balanced-within}
 
 -- sixteen numbers, each with a bound

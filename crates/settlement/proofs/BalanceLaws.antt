@@ -11,7 +11,7 @@ use borrow.Author.Tests.{ltb-true, ltb-false}
 use Rattle.apportion.specs.Sum.{sum}
 use Rattle.apportion.specs.Share.{share}
 use Rattle.apportion.proofs.Shared.{shared}
-use Rattle.indicators.proofs.Tables.{length-each, each-at}
+use Rattle.values.proofs.Tables.{length-each, each-at}
 use Rattle.settlement.specs.Money.{capped, balanced}
 
 module _ (more less limit : List ℕ) where

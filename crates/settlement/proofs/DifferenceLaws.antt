@@ -10,8 +10,8 @@ use lib.ListN.{length, getD}
 use lib.Seq.{ext-getD}
 use borrow.Author.Tests.{lt-ltb, le-ltb}
 use Rattle.apportion.specs.Sum.{sum}
-use Rattle.indicators.specs.Operators.{table}
-use Rattle.indicators.proofs.Tables.{length-table, table-at, table-sum}
+use Rattle.values.specs.Operators.{table}
+use Rattle.values.proofs.Tables.{length-table, table-at, table-sum}
 use Rattle.settlement.specs.Laws.{sumℤ}
 
 -- a difference by its sign

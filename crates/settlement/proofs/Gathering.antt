@@ -16,15 +16,15 @@ use Rattle.apportion.specs.Sum.{sum}
 use Rattle.apportion.specs.Share.{share}
 use Rattle.apportion.proofs.Sums.{element-le}
 use Rattle.apportion.proofs.Shared.{shared}
-use Rattle.indicators.specs.Operators.{table, each}
-use Rattle.indicators.specs.Indicator.{Indicator, electricity, numbered, reliableMask, reliableCount, pool}
+use Rattle.values.specs.Operators.{table, each}
+use Rattle.values.specs.Indicator.{Indicator, electricity, numbered, reliableMask, reliableCount, pool}
 use Rattle.indicators.specs.Points.{weights, points, allPoints}
-use Rattle.indicators.proofs.Scores.{over-le}
+use Rattle.values.proofs.Scores.{over-le}
 use Rattle.indicators.proofs.PointLaws.{points-length}
 use Rattle.settlement.specs.declared.gather.Gathered.{Gathered}
 use Rattle.settlement.specs.Settlement.{pointsOfAll}
 use Rattle.settlement.specs.Steps.{added, withOne}
-use Rattle.indicators.proofs.Tables.{length-each, each-at, each-same}
+use Rattle.values.proofs.Tables.{length-each, each-at, each-same}
 
 -- no share passes the total
 pub share-le : (T : ℕ) (list : List ℕ) (place : ℕ) → getD (share T list) place 0 ≤ T

@@ -11,8 +11,8 @@ use Rattle.book.specs.Book.{settingOf, inRange}
 use Rattle.apportion.specs.Sum.{sum}
 use Rattle.apportion.proofs.Sums.{sum-bound}
 use Rattle.settlement.specs.Money.{accessPoints, incomes, pot}
-use Rattle.indicators.proofs.InRange.{income-le, pot-le as pot-rate-le, cap-le as cap-rate-le}
-use Rattle.indicators.proofs.Tables.{length-each, each-at}
+use Rattle.values.proofs.InRange.{income-le, pot-le as pot-rate-le, cap-le as cap-rate-le}
+use Rattle.values.proofs.Tables.{length-each, each-at}
 
 pub access-at : (b : Book) (operator : ℕ) → operator < 16 → getD (accessPoints b) operator 0 ≡ settingOf b operator 1
 unfolding accessPoints

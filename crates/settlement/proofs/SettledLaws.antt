@@ -21,10 +21,10 @@ use Rattle.calls.specs.declared.Refusal.{Refusal}
 use Rattle.calls.specs.declared.Refusal.the-variants.{OutOfRange, NoneJoined, NetworkMissing, AllMarked}
 use Rattle.calls.specs.declared.Answer.the-variants.{Yes, Refused}
 use Rattle.calls.proofs.Flags.{or-right, and-other}
-use Rattle.indicators.specs.Operators.{each}
-use Rattle.indicators.specs.Indicator.{Indicator, electricity, reliableMask, isReliable, pool}
+use Rattle.values.specs.Operators.{each}
+use Rattle.values.specs.Indicator.{Indicator, electricity, reliableMask, isReliable, pool}
 use Rattle.indicators.specs.Points.{points, allPoints}
-use Rattle.indicators.proofs.Tables.{each-le-sum, table-at, some-place}
+use Rattle.values.proofs.Tables.{each-le-sum, table-at, some-place}
 use Rattle.indicators.proofs.OnesLaws.{some-one}
 use Rattle.indicators.proofs.PointLaws.{points-made-up, points-length, points-reliable, reliable-joined, reliable-small, pool-above}
 use Rattle.settlement.specs.Money.{accessPoints, pot, contributions, returnWeights, returns, limits, bonuses, maluses, balanced, adjustments}

@@ -17,10 +17,10 @@ use Rattle.book.specs.Book.{isJoined, settingOf, most, settingsInRange, inRange
 use Rattle.book.proofs.EveryLaws.{each-of-every}
 use Rattle.calls.specs.Limits.{operators, settings, settingLimit}
 use Rattle.calls.proofs.Flags.{and-left}
-use Rattle.indicators.specs.Operators.{each}
-use Rattle.indicators.specs.Indicator.{Indicator, isReliable}
+use Rattle.values.specs.Operators.{each}
+use Rattle.values.specs.Indicator.{Indicator, isReliable}
 use Rattle.indicators.specs.Points.{points}
-use Rattle.indicators.proofs.Tables.{length-each, each-at}
+use Rattle.values.proofs.Tables.{length-each, each-at}
 use Rattle.indicators.proofs.PointLaws.{reliable-joined, points-none}
 use Rattle.settlement.specs.Money.{accessPoints, pot, contributions, returnWeights, returns, limits, adjustments}
 use Rattle.settlement.specs.Laws.{AllNought}

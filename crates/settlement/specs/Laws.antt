@@ -11,7 +11,7 @@ use lib.ListN.{getD}
 use Rattle.book.specs.declared.Book.{Book}
 use Rattle.book.specs.Book.{inRange}
 use Rattle.apportion.specs.Sum.{sum}
-use Rattle.indicators.specs.Indicator.{Indicator}
+use Rattle.values.specs.Indicator.{Indicator}
 use Rattle.indicators.specs.Points.{points}
 use Rattle.settlement.specs.Money.{pot, contributions, returns, limits, adjustments}
 use Rattle.settlement.specs.Settlement.{networkMissing, allMarked, settled}

@@ -10,8 +10,8 @@ use Rattle.book.specs.declared.Book.{Book}
 use Rattle.book.specs.Book.{settingOf}
 use Rattle.apportion.specs.Sum.{sum}
 use Rattle.apportion.specs.Share.{share}
-use Rattle.indicators.specs.Operators.{table, each, settingsOf}
-use Rattle.indicators.specs.Indicator.{Indicator}
+use Rattle.values.specs.Operators.{table, each, settingsOf}
+use Rattle.values.specs.Indicator.{Indicator}
 use Rattle.indicators.specs.Points.{allPoints}
 
 unfoldable pub accessPoints : Book → List ℕ

@@ -14,7 +14,7 @@ use Rattle.book.specs.Book.{isJoined, settingOf, inRange}
 use Rattle.calls.specs.declared.Refusal.{Refusal}
 use Rattle.calls.specs.declared.Refusal.the-variants.{OutOfRange, NoneJoined, NetworkMissing, AllMarked}
 use Rattle.calls.specs.declared.Answer.the-variants.{Yes, Refused}
-use Rattle.indicators.specs.Indicator.{Indicator, electricity, reliableMask, pool}
+use Rattle.values.specs.Indicator.{Indicator, electricity, reliableMask, pool}
 use Rattle.indicators.specs.Points.{points}
 use Rattle.settlement.specs.Money.{pot, contributions, returns, limits, adjustments}
 

@@ -5,7 +5,7 @@ use mathlib.Core.List.{List}
 use lib.IntN.{ℤ, subℕ}
 use lib.ListN.{getD, set}
 use lib.Seq.{paste}
-use Rattle.indicators.specs.Operators.{table, each}
+use Rattle.values.specs.Operators.{table, each}
 use Rattle.settlement.specs.declared.gather.Gathered.{Gathered}
 use Rattle.settlement.specs.Money.{capped, balanced}
 

@@ -6,12 +6,12 @@ ghost use lib.IntN.{subℕ};
 ghost use lib.ListN.{getD};
 ghost use Rattle.apportion.specs.Sum.{sum};
 ghost use Rattle.book.specs.Book.{inRange};
-ghost use Rattle.indicators.specs.Operators.{table, each};
+ghost use Rattle.values.specs.Operators.{table, each};
 ghost use Rattle.settlement.specs.Money.{accessPoints, incomes, pot, limits, capped, balanced};
 use apportion::share;
 use apportion::total;
 use book::Book;
-use indicators::settings_of;
+use values::settings_of;
 
 const MILLION: u64 = 1000000;
 

@@ -5,7 +5,7 @@ ghost use lib.Dec.{eqb};
 ghost use Prim.Native.Nat.{ℕ, _≤_, _<_};
 ghost use lib.ListN.{getD};
 ghost use Rattle.book.specs.Book.{isJoined, settingOf, inRange};
-ghost use Rattle.indicators.specs.Indicator.{electricity};
+ghost use Rattle.values.specs.Indicator.{electricity};
 ghost use Rattle.settlement.specs.Settlement.{networkMissing, allMarked, settlementBy, refusing, settled};
 ghost use Rattle.settlement.specs.Steps.{adjustedBy};
 use crate::Settled;
@@ -25,7 +25,7 @@ use book::is_joined;
 use book::setting_of;
 use calls::Answer;
 use calls::Refusal;
-use indicators::reliable_mask;
+use values::reliable_mask;
 
 // The settlement of a book, or its refusal with all numbers 0. The book is unchanged.
 pub fn settle(b: Book) -> Settled

@@ -2,7 +2,7 @@
 -- Assumes nothing.
 use mathlib.Core.Path.{_≡_, refl}
 use native.Mathlib.Omega.{arith}
-use Rattle.indicators.specs.Indicator.{electricity, numbered}
+use Rattle.values.specs.Indicator.{electricity, numbered}
 use Rattle.indicators.proofs.pools.points_a_year.Statement.{statement}
 use Rattle.indicators.proofs.pools.points_a_year.Tie as tie
 

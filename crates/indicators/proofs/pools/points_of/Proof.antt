@@ -3,7 +3,7 @@
 use mathlib.Core.Path.{refl, _∙_, ap}
 use native.Mathlib.Omega.{arith}
 use Rattle.apportion.specs.Sum.{sum}
-use Rattle.indicators.specs.Indicator.{numbered}
+use Rattle.values.specs.Indicator.{numbered}
 use Rattle.indicators.specs.Points.{points}
 use Rattle.indicators.proofs.WeightLaws.{weights-sum-most}
 use borrow.Author.Needs.{needs}

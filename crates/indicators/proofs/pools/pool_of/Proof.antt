@@ -3,7 +3,7 @@
 use mathlib.Core.Path.{refl, _∙_}
 use native.Mathlib.Omega.{arith}
 use native.Mathlib.Nat.{mul-le-mul}
-use Rattle.indicators.specs.Indicator.{pool, joinedCount, reliableCount}
+use Rattle.values.specs.Indicator.{pool, joinedCount, reliableCount}
 use borrow.Author.Needs.{needs}
 use Rattle.indicators.proofs.pools.pool_of.Statement.{statement}
 use Rattle.indicators.proofs.pools.pool_of.Tie as tie

@@ -1,8 +1,8 @@
 -- `indicators::pools::weights_of` meets its contract.
 -- Assumes nothing.
 use mathlib.Core.Path.{refl, sym, _∙_}
-use Rattle.indicators.specs.Indicator.{numbered}
-use Rattle.indicators.proofs.Scores.{scored}
+use Rattle.values.specs.Indicator.{numbered}
+use Rattle.values.proofs.Scores.{scored}
 use Rattle.indicators.proofs.Weighting.{levels, linears, levelled-same, linear-same}
 use borrow.Author.Needs.{needs}
 use Rattle.indicators.proofs.pools.weights_of.Statement.{statement}

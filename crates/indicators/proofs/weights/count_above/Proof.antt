@@ -4,9 +4,9 @@ use mathlib.Core.Path.{_≡_, refl, _∙_}
 use Prim.Native.Nat.{_-_, _≤_}
 use native.Mathlib.Omega.{arith}
 use Rattle.apportion.specs.Sum.{sum}
-use Rattle.indicators.specs.Operators.{count}
+use Rattle.values.specs.Operators.{count}
 use Rattle.indicators.specs.Steps.{aboveIn}
-use Rattle.indicators.proofs.CountLaws.{count-more, count-le}
+use Rattle.values.proofs.CountLaws.{count-more, count-le}
 use mathlib.Core.Logic.{⊎-elim}
 use Rattle.indicators.proofs.weights.count_above.Statement.{statement}
 use Rattle.indicators.proofs.weights.count_above.Tie as tie

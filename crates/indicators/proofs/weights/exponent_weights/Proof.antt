@@ -5,7 +5,7 @@ use mathlib.Core.Path.{_≡_, refl, _∙_, ap}
 use Prim.Native.Nat.{_-_}
 use native.Mathlib.Omega.{arith}
 use Rattle.indicators.specs.Points.{normalised, exponentWeight}
-use Rattle.indicators.proofs.Tables.{Filling, filling-none, filling-more, filling-each}
+use Rattle.values.proofs.Tables.{Filling, filling-none, filling-more, filling-each}
 use Rattle.indicators.proofs.Largest.{largest-ge, largest-le}
 use Rattle.exponent.specs.Weight.{weightOf}
 use Rattle.indicators.proofs.weights.exponent_weights.Statement.{statement}

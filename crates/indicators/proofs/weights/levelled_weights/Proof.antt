@@ -6,14 +6,14 @@ use Prim.Native.Nat.{ℕ, _-_, _≤_}
 use native.Mathlib.Omega.{arith}
 use lib.ListN.{length, getD}
 use Rattle.apportion.specs.Sum.{sum}
-use Rattle.indicators.specs.Operators.{each}
+use Rattle.values.specs.Operators.{each}
 use Rattle.indicators.specs.Points.{exponentWeight}
 use Rattle.indicators.specs.Steps.{aboveIn, levelledAt, levelledIn}
-use Rattle.indicators.proofs.Tables.{Filling, filling-none, filling-more, filling-each, each-at}
+use Rattle.values.proofs.Tables.{Filling, filling-none, filling-more, filling-each, each-at}
 use Rattle.apportion.proofs.Sums.{sum-bound}
 use mathlib.Core.List.{List}
 use Rattle.exponent.proofs.Laws.{weight-most}
-use Rattle.indicators.proofs.Tables.{each-le}
+use Rattle.values.proofs.Tables.{each-le}
 use Rattle.indicators.proofs.weights.levelled_weights.Statement.{statement}
 use Rattle.indicators.proofs.weights.levelled_weights.Tie as tie
 

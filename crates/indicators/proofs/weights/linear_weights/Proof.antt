@@ -6,7 +6,7 @@ use Prim.Native.Nat.{_-_}
 use native.Mathlib.Omega.{arith}
 use Rattle.indicators.specs.Points.{normalised, linearWeight}
 use Rattle.indicators.specs.Steps.{linearAt, linearIn}
-use Rattle.indicators.proofs.Tables.{Filling, filling-none, filling-more, filling-each}
+use Rattle.values.proofs.Tables.{Filling, filling-none, filling-more, filling-each}
 use Rattle.indicators.proofs.Largest.{largest-ge, largest-le}
 use Rattle.indicators.proofs.weights.linear_weights.Statement.{statement}
 use Rattle.indicators.proofs.weights.linear_weights.Tie as tie

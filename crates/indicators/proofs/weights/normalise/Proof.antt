@@ -4,7 +4,7 @@ use mathlib.Core.Path.{refl}
 use Prim.Native.Nat.{_*_, _≤_}
 use native.Mathlib.Omega.{arith}
 use borrow.Author.Tests.{eq-eqb, ne-eqb}
-use Rattle.indicators.specs.Indicator.{over}
+use Rattle.values.specs.Indicator.{over}
 use native.Mathlib.Nat.{mul-le-mul-left, div-le-of-le-mul}
 use borrow.Author.Needs.{needs}
 use Rattle.indicators.proofs.weights.normalise.Statement.{statement}

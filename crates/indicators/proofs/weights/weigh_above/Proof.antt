@@ -8,7 +8,7 @@ use lib.ListN.{getD}
 use mathlib.Core.Bool.{cond}
 use Rattle.apportion.specs.Sum.{sum}
 use Rattle.indicators.specs.Steps.{Weighed, aboveIn, weightIfAbove, aboveSum}
-use Rattle.indicators.proofs.Tables.{Filling, filling-none, filling-more, filling-each, sum-each-le}
+use Rattle.values.proofs.Tables.{Filling, filling-none, filling-more, filling-each, sum-each-le}
 use mathlib.Core.List.{List}
 use mathlib.Core.Bool.{Bool}
 use Rattle.indicators.proofs.weights.weigh_above.Statement.{statement}

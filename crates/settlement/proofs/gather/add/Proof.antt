@@ -4,7 +4,7 @@ use mathlib.Core.Path.{refl}
 use Prim.Native.Nat.{_+_, _-_}
 use native.Mathlib.Omega.{arith}
 use lib.ListN.{getD}
-use Rattle.indicators.proofs.Tables.{Filling, filling-none, filling-more, filling-each}
+use Rattle.values.proofs.Tables.{Filling, filling-none, filling-more, filling-each}
 use Rattle.settlement.specs.Steps.{added}
 use Rattle.settlement.proofs.gather.add.Statement.{statement}
 use Rattle.settlement.proofs.gather.add.Tie as tie

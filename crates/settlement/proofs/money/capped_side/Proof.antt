@@ -6,7 +6,7 @@ use Prim.Native.Nat.{ℕ, _-_, min}
 use native.Mathlib.Omega.{arith}
 use lib.ListN.{getD}
 use Rattle.settlement.specs.Money.{capped}
-use Rattle.indicators.proofs.Tables.{Filling, filling-none, filling-more, filling-each}
+use Rattle.values.proofs.Tables.{Filling, filling-none, filling-more, filling-each}
 use Rattle.settlement.proofs.money.capped_side.Statement.{statement}
 use Rattle.settlement.proofs.money.capped_side.Tie as tie
 

@@ -7,7 +7,7 @@ use native.Mathlib.Omega.{arith}
 use lib.IntN.{subℕ}
 use lib.ListN.{getD}
 use Rattle.settlement.proofs.Signs.{stored}
-use Rattle.indicators.proofs.Tables.{Filling, filling-none, filling-more, filling-all}
+use Rattle.values.proofs.Tables.{Filling, filling-none, filling-more, filling-all}
 use Rattle.settlement.proofs.money.differences.Statement.{statement}
 use Rattle.settlement.proofs.money.differences.Tie as tie
 

@@ -7,7 +7,7 @@ use native.Mathlib.Omega.{arith}
 use lib.ListN.{getD}
 use Rattle.settlement.specs.Money.{limits}
 use Rattle.settlement.proofs.InRange.{income-at, limit-product-le}
-use Rattle.indicators.proofs.Tables.{Filling, filling-none, filling-more, filling-each, each-same}
+use Rattle.values.proofs.Tables.{Filling, filling-none, filling-more, filling-each, each-same}
 use Rattle.settlement.proofs.money.limits_of.Statement.{statement}
 use Rattle.settlement.proofs.money.limits_of.Tie as tie
 

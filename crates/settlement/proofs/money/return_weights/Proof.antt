@@ -6,7 +6,7 @@ use Prim.Native.Nat.{ℕ, _*_, _-_}
 use native.Mathlib.Omega.{arith}
 use native.Mathlib.Nat.{mul-le-mul}
 use lib.ListN.{getD}
-use Rattle.indicators.proofs.Tables.{Filling, filling-none, filling-more, filling-each}
+use Rattle.values.proofs.Tables.{Filling, filling-none, filling-more, filling-each}
 use Rattle.settlement.proofs.money.return_weights.Statement.{statement}
 use Rattle.settlement.proofs.money.return_weights.Tie as tie
 

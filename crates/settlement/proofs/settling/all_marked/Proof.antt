@@ -9,7 +9,7 @@ use lib.ListN.{drop}
 use mathlib.Core.List.{_∷_}
 use lib.Seq.{drop-cons}
 use native.Mathlib.Numerals.{add-one}
-use Rattle.indicators.specs.Indicator.{electricity, numbered}
+use Rattle.values.specs.Indicator.{electricity, numbered}
 use Rattle.settlement.proofs.settling.all_marked.Statement.{statement}
 use Rattle.settlement.proofs.settling.all_marked.Tie as tie
 

@@ -8,7 +8,7 @@ use Rattle.settlement.specs.Steps.{adjustedBy}
 use Rattle.settlement.specs.Money.{contributions, returns as Money·returns, bonuses, maluses, adjustments}
 use Rattle.settlement.proofs.Amounts.{access-most, access-sum, limit-most, weights-same, weights-sum}
 use Rattle.apportion.specs.Sum.{sum}
-use Rattle.indicators.specs.Indicator.{electricity}
+use Rattle.values.specs.Indicator.{electricity}
 use borrow.Author.Needs.{needs}
 use Rattle.settlement.proofs.settling.settle_in_range.Statement.{statement}
 use Rattle.settlement.proofs.settling.settle_in_range.Tie as tie

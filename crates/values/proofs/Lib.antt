@@ -1,0 +1,5 @@
+pub mod Tables
+pub mod CountLaws
+pub mod InRange
+pub mod Numbered
+pub mod Scores

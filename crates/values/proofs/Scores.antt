@@ -1,0 +1,86 @@
+-- The scores of an indicator, one for each operator, and their bounds in a book in range.
+-- Assumes nothing.
+use Prim.Native.Nat.{ℕ, zero, suc, _/_, _≤_, _<_}
+use mathlib.Core.Path.{_≡_}
+use mathlib.Core.Bool.{Bool, true, false, cond}
+use native.Mathlib.Nat.{div-le-self, mul-le-mul, le-trans}
+use native.Mathlib.Omega.{arith}
+use lib.Dec.{eqb}
+use lib.ListN.{length, getD}
+use Rattle.book.specs.declared.Book.{Book}
+use Rattle.book.specs.Book.{inRange}
+use Rattle.values.specs.Indicator.{Indicator, frequency, duration, fee, electricity, numbered, over, yearlyValue, threeYears, isReliable}
+use Rattle.values.specs.Indicator.{scoreOf, scores}
+use Rattle.values.specs.Steps.{Scored, yearlyValues}
+use Rattle.values.proofs.Tables.{length-each, each-at, each-le}
+use Rattle.values.proofs.InRange.{figure-le, index-between}
+
+module _ (b : Book) (indicator : Indicator) where
+  pub length-scores : length (scores b indicator) ≡ 16
+  unfolding scores
+  length-scores = length-each (scoreOf b indicator)
+
+  pub score-at : (operator : ℕ) → operator < 16 → getD (scores b indicator) operator 0 ≡ scoreOf b indicator operator
+  unfolding scores
+  score-at operator lt = each-at (scoreOf b indicator) operator lt
+
+pub over-le : (dividend divisor : ℕ) → over dividend divisor ≤ dividend
+unfolding over
+over-le dividend divisor = go (eqb divisor 0)
+  where
+    go : (t : Bool) → cond t 0 (dividend / divisor) ≤ dividend
+    go true = omega arith
+    go false = div-le-self dividend divisor
+
+module _ (b : Book) (ranged : inRange b ≡ true) (operator year : ℕ) (lo : operator < 16) (ly : year < 3) where
+  frequency-le : (figure which : ℕ) → figure < 8 → yearlyValue b (frequency figure which) operator year ≤ 100000000000000000
+  unfolding yearlyValue
+  frequency-le figure which lf = le-trans (over-le _ _) (omega (arith, figure-le b ranged operator year figure lo ly lf))
+
+  duration-le : (seconds weight : ℕ) → seconds < 8 → yearlyValue b (duration seconds weight) operator year ≤ 100000000000000000
+  unfolding yearlyValue
+  duration-le seconds weight lf = le-trans (over-le _ _) (omega (arith, figure-le b ranged operator year seconds lo ly lf))
+
+  fee-le : (fees connections : ℕ) → fees < 8 → yearlyValue b (fee fees connections) operator year ≤ 100000000000000000
+  unfolding yearlyValue
+  fee-le fees connections lf =
+      let product = mul-le-mul (figure-le b ranged operator year fees lo ly lf) (index-between b ranged 3 (omega arith) .1) in
+      le-trans (over-le _ _) (omega (arith, product))
+
+  yearly-le : (number : ℕ) → number < 6 → yearlyValue b (numbered number .measure) operator year ≤ 100000000000000000
+  unfolding numbered electricity
+  yearly-le zero lt = frequency-le 0 0 (omega arith)
+  yearly-le (suc zero) lt = duration-le 1 0 (omega arith)
+  yearly-le (suc (suc zero)) lt = frequency-le 2 1 (omega arith)
+  yearly-le (suc (suc (suc zero))) lt = duration-le 3 2 (omega arith)
+  yearly-le (suc (suc (suc (suc zero)))) lt = fee-le 4 5 (omega arith)
+  yearly-le (suc (suc (suc (suc (suc zero))))) lt = fee-le 6 7 (omega arith)
+  yearly-le (suc (suc (suc (suc (suc (suc n)))))) lt = absurd (omega arith)
+
+score-le : (b : Book) → inRange b ≡ true → (number : ℕ) → number < 6 → (operator : ℕ) → operator < 16
+    → scoreOf b (numbered number) operator ≤ 300000000000000000
+unfolding scoreOf threeYears
+score-le b ranged number ln operator lo = go (isReliable b (numbered number) operator)
+  where
+    go : (t : Bool) → cond t (threeYears b (numbered number .measure) operator) 0 ≤ 300000000000000000
+    go true =
+        omega (
+          arith,
+          yearly-le b ranged operator 0 lo (omega arith) number ln,
+          yearly-le b ranged operator 1 lo (omega arith) number ln,
+          yearly-le b ranged operator 2 lo (omega arith) number ln,
+        )
+    go false = omega arith
+
+-- the same of the values by operator
+pub yearlies-le : (b : Book) → inRange b ≡ true → (number year : ℕ) → number < 6 → year < 3
+    → (k : ℕ) → getD (yearlyValues b (numbered number .measure) year) k 0 ≤ 100000000000000000
+yearlies-le b ranged number year ln ly = each-le _ _ (λ k lt. yearly-le b ranged k year lt ly number ln)
+
+-- no score passes three years of the largest yearly value
+pub scored : (b : Book) → inRange b ≡ true → (number : ℕ) → number < 6 → Scored (scores b (numbered number))
+unfolding scores
+scored b ranged number ln place = each-le (scoreOf b (numbered number)) 300000000000000000 one place
+  where
+    one : (operator : ℕ) → operator < 16 → scoreOf b (numbered number) operator ≤ 300000000000000000
+    one operator lo = score-le b ranged number ln operator lo

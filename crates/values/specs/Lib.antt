@@ -1,0 +1,3 @@
+pub mod Operators
+pub mod Indicator
+pub mod Steps
