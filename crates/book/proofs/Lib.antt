@@ -2,10 +2,3 @@ pub mod Admission
 pub mod Moves
 pub mod EveryLaws
 pub mod FlatRange
-pub mod SlotLaws
-pub mod EntryLaws
-pub mod TableLaws
-pub mod HistoryLaws
-pub mod ShapeLaws
-pub mod StepLaws
-pub mod Kept

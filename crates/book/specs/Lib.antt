@@ -3,5 +3,3 @@ pub mod Book
 pub mod Table
 pub mod Calls
 pub mod Entering
-pub mod History
-pub mod Demand

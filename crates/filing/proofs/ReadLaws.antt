@@ -13,8 +13,8 @@ use Rattle.calls.specs.declared.Answer.the-variants.{Yes}
 use Rattle.book.specs.declared.Book.{Book}
 use Rattle.book.specs.Book.{freshBook, inRange}
 use Rattle.book.specs.Calls.{apply, file, filedBook, filedAnswers}
-use Rattle.book.specs.Demand.{bookOf}
-use Rattle.book.proofs.Kept.{kept}
+use Rattle.history.specs.Demand.{bookOf}
+use Rattle.history.proofs.Kept.{kept}
 use Rattle.fields.specs.declared.Field.{Field}
 use Rattle.fields.specs.declared.Field.the-variants.{Filing, End, Refused}
 use Rattle.filing.specs.declared.Reading.{Reading}

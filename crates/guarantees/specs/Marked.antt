@@ -15,7 +15,7 @@ use Rattle.calls.specs.declared.Answer.the-variants.{Yes}
 use Rattle.calls.specs.Answers.{Said, yes-said, counted-in, left-out-under, refused-by, said}
 use Rattle.book.specs.Book.{freshBook, figureOf}
 use Rattle.book.specs.Calls.{filedAnswers}
-use Rattle.book.specs.Demand.{bookOf}
+use Rattle.history.specs.Demand.{bookOf}
 use Rattle.values.specs.Operators.{each}
 use Rattle.values.specs.Indicator.{electricity}
 use Rattle.indicators.specs.Points.{levelled, allPoints}

@@ -7,17 +7,17 @@ use mathlib.Core.List.{List, [], _∷_}
 use native.Mathlib.Omega.{arith}
 use lib.Dec.{eqb}
 use lib.ListN.{length, getD, set, length-set, length-replicate, getD-replicate}
 use Rattle.book.specs.declared.Book.{Book}
 use Rattle.calls.specs.declared.Call.{Call}
 use Rattle.calls.specs.declared.Call.the-variants.{Join, Setting, Interruption, Amount, Mark, Rates, Index}
 use Rattle.calls.specs.Limits.{operators, indicators, indexNumbers}
 use Rattle.calls.specs.Masks.{including, excluding}
 use Rattle.book.specs.Book.{freshBook}
 use Rattle.calls.specs.Call.{Entry, operatorOf}
 use Rattle.book.specs.Calls.{withJoined, withMarks, withSettings, withFigures, withRates, withIndices, entered, enterAll, changed}
 use Rattle.calls.specs.Masks.{remasked}
 use Rattle.calls.proofs.MaskLaws.{including-lt, excluding-le}
-use Rattle.book.proofs.SlotLaws.{stored}
+use Rattle.history.proofs.SlotLaws.{stored}
 use Rattle.calls.proofs.RangeLaws.{Ranges}
 
 pub record Shaped (b : Book) : Type 0 where

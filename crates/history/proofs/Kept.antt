@@ -19,19 +19,19 @@ use Rattle.calls.specs.declared.Reason.the-variants.{Short, Planned, Coupled, E
 use Rattle.calls.specs.declared.Answer.{Answer}
 use Rattle.calls.specs.declared.Answer.the-variants.{Yes, Counted, LeftOut, Refused}
 use Rattle.calls.specs.Limits.{operators, years, figures, settings, indicators, indexNumbers, indexLeast, indexMost}
 use Rattle.book.specs.Book.{freshBook, isJoined, isMarked, settingOf, figureOf, indexOf, settingSlot, figureSlot, most, settingsInRange, figuresInRange, marksInRange, indicesInRange, ratesInRange, inRange}
 use Rattle.calls.specs.Call.{outcome, acceptance, secondsOf, yearOf}
 use Rattle.book.specs.Calls.{changed, answered, apply, file, filedBook, filedAnswers}
-use Rattle.book.specs.History.{History, plain, total, recorded, after, noteAnswer, noteHistory, notedHistory, notedAnswers, Same}
-use Rattle.book.specs.Demand.{bookOf, historyOf, Holds, Kept, EqualAsHistories}
+use Rattle.history.specs.History.{History, plain, total, recorded, after, noteAnswer, noteHistory, notedHistory, notedAnswers, Same}
+use Rattle.history.specs.Demand.{bookOf, historyOf, Holds, Kept, EqualAsHistories}
 use Rattle.calls.proofs.Flags.{and-true}
 use Rattle.book.proofs.EveryLaws.{every-of-each}
 use Rattle.calls.proofs.MaskLaws.{has-zero, same-bits}
-use Rattle.book.proofs.SlotLaws.{setting-slot-lt, figure-slot-lt, setting-place, figure-place}
-use Rattle.book.proofs.TableLaws.{Passed, decided, same-answer}
-use Rattle.book.proofs.HistoryLaws.{Ranged, plain-ranged, recorded-ranged}
-use Rattle.book.proofs.ShapeLaws.{Shaped, fresh-shaped, changed-shaped}
-use Rattle.book.proofs.StepLaws.{changed-holds}
+use Rattle.history.proofs.SlotLaws.{setting-slot-lt, figure-slot-lt, setting-place, figure-place}
+use Rattle.history.proofs.TableLaws.{Passed, decided, same-answer}
+use Rattle.history.proofs.HistoryLaws.{Ranged, plain-ranged, recorded-ranged}
+use Rattle.history.proofs.ShapeLaws.{Shaped, fresh-shaped, changed-shaped}
+use Rattle.history.proofs.StepLaws.{changed-holds}
 
 -- what a book and a history keep from call to call
 record Agrees (b : Book) (h : History) : Type 0 where

@@ -5,12 +5,12 @@ use mathlib.Core.Path.{_≡_}
 use mathlib.Core.Logic.{_↔_}
 use mathlib.Core.Bool.{true}
 use mathlib.Core.List.{List}
 use Rattle.book.specs.declared.Book.{Book}
 use Rattle.calls.specs.declared.Call.{Call}
 use Rattle.calls.specs.Limits.{operators, years, figures, settings, indicators, indexNumbers}
 use Rattle.book.specs.Book.{freshBook, isJoined, isMarked, settingOf, figureOf, indexOf, inRange}
 use Rattle.book.specs.Calls.{filedBook, filedAnswers}
-use Rattle.book.specs.History.{History, plain, total, notedHistory, notedAnswers, Same}
+use Rattle.history.specs.History.{History, plain, total, notedHistory, notedAnswers, Same}
 
 -- the book that a list of calls leaves, and the history that it makes
 abbrev pub bookOf : List Call → Book

@@ -8,24 +8,24 @@ use native.Mathlib.Omega.{arith}
 use lib.Dec.{eqb}
 use lib.ListN.{getD, set}
 use borrow.Author.Tests.{eqb-true}
 use Rattle.book.specs.declared.Book.{Book}
 use Rattle.calls.specs.declared.Call.{Call}
 use Rattle.calls.specs.declared.Call.the-variants.{Join, Setting, Interruption, Amount, Mark, Rates, Index}
 use Rattle.calls.specs.Limits.{operators, years, figures, settings, indicators, indexNumbers}
 use Rattle.calls.specs.Masks.{has, including, excluding}
 use Rattle.book.specs.Book.{isJoined, isMarked, settingOf, figureOf, indexOf, settingSlot, figureSlot}
 use Rattle.calls.specs.Call.{Entry, operatorOf, entries}
 use Rattle.book.specs.Calls.{withJoined, withMarks, withSettings, withFigures, withRates, withIndices, entered, enterAll, changed}
 use Rattle.calls.specs.Masks.{remasked}
-use Rattle.book.specs.History.{History, total, at1, at2, summed, summedAll, enteredIn, recorded}
-use Rattle.book.specs.Demand.{Holds}
+use Rattle.history.specs.History.{History, total, at1, at2, summed, summedAll, enteredIn, recorded}
+use Rattle.history.specs.Demand.{Holds}
 use Rattle.calls.proofs.Flags.{and-true-right, and-false-right}
 use Rattle.calls.proofs.MaskLaws.{including-has, excluding-has}
-use Rattle.book.proofs.SlotLaws.{stored, setting-slot-lt, figure-slot-lt, same-setting-slot, same-figure-slot}
+use Rattle.history.proofs.SlotLaws.{stored, setting-slot-lt, figure-slot-lt, same-setting-slot, same-figure-slot}
 use Rattle.calls.proofs.RangeLaws.{Ranges}
-use Rattle.book.proofs.EntryLaws.{All, Within, here, at-place, summed-here, summed-elsewhere, entries-within}
-use Rattle.book.proofs.HistoryLaws.{Ranged}
-use Rattle.book.proofs.ShapeLaws.{Shaped, entered-shaped}
+use Rattle.history.proofs.EntryLaws.{All, Within, here, at-place, summed-here, summed-elsewhere, entries-within}
+use Rattle.history.proofs.HistoryLaws.{Ranged}
+use Rattle.history.proofs.ShapeLaws.{Shaped, entered-shaped}
 
 module _ (b : Book) (h : History) (shape : Shaped b) (held : Holds b h) where
   join-holds : (operator : ℕ) → Holds (changed b (Join operator)) (recorded h (Join operator))

@@ -12,11 +12,11 @@ use Rattle.calls.specs.declared.Call.{Call}
 use Rattle.calls.specs.declared.Call.the-variants.{Join, Setting, Interruption, Amount, Mark, Rates, Index}
 use Rattle.calls.specs.Limits.{figureLimit, settingLimit, rateLimit, indexLeast, indexMost}
 use Rattle.calls.specs.Call.{Entry, entries, operatorOf, signOf}
 use Rattle.book.specs.Table.{joinsAgain, lacksOperator, passesLimit, fallsBelow}
-use Rattle.book.specs.History.{History, plain, total, at1, at2, summedAll, enteredIn, recorded}
+use Rattle.history.specs.History.{History, plain, total, at1, at2, summedAll, enteredIn, recorded}
 use Rattle.calls.proofs.Flags.{and-left, and-right}
-use Rattle.book.proofs.EntryLaws.{All, Distinct, summing, entries-distinct}
-use Rattle.book.proofs.TableLaws.{Passed, Fits, Covered, all-fit, all-covered}
+use Rattle.history.proofs.EntryLaws.{All, Distinct, summing, entries-distinct}
+use Rattle.history.proofs.TableLaws.{Passed, Fits, Covered, all-fit, all-covered}
 
 pub record Ranged (h : History) : Type 0 where
   pub setting : (operator which : ℕ) → h .setting operator which ≤ cond (h .joined operator) (settingLimit which) 0

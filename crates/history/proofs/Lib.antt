@@ -1,0 +1,7 @@
+pub mod SlotLaws
+pub mod EntryLaws
+pub mod TableLaws
+pub mod HistoryLaws
+pub mod ShapeLaws
+pub mod StepLaws
+pub mod Kept

@@ -1,0 +1,1 @@
+// No code: the plain history of a list of calls, and the theorem that the book keeps to it.
