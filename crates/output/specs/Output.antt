@@ -31,7 +31,7 @@ refusedField number offset = refusedBy number ++ bytesOf " at " ++ decimal offse
 unfoldable pub refusedSettlement : ℕ → List ℕ
 refusedSettlement number = refusedBy number ++ bytesOf "\n"
 
--- what one of two texts a refusal, or no refusal, calls for
+-- the text of a refusal, by its number; for any other answer the other text
 unfoldable pub unless : Answer → (ℕ → List ℕ) → List ℕ → List ℕ
 unless Yes refused text = text
 unless (Counted year) refused text = text
