@@ -2,11 +2,11 @@
 -- Assumes nothing.
 use Prim.Native.Nat.{ℕ, zero, suc, _<_}
 use mathlib.Core.Path.{_≡_, refl, sym, _∙_}
-use mathlib.Core.Bool.{Bool, true, false, _&&_, false≢true}
+use mathlib.Core.Bool.{Bool, true, false, false≢true}
 use native.Mathlib.Omega.{arith}
 use native.Mathlib.Decide.{ℕ-discrete}
 use Rattle.book.specs.Every.{every}
-use Rattle.calls.proofs.Flags.{and-true, and-left, and-right, and-other, and-true-right, and-false-right}
+use Rattle.calls.proofs.Flags.{and-true, and-left, and-right}
 
 -- true at each number below n
 pub every-of-each : (n : ℕ) (test : ℕ → Bool) → ((i : ℕ) → i < n → test i ≡ true) → every n test ≡ true

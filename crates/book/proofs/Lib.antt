@@ -1,4 +1,2 @@
-pub mod Admission
-pub mod Moves
 pub mod EveryLaws
 pub mod FlatRange

@@ -1,5 +1,2 @@
 pub mod Every
 pub mod Book
-pub mod Table
-pub mod Calls
-pub mod Entering

@@ -1,8 +1,5 @@
-// The book of operators, settings, marks and figures, by value, and the seven filing calls on it.
+// The book of operators, settings, marks and figures, what it holds by name, and whether it is in range.
 mod access;
-mod dispatch;
-mod filing;
-mod interruptions;
 mod range;
 
 pub use access::figure_of;
@@ -10,16 +7,6 @@ pub use access::fresh;
 pub use access::is_joined;
 pub use access::is_marked;
 pub use access::setting_of;
-use calls::Answer;
-pub use dispatch::apply;
-pub use filing::amount;
-pub use filing::file;
-pub use filing::index;
-pub use filing::interruption;
-pub use filing::join;
-pub use filing::mark;
-pub use filing::rates;
-pub use filing::setting;
 pub use range::in_range;
 
 pub struct Book {
@@ -36,10 +23,4 @@ pub struct Book {
     pub cap: u32,
     // In hundredths; the last is that of June 2013.
     pub indices: [u32; 4],
-}
-
-// What a call gives: the book afterwards, and the answer.
-pub struct Filed {
-    pub book: Book,
-    pub answer: Answer,
 }

@@ -6,9 +6,9 @@ mod show;
 
 ghost use Prim.Native.Nat.{_+_, _*_, _<_};
 use book::Book;
-use book::Filed;
 use cases::CASES;
 use cases::COUNT;
+use ledger::Filed;
 use print::put;
 use print::put_answer;
 use print::put_byte;
@@ -58,7 +58,7 @@ fn join(b: Book, at: usize) -> Book
     requires { ⌜ at < 5017 ⌝ }
 {
     let operator = put_byte(byte(at + 1));
-    answered(book::join(b, operator))
+    answered(ledger::join(b, operator))
 }
 
 fn setting(b: Book, at: usize) -> Book
@@ -67,7 +67,7 @@ fn setting(b: Book, at: usize) -> Book
     let operator = put_byte(byte(at + 1));
     let which = put_byte(byte(at + 2));
     let value = put_number(cell(at + 3));
-    answered(book::setting(b, operator, which, value))
+    answered(ledger::setting(b, operator, which, value))
 }
 
 fn interruption(b: Book, at: usize) -> Book
@@ -80,7 +80,7 @@ fn interruption(b: Book, at: usize) -> Book
     let start = put_time(cell(at + 4));
     let end = put_time(cell(at + 5));
     let weight = (put_number(cell(at + 6) % 4294967296) % 4294967296) as u32;
-    answered(book::interruption(b, operator, sign, level, cause, start, end, weight))
+    answered(ledger::interruption(b, operator, sign, level, cause, start, end, weight))
 }
 
 fn amount(b: Book, at: usize) -> Book
@@ -91,7 +91,7 @@ fn amount(b: Book, at: usize) -> Book
     let figure = put_byte(byte(at + 3));
     let sign = put_byte(byte(at + 4));
     let value = put_number(cell(at + 5));
-    answered(book::amount(b, operator, year, figure, sign, value))
+    answered(ledger::amount(b, operator, year, figure, sign, value))
 }
 
 fn mark(b: Book, at: usize) -> Book
@@ -100,7 +100,7 @@ fn mark(b: Book, at: usize) -> Book
     let operator = put_byte(byte(at + 1));
     let indicator = put_byte(byte(at + 2));
     let value = put_byte(byte(at + 3));
-    answered(book::mark(b, operator, indicator, value))
+    answered(ledger::mark(b, operator, indicator, value))
 }
 
 fn rates(b: Book, at: usize) -> Book
@@ -108,7 +108,7 @@ fn rates(b: Book, at: usize) -> Book
 {
     let pot = put_word(at + 1);
     let cap = put_word(at + 2);
-    answered(book::rates(b, pot, cap))
+    answered(ledger::rates(b, pot, cap))
 }
 
 fn index(b: Book, at: usize) -> Book
@@ -116,7 +116,7 @@ fn index(b: Book, at: usize) -> Book
 {
     let number = put_byte(byte(at + 1));
     let value = put_word(at + 2);
-    answered(book::index(b, number, value))
+    answered(ledger::index(b, number, value))
 }
 
 fn answered(filed: Filed) -> Book {

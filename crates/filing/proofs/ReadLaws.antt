@@ -12,7 +12,7 @@ use Rattle.calls.specs.declared.Answer.{Answer}
 use Rattle.calls.specs.declared.Answer.the-variants.{Yes}
 use Rattle.book.specs.declared.Book.{Book}
 use Rattle.book.specs.Book.{freshBook, inRange}
-use Rattle.book.specs.Calls.{apply, file, filedBook, filedAnswers}
+use Rattle.ledger.specs.Calls.{apply, file, filedBook, filedAnswers}
 use Rattle.history.specs.Demand.{bookOf}
 use Rattle.history.proofs.Kept.{kept}
 use Rattle.fields.specs.declared.Field.{Field}

@@ -11,10 +11,10 @@ use Rattle.calls.specs.declared.Call.{Call}
 use Rattle.calls.specs.declared.Answer.{Answer}
 use Rattle.calls.specs.declared.Answer.the-variants.{Yes, Counted, LeftOut, Refused as Refusing}
 use Rattle.book.specs.declared.Book.{Book}
-use Rattle.book.specs.declared.Filed.{Filed}
+use Rattle.ledger.specs.declared.Filed.{Filed}
 use Rattle.book.specs.Book.{isJoined, figureOf}
-use Rattle.book.specs.Table.{answerTo}
-use Rattle.book.specs.Calls.{changed, answered, apply}
+use Rattle.ledger.specs.Table.{answerTo}
+use Rattle.ledger.specs.Calls.{changed, answered, apply}
 use Rattle.fields.specs.declared.Field.{Field}
 use Rattle.fields.specs.declared.Field.the-variants.{Filing, End, Refused}
 use Rattle.filing.specs.declared.Reading.{Reading}

@@ -10,7 +10,7 @@ use Rattle.calls.specs.declared.Call.{Call}
 use Rattle.calls.specs.declared.Call.the-variants.{Join}
 use Rattle.calls.specs.declared.Answer.{Answer}
 use Rattle.calls.specs.declared.Answer.the-variants.{Yes, Refused}
-use Rattle.book.specs.Calls.{file, filedAnswers}
+use Rattle.ledger.specs.Calls.{file, filedAnswers}
 use Rattle.history.specs.Demand.{bookOf}
 use Rattle.filing.specs.declared.Reading.{Reading}
 use Rattle.filing.specs.Reader.{Fields, field, ended, broken, fieldsOf, isRefused, read}

@@ -11,7 +11,7 @@ use Rattle.calls.specs.declared.Answer.{Answer}
 use Rattle.calls.specs.declared.Answer.the-variants.{Yes, Counted, LeftOut, Refused as Refusing}
 use Rattle.book.specs.declared.Book.{Book}
 use Rattle.book.specs.Book.{inRange}
-use Rattle.book.specs.Calls.{apply}
+use Rattle.ledger.specs.Calls.{apply}
 use Rattle.fields.specs.declared.Field.{Field}
 use Rattle.fields.specs.declared.Field.the-variants.{Filing, End, Refused}
 use Rattle.filing.specs.declared.Reading.{Reading}

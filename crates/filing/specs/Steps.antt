@@ -4,8 +4,8 @@ use Prim.Native.Nat.{ℕ, _+_}
 use mathlib.Core.Bool.{true, false, cond}
 use Rattle.calls.specs.declared.Answer.{Answer}
 use Rattle.calls.specs.declared.Answer.the-variants.{Yes, Refused as Refusing}
-use Rattle.book.specs.declared.Filed.{Filed}
-use Rattle.book.specs.Calls.{apply}
+use Rattle.ledger.specs.declared.Filed.{Filed}
+use Rattle.ledger.specs.Calls.{apply}
 use Rattle.fields.specs.declared.Field.{Field}
 use Rattle.fields.specs.declared.Field.the-variants.{Filing, End, Refused}
 use Rattle.filing.specs.declared.Reading.{Reading}

@@ -2,19 +2,19 @@
 ghost use mathlib.Core.Path.{_≡_};
 ghost use Prim.Native.Nat.{_≤_, _<_};
 ghost use lib.ListN.{length};
-ghost use Rattle.book.specs.Calls.{apply as Calls·apply};
+ghost use Rattle.ledger.specs.Calls.{apply as Calls·apply};
 ghost use Rattle.fields.specs.Field.{fieldAt};
 ghost use Rattle.filing.specs.Reader.{isRefused, read as Reader·read};
 ghost use Rattle.filing.specs.Steps.{stopped, advanced, stepped};
 use crate::Reading;
 use book::Book;
-use book::apply;
 use book::in_range;
 use calls::Answer;
 use calls::Call;
 use calls::Refusal;
 use fields::Field;
 use fields::field_at;
+use ledger::apply;
 
 // A reading under way: what it has reached, and whether it goes on with a next field.
 struct Walk {

@@ -17,9 +17,9 @@ use Rattle.calls.specs.Masks.{has, including}
 use Rattle.book.specs.Every.{every}
 use Rattle.book.specs.Book.{freshBook, figureSlot, settingSlot, isJoined, isMarked, settingOf, figureOf, indexOf, most, settingsInRange, figuresInRange, marksInRange, indicesInRange, ratesInRange, inRange}
 use Rattle.calls.specs.Call.{timesInRange, weightInRange, detailsInRange, secondsOf, yearOf, outcome, counts, countedEntries, amountEntries, entries, operatorOf, signOf, valuesInRange, acceptance}
-use Rattle.book.specs.Table.{joinsAgain, lacksOperator, some, refuse, passesLimit, fallsBelow, answerTo}
-use Rattle.book.specs.Calls.{withJoined, withFigures, entered, enterAll, changed, answered, apply, file, filedBook, filedAnswers}
-use Rattle.book.specs.Calls.{withSettings, withRates}
+use Rattle.ledger.specs.Table.{joinsAgain, lacksOperator, some, refuse, passesLimit, fallsBelow, answerTo}
+use Rattle.ledger.specs.Calls.{withJoined, withFigures, entered, enterAll, changed, answered, apply, file, filedBook, filedAnswers}
+use Rattle.ledger.specs.Calls.{withSettings, withRates}
 use Rattle.values.specs.Operators.{table, each, count}
 use Rattle.values.specs.Indicator.{electricity, over, yearlyValue, threeYears, reliableMask, isReliable, joinedCount, reliableCount, pool}
 use Rattle.values.specs.Indicator.{scoreOf, scores}

@@ -5,7 +5,7 @@ use mathlib.Core.List.{List, [], _∷_}
 use mathlib.Core.List.{reverse}
 use Prim.Native.Nat.{ℕ}
 use mathlib.Core.Bool.{true, false}
-use lib.IntN.{ℤ, pos, negℤ}
+use lib.IntN.{pos, negℤ}
 use lib.ListN.{getD, take}
 use Rattle.apportion.specs.Share.{share}
 use Rattle.exponent.specs.Weight.{weightOf}
@@ -14,7 +14,7 @@ use Rattle.calls.specs.declared.Call.the-variants.{Join, Setting, Interruption,
 use Rattle.calls.specs.declared.Answer.the-variants.{Yes}
 use Rattle.calls.specs.Answers.{Said, yes-said, counted-in, left-out-under, refused-by, said}
 use Rattle.book.specs.Book.{freshBook, figureOf}
-use Rattle.book.specs.Calls.{filedAnswers}
+use Rattle.ledger.specs.Calls.{filedAnswers}
 use Rattle.history.specs.Demand.{bookOf}
 use Rattle.values.specs.Operators.{each}
 use Rattle.values.specs.Indicator.{electricity}

@@ -12,7 +12,7 @@ use Rattle.calls.specs.declared.Call.{Call}
 use Rattle.calls.specs.declared.Call.the-variants.{Join, Setting, Interruption, Amount, Mark, Rates, Index}
 use Rattle.calls.specs.Limits.{years, figures}
 use Rattle.calls.specs.Call.{Entry, yearOf, secondsOf, counts, countedEntries, amountEntries, entries}
-use Rattle.book.specs.Table.{some}
+use Rattle.ledger.specs.Table.{some}
 use Rattle.history.specs.History.{summed, summedAll}
 use Rattle.calls.proofs.Flags.{and-left, and-right, and-false-right}
 use Rattle.calls.proofs.RangeLaws.{Ranges}

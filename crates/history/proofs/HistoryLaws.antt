@@ -3,7 +3,7 @@
 use Prim.Native.Nat.{ℕ, _+_, _-_, _≤_}
 use mathlib.Core.Path.{_≡_, refl}
 use mathlib.Core.Logic.{⊎-elim}
-use mathlib.Core.Bool.{Bool, true, false, cond, not, _&&_, false≢true}
+use mathlib.Core.Bool.{Bool, true, false, cond, _&&_, false≢true}
 use mathlib.Core.List.{List}
 use native.Mathlib.Omega.{arith}
 use lib.Dec.{eqb}
@@ -11,8 +11,8 @@ use borrow.Author.Tests.{eqb-true, eqb-false, not-false}
 use Rattle.calls.specs.declared.Call.{Call}
 use Rattle.calls.specs.declared.Call.the-variants.{Join, Setting, Interruption, Amount, Mark, Rates, Index}
 use Rattle.calls.specs.Limits.{figureLimit, settingLimit, rateLimit, indexLeast, indexMost}
-use Rattle.calls.specs.Call.{Entry, entries, operatorOf, signOf}
-use Rattle.book.specs.Table.{joinsAgain, lacksOperator, passesLimit, fallsBelow}
+use Rattle.calls.specs.Call.{Entry, operatorOf, signOf}
+use Rattle.ledger.specs.Table.{joinsAgain, lacksOperator, passesLimit, fallsBelow}
 use Rattle.history.specs.History.{History, plain, total, at1, at2, summedAll, enteredIn, recorded}
 use Rattle.calls.proofs.Flags.{and-left, and-right}
 use Rattle.history.proofs.EntryLaws.{All, Distinct, summing, entries-distinct}

@@ -11,7 +11,7 @@ use lib.ListN.{length, getD, getD-replicate}
 use lib.Seq.{ext-getD}
 use borrow.Author.Tests.{le-leb}
 use Rattle.book.specs.declared.Book.{Book}
-use Rattle.book.specs.declared.Filed.{Filed}
+use Rattle.ledger.specs.declared.Filed.{Filed}
 use Rattle.calls.specs.declared.Call.{Call}
 use Rattle.calls.specs.declared.Call.the-variants.{Join, Setting, Interruption, Amount, Mark, Rates, Index}
 use Rattle.calls.specs.declared.Refusal.{Refusal}
@@ -21,7 +21,7 @@ use Rattle.calls.specs.declared.Answer.the-variants.{Yes, Counted, LeftOut, Ref
 use Rattle.calls.specs.Limits.{operators, years, figures, settings, indicators, indexNumbers, indexLeast, indexMost}
 use Rattle.book.specs.Book.{freshBook, isJoined, isMarked, settingOf, figureOf, indexOf, settingSlot, figureSlot, most, settingsInRange, figuresInRange, marksInRange, indicesInRange, ratesInRange, inRange}
 use Rattle.calls.specs.Call.{outcome, acceptance, secondsOf, yearOf}
-use Rattle.book.specs.Calls.{changed, answered, apply, file, filedBook, filedAnswers}
+use Rattle.ledger.specs.Calls.{changed, answered, apply, file, filedBook, filedAnswers}
 use Rattle.history.specs.History.{History, plain, total, recorded, after, noteAnswer, noteHistory, notedHistory, notedAnswers, Same}
 use Rattle.history.specs.Demand.{bookOf, historyOf, Holds, Kept, EqualAsHistories}
 use Rattle.calls.proofs.Flags.{and-true}

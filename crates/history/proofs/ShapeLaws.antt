@@ -14,7 +14,7 @@ use Rattle.calls.specs.Limits.{operators, indicators, indexNumbers}
 use Rattle.calls.specs.Masks.{including, excluding}
 use Rattle.book.specs.Book.{freshBook}
 use Rattle.calls.specs.Call.{Entry, operatorOf}
-use Rattle.book.specs.Calls.{withJoined, withMarks, withSettings, withFigures, withRates, withIndices, entered, enterAll, changed}
+use Rattle.ledger.specs.Calls.{withJoined, withMarks, withSettings, withFigures, withRates, withIndices, entered, enterAll, changed}
 use Rattle.calls.specs.Masks.{remasked}
 use Rattle.calls.proofs.MaskLaws.{including-lt, excluding-le}
 use Rattle.history.proofs.SlotLaws.{stored}

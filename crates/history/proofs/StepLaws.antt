@@ -14,8 +14,8 @@ use Rattle.calls.specs.declared.Call.the-variants.{Join, Setting, Interruption,
 use Rattle.calls.specs.Limits.{operators, years, figures, settings, indicators, indexNumbers}
 use Rattle.calls.specs.Masks.{has, including, excluding}
 use Rattle.book.specs.Book.{isJoined, isMarked, settingOf, figureOf, indexOf, settingSlot, figureSlot}
-use Rattle.calls.specs.Call.{Entry, operatorOf, entries}
-use Rattle.book.specs.Calls.{withJoined, withMarks, withSettings, withFigures, withRates, withIndices, entered, enterAll, changed}
+use Rattle.calls.specs.Call.{Entry, operatorOf}
+use Rattle.ledger.specs.Calls.{withJoined, withMarks, withSettings, withFigures, withRates, withIndices, entered, enterAll, changed}
 use Rattle.calls.specs.Masks.{remasked}
 use Rattle.history.specs.History.{History, total, at1, at2, summed, summedAll, enteredIn, recorded}
 use Rattle.history.specs.Demand.{Holds}

@@ -15,7 +15,7 @@ use Rattle.calls.specs.declared.Answer.{Answer}
 use Rattle.calls.specs.declared.Answer.the-variants.{Refused}
 use Rattle.calls.specs.Limits.{operators, years, figures, figureLimit}
 use Rattle.calls.specs.Call.{Entry, entries, operatorOf, signOf, valuesInRange, acceptance}
-use Rattle.book.specs.Table.{joinsAgain, lacksOperator, refuse, passesLimit, fallsBelow, answerTo}
+use Rattle.ledger.specs.Table.{joinsAgain, lacksOperator, refuse, passesLimit, fallsBelow, answerTo}
 use Rattle.calls.proofs.Flags.{and-other}
 use Rattle.calls.proofs.RangeLaws.{Ranges, ranges}
 use Rattle.history.proofs.EntryLaws.{All, Within, all-map, none-some, same-some, entries-within}

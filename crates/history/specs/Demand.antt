@@ -9,7 +9,7 @@ use Rattle.book.specs.declared.Book.{Book}
 use Rattle.calls.specs.declared.Call.{Call}
 use Rattle.calls.specs.Limits.{operators, years, figures, settings, indicators, indexNumbers}
 use Rattle.book.specs.Book.{freshBook, isJoined, isMarked, settingOf, figureOf, indexOf, inRange}
-use Rattle.book.specs.Calls.{filedBook, filedAnswers}
+use Rattle.ledger.specs.Calls.{filedBook, filedAnswers}
 use Rattle.history.specs.History.{History, plain, total, notedHistory, notedAnswers, Same}
 
 -- the book that a list of calls leaves, and the history that it makes

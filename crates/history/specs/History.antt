@@ -11,7 +11,7 @@ use Rattle.calls.specs.declared.Answer.{Answer}
 use Rattle.calls.specs.declared.Answer.the-variants.{Yes, Counted, LeftOut, Refused}
 use Rattle.calls.specs.Limits.{operators, years, figures, settings, indicators, indexNumbers}
 use Rattle.calls.specs.Call.{Entry, entries}
-use Rattle.book.specs.Table.{answerTo}
+use Rattle.ledger.specs.Table.{answerTo}
 
 pub record History : Type 0 where
   pub joined : ℕ → Bool

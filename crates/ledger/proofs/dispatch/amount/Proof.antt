@@ -1,0 +1,71 @@
+-- `ledger::dispatch::amount` meets its contract.
+-- Assumes nothing.
+use mathlib.Core.Path.{refl, sym, _∙_}
+use mathlib.Core.Bool.{_&&_}
+use native.Mathlib.Omega.{arith}
+use lib.Dec.{ltb}
+use borrow.Author.Tests.{ltb-true, leb-true}
+use Rattle.book.specs.Book.{isJoined}
+use Rattle.calls.specs.Call.{operatorOf, signOf, entries, valuesInRange, acceptance}
+use Rattle.ledger.specs.Table.{joinsAgain, lacksOperator}
+use Rattle.ledger.specs.Calls.{changed}
+use Rattle.ledger.specs.Entering.{entering}
+use Rattle.calls.proofs.Flags.{both, denied, granted, negated}
+use Rattle.ledger.proofs.Admission.{unknown-operator, out-of-range, not-joined, admitted}
+use borrow.Author.Needs.{needs}
+use Rattle.ledger.proofs.dispatch.amount.Statement.{statement}
+use Rattle.ledger.proofs.dispatch.amount.Tie as tie
+
+returns : tie.Need-returns
+unfolding operatorOf
+returns c = sym (unknown-operator (c .before .args .b) _ (c .if1 .taken))
+
+amount-in-range-requires : tie.Need-amount-in-range-requires
+amount-in-range-requires c κs = search needs
+
+returns-2 : tie.Need-returns-2
+unfolding operatorOf valuesInRange
+returns-2 c = sym (out-of-range (c .before .before .before .args .b) _ (omega arith) (denied (c .before .amount-in-range .ensures) (c .if2 .taken)))
+
+has-bit-requires : tie.Need-has-bit-requires
+has-bit-requires c κs = search needs
+
+returns-3 : tie.Need-returns-3
+unfolding operatorOf valuesInRange joinsAgain lacksOperator isJoined
+returns-3 c =
+    sym
+    (not-joined (c .before .before .before .before .before .args .b) _ (omega arith)
+    (granted (c .before .before .before .amount-in-range .ensures) (c .before .before .if2 .left))
+    refl
+    (negated (c .before .has-bit .ensures) (c .if3 .taken)))
+
+enter-amount-requires : tie.Need-enter-amount-requires
+unfolding valuesInRange
+enter-amount-requires c κs =
+    let start = c .before .before .before .before .before in
+    let valid = granted (c .before .before .before .amount-in-range .ensures) (c .before .before .if2 .left) in
+    let places = both (ltb (start .args .year) 3 && ltb (start .args .figure) 8) _ valid in
+    let first = both (ltb (start .args .year) 3) _ (places .0) in
+    (omega arith, ltb-true _ _ (first .0), ltb-true _ _ (first .1), leb-true _ _ (places .1))
+
+returns-4 : tie.Need-returns-4
+unfolding operatorOf valuesInRange joinsAgain lacksOperator isJoined entering signOf entries acceptance changed
+returns-4 c =
+    c .enter-amount .ensures
+    ∙ sym
+    (admitted (c .before .before .before .before .before .before .args .b) _ (omega arith)
+    (granted (c .before .before .before .before .amount-in-range .ensures) (c .before .before .before .if2 .left))
+    refl
+    (negated (c .before .before .has-bit .ensures) (c .before .if3 .left)))
+
+pub amount-spec : {M : Type 1} → statement M
+amount-spec =
+    tie.close
+    (tie.spec
+    returns
+    amount-in-range-requires
+    returns-2
+    has-bit-requires
+    returns-3
+    enter-amount-requires
+    returns-4)

@@ -1,0 +1,104 @@
+-- `ledger::dispatch::apply` meets its contract.
+-- Assumes nothing.
+use mathlib.Core.Path.{sym, ap, _∙_}
+use mir.Syntax.{w64}
+use mir.Val.{SFits}
+use Rattle.ledger.specs.Calls.{apply}
+use Rattle.calls.proofs.Times.{back}
+use borrow.Author.Needs.{needs}
+use Rattle.ledger.proofs.dispatch.apply.Statement.{statement}
+use Rattle.ledger.proofs.dispatch.apply.Tie as tie
+
+enum-known-filing-call : tie.Need-enum-known-filing-call
+enum-known-filing-call c = search needs
+
+join-requires : tie.Need-join-requires
+join-requires c κs = search needs
+
+enum-known-filing-call-2 : tie.Need-enum-known-filing-call-2
+enum-known-filing-call-2 c = search needs
+
+setting-requires : tie.Need-setting-requires
+setting-requires c κs = search needs
+
+enum-known-filing-call-3 : tie.Need-enum-known-filing-call-3
+enum-known-filing-call-3 c = search needs
+
+interruption-requires : tie.Need-interruption-requires
+interruption-requires c κs = search needs
+
+enum-known-filing-call-4 : tie.Need-enum-known-filing-call-4
+enum-known-filing-call-4 c = search needs
+
+amount-requires : tie.Need-amount-requires
+amount-requires c κs = search needs
+
+enum-known-filing-call-5 : tie.Need-enum-known-filing-call-5
+enum-known-filing-call-5 c = search needs
+
+mark-indicator-requires : tie.Need-mark-indicator-requires
+mark-indicator-requires c κs = search needs
+
+enum-known-filing-call-6 : tie.Need-enum-known-filing-call-6
+enum-known-filing-call-6 c = search needs
+
+rates-requires : tie.Need-rates-requires
+rates-requires c κs = search needs
+
+enum-known-filing-call-7 : tie.Need-enum-known-filing-call-7
+enum-known-filing-call-7 c = search needs
+
+index-requires : tie.Need-index-requires
+index-requires c κs = search needs
+
+returns : tie.Need-returns
+returns c = c .join .ensures ∙ ap (apply (c .before .before .before .before .args .b)) (sym (c .before .before .filing-call .given .1))
+
+returns-2 : tie.Need-returns-2
+returns-2 c = c .setting .ensures ∙ ap (apply (c .before .before .before .before .args .b)) (sym (c .before .before .filing-call2 .given .1))
+
+returns-3 : tie.Need-returns-3
+returns-3 c =
+    let given = c .before .before .filing-call3 .given in
+    let known = c .before .known-told3 .given .1 .1 .1 .1 in
+    let start : SFits w64 (given .0 .1 .1 .1 .1 .0) = record { sfits = known .0 .1 } in
+    let end : SFits w64 (given .0 .1 .1 .1 .1 .1 .0) = record { sfits = known .1 .0 .1 } in
+    (rw (back start, back end) at (c .interruption .ensures)) ∙ ap (apply (c .before .before .before .before .args .b)) (sym (given .1))
+
+returns-4 : tie.Need-returns-4
+returns-4 c = c .amount .ensures ∙ ap (apply (c .before .before .before .before .args .b)) (sym (c .before .before .filing-call4 .given .1))
+
+returns-5 : tie.Need-returns-5
+returns-5 c = c .mark-indicator .ensures ∙ ap (apply (c .before .before .before .before .args .b)) (sym (c .before .before .filing-call5 .given .1))
+
+returns-6 : tie.Need-returns-6
+returns-6 c = c .rates .ensures ∙ ap (apply (c .before .before .before .before .args .b)) (sym (c .before .before .filing-call6 .given .1))
+
+returns-7 : tie.Need-returns-7
+returns-7 c = c .index .ensures ∙ ap (apply (c .before .before .before .before .args .b)) (sym (c .before .before .filing-call7 .given .1))
+
+pub apply-spec : {M : Type 1} → statement M
+apply-spec =
+    tie.close
+    (tie.spec
+    enum-known-filing-call
+    join-requires
+    enum-known-filing-call-2
+    setting-requires
+    enum-known-filing-call-3
+    interruption-requires
+    enum-known-filing-call-4
+    amount-requires
+    enum-known-filing-call-5
+    mark-indicator-requires
+    enum-known-filing-call-6
+    rates-requires
+    enum-known-filing-call-7
+    index-requires
+    returns
+    returns-2
+    returns-3
+    returns-4
+    returns-5
+    returns-6
+    returns-7)

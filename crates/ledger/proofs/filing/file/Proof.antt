@@ -1,0 +1,25 @@
+-- `ledger::filing::file` meets its contract.
+-- Assumes nothing.
+use mathlib.Core.Path.{refl}
+use Rattle.calls.proofs.Flags.{denied, granted}
+use Rattle.ledger.specs.Calls.{file}
+use borrow.Author.Needs.{needs}
+use Rattle.ledger.proofs.filing.file.Statement.{statement}
+use Rattle.ledger.proofs.filing.file.Tie as tie
+
+in-range-requires : tie.Need-in-range-requires
+in-range-requires c κs = search needs
+
+returns : tie.Need-returns
+unfolding file
+returns c = rw (denied (c .before .in-range .ensures) (c .if1 .taken)) refl
+
+apply-requires : tie.Need-apply-requires
+apply-requires c κs = search needs
+
+returns-2 : tie.Need-returns-2
+unfolding file
+returns-2 c = rw (granted (c .before .before .in-range .ensures) (c .before .if1 .left)) (c .apply .ensures)
+
+pub file-spec : {M : Type 1} → statement M
+file-spec = tie.close (tie.spec in-range-requires returns apply-requires returns-2)
