@@ -14,7 +14,7 @@ use Rattle.book.specs.declared.Book.{Book}
 use Rattle.ledger.specs.declared.Filed.{Filed}
 use Rattle.book.specs.Book.{isJoined, figureOf}
 use Rattle.ledger.specs.Table.{answerTo}
-use Rattle.ledger.specs.Calls.{changed, answered, apply}
+use Rattle.ledger.specs.Calls.{changed, refusedCall, answered, apply}
 use Rattle.fields.specs.declared.Field.{Field}
 use Rattle.fields.specs.declared.Field.the-variants.{Filing, End, Refused}
 use Rattle.filing.specs.declared.Reading.{Reading}
@@ -41,7 +41,7 @@ fields-next bytes at = sym (fields-enough (length bytes) bytes at (omega arith))
 
 -- a refused call leaves the book
 pub refused-leaves : (b : Book) (call : Call) → isRefused (apply b call .answer) ≡ true → apply b call .book ≡ b
-unfolding apply isRefused answered
+unfolding apply isRefused refusedCall answered
 refused-leaves b call = go (changed b call) (answerTo (isJoined b) (figureOf b) call)
   where
     go : (new : Book) (answer : Answer) → isRefused (answered b new answer .answer) ≡ true → answered b new answer .book ≡ b

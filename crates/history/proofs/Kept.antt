@@ -21,7 +21,7 @@ use Rattle.calls.specs.declared.Answer.the-variants.{Yes, Counted, LeftOut, Ref
 use Rattle.calls.specs.Limits.{operators, years, figures, settings, indicators, indexNumbers, indexLeast, indexMost}
 use Rattle.book.specs.Book.{freshBook, isJoined, isMarked, settingOf, figureOf, indexOf, settingSlot, figureSlot, most, settingsInRange, figuresInRange, marksInRange, indicesInRange, ratesInRange, inRange}
 use Rattle.calls.specs.Call.{outcome, acceptance, secondsOf, yearOf}
-use Rattle.ledger.specs.Calls.{changed, answered, apply, file, filedBook, filedAnswers}
+use Rattle.ledger.specs.Calls.{changed, refusedCall, answered, apply, file, filedBook, filedAnswers}
 use Rattle.history.specs.History.{History, plain, total, recorded, after, noteAnswer, noteHistory, notedHistory, notedAnswers, Same}
 use Rattle.history.specs.Demand.{bookOf, historyOf, Holds, Kept, EqualAsHistories}
 use Rattle.calls.proofs.Flags.{and-true}
@@ -130,11 +130,11 @@ together b c h g (LeftOut reason) ok new = new
 together b c h g (Refused refusal) ok new = absurd ok
 
 refused : (b c : Book) (h g : History) (refusal : Refusal) → Agrees b h → Agrees (answered b c (Refused refusal) .book) (after h g (Refused refusal))
-unfolding answered after
+unfolding refusedCall answered after
 refused b c h g refusal old = old
 
 same-said : (b c : Book) (answer : Answer) → answered b c answer .answer ≡ answer
-unfolding answered
+unfolding refusedCall answered
 same-said b c Yes = refl
 same-said b c (Counted year) = refl
 same-said b c (LeftOut reason) = refl

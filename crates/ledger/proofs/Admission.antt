@@ -5,37 +5,30 @@ use mathlib.Core.Bool.{true, false}
 use Prim.Native.Nat.{_≤_, _<_}
 use borrow.Author.Tests.{lt-ltb, le-ltb}
 use Rattle.book.specs.declared.Book.{Book}
-use Rattle.ledger.specs.declared.Filed.{Filed}
 use Rattle.calls.specs.declared.Call.{Call}
-use Rattle.calls.specs.declared.Refusal.{Refusal}
 use Rattle.calls.specs.declared.Refusal.the-variants.{UnknownOperator, OutOfRange, AlreadyJoined, NotJoined, AboveLimit, BelowZero}
-use Rattle.calls.specs.declared.Answer.the-variants.{Refused}
 use Rattle.book.specs.Book.{isJoined, figureOf}
 use Rattle.calls.specs.Call.{operatorOf, signOf, entries, valuesInRange, acceptance}
 use Rattle.ledger.specs.Table.{refuse, joinsAgain, lacksOperator, passesLimit, fallsBelow, answerTo}
-use Rattle.ledger.specs.Calls.{changed, answered, apply}
-
--- a refused call leaves the book
-abbrev pub refusedBy : Book → Refusal → Filed
-refusedBy b refusal = record { book = b; answer = Refused refusal }
+use Rattle.ledger.specs.Calls.{changed, refusedCall, answered, apply}
 
 module _ (b : Book) (call : Call) where
-  pub unknown-operator : 16 ≤ operatorOf call → apply b call ≡ refusedBy b UnknownOperator
+  pub unknown-operator : 16 ≤ operatorOf call → apply b call ≡ refusedCall b UnknownOperator
   unfolding apply answered answerTo refuse
   unknown-operator above = rw (le-ltb _ _ above) refl
 
   module _ (known : operatorOf call < 16) where
-    pub out-of-range : valuesInRange call ≡ false → apply b call ≡ refusedBy b OutOfRange
+    pub out-of-range : valuesInRange call ≡ false → apply b call ≡ refusedCall b OutOfRange
     unfolding apply answered answerTo refuse
     out-of-range outside = rw (lt-ltb _ _ known, outside) refl
 
     module _ (valid : valuesInRange call ≡ true) where
-      pub already-joined : joinsAgain (isJoined b) call ≡ true → apply b call ≡ refusedBy b AlreadyJoined
+      pub already-joined : joinsAgain (isJoined b) call ≡ true → apply b call ≡ refusedCall b AlreadyJoined
       unfolding apply answered answerTo refuse
       already-joined again = rw (lt-ltb _ _ known, valid, again) refl
 
       module _ (first : joinsAgain (isJoined b) call ≡ false) where
-        pub not-joined : lacksOperator (isJoined b) call ≡ true → apply b call ≡ refusedBy b NotJoined
+        pub not-joined : lacksOperator (isJoined b) call ≡ true → apply b call ≡ refusedCall b NotJoined
         unfolding apply answered answerTo refuse
         not-joined lacking = rw (lt-ltb _ _ known, valid, first, lacking) refl
 

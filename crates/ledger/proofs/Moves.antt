@@ -20,7 +20,7 @@ use Rattle.calls.specs.Limits.{figureLimit}
 use Rattle.book.specs.Book.{figureSlot, figureOf}
 use Rattle.calls.specs.Call.{Entry}
 use Rattle.ledger.specs.Table.{some, refuse, passesLimit, fallsBelow}
-use Rattle.ledger.specs.Calls.{withFigures, entered, enterAll, answered}
+use Rattle.ledger.specs.Calls.{withFigures, entered, enterAll, refusedCall, answered}
 use Rattle.calls.specs.Steps.{movedBy}
 use Rattle.ledger.specs.Entering.{entering}
 
@@ -146,11 +146,11 @@ module _ (total : ℕ → ℕ → ℕ → ℕ) (operator sign : ℕ) where
 
 -- what entering gives
 module _ (b : Book) (operator sign : ℕ) (list : List Entry) (answer : Answer) where
-  pub refused-above : TooMuch (figureOf b) operator sign list → entering b operator sign list answer ≡ record { book = b; answer = Refused AboveLimit }
+  pub refused-above : TooMuch (figureOf b) operator sign list → entering b operator sign list answer ≡ refusedCall b AboveLimit
   unfolding entering refuse answered
   refused-above e = rw e refl
 
-  pub refused-below : TooLittle (figureOf b) operator sign list → entering b operator sign list answer ≡ record { book = b; answer = Refused BelowZero }
+  pub refused-below : TooLittle (figureOf b) operator sign list → entering b operator sign list answer ≡ refusedCall b BelowZero
   unfolding entering refuse answered
   refused-below e = rw (e .0, e .1) refl
 
@@ -178,7 +178,7 @@ module _ (b : Book) (operator sign : ℕ) where
 
 -- nothing entered, the book stays
 pub nothing-entered : (b : Book) (operator sign : ℕ) (answer : Answer) → entering b operator sign [] answer ≡ record { book = b; answer = answer }
-unfolding enterAll answered
+unfolding enterAll answered refusedCall
 nothing-entered b operator sign answer =
     entered-all b operator sign [] answer (fitting-none (figureOf b) operator sign) ∙ go answer
   where

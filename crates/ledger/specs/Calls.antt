@@ -9,6 +9,7 @@ use Rattle.book.specs.declared.Book.{Book}
 use Rattle.ledger.specs.declared.Filed.{Filed}
 use Rattle.calls.specs.declared.Call.{Call}
 use Rattle.calls.specs.declared.Call.the-variants.{Join, Setting, Interruption, Amount, Mark, Rates, Index}
+use Rattle.calls.specs.declared.Refusal.{Refusal}
 use Rattle.calls.specs.declared.Refusal.the-variants.{OutOfRange}
 use Rattle.calls.specs.declared.Answer.{Answer}
 use Rattle.calls.specs.declared.Answer.the-variants.{Yes, Counted, LeftOut, Refused}
@@ -64,12 +65,16 @@ changed b (Mark operator indicator mark) = withMarks b (set (b .marks) indicator
 changed b (Rates pot cap) = withRates b pot cap
 changed b (Index number value) = withIndices b (set (b .indices) number value)
 
--- the book and the answer; a refused call leaves the book
+-- "A refused filing call leaves the book"
+unfoldable pub refusedCall : Book → Refusal → Filed
+refusedCall b refusal = record { book = b; answer = Refused refusal }
+
+-- the book and the answer
 unfoldable pub answered : Book → Book → Answer → Filed
 answered old new Yes = record { book = new; answer = Yes }
 answered old new (Counted year) = record { book = new; answer = Counted year }
 answered old new (LeftOut reason) = record { book = new; answer = LeftOut reason }
-answered old new (Refused refusal) = record { book = old; answer = Refused refusal }
+answered old new (Refused refusal) = refusedCall old refusal
 
 -- a call on a book that is in range
 unfoldable pub apply : Book → Call → Filed
@@ -77,7 +82,7 @@ apply b call = answered b (changed b call) (answerTo (isJoined b) (figureOf b) c
 
 -- a call on any book: one out of range gets 5, "before any other check"
 unfoldable pub file : Book → Call → Filed
-file b call = cond (inRange b) (apply b call) (record { book = b; answer = Refused OutOfRange })
+file b call = cond (inRange b) (apply b call) (refusedCall b OutOfRange)
 
 -- a list of calls, each on the book that the one before left
 unfoldable pub filedBook : Book → List Call → Book

@@ -6,6 +6,7 @@ ghost use Rattle.ledger.specs.Calls.{apply as Calls·apply};
 ghost use Rattle.ledger.specs.Entering.{entering};
 use crate::Filed;
 use crate::interruptions;
+use crate::refused;
 use book::Book;
 use calls::Answer;
 use calls::Call;
@@ -61,17 +62,11 @@ fn join(b: Book, operator: u8) -> Filed
     ensures { λ r. ⌜ r ≡ Calls·apply b (Call.Join operator) ⌝ }
 {
     if 15 < operator {
-        return Filed {
-            book: b,
-            answer: Answer::Refused(Refusal::UnknownOperator),
-        };
+        return refused(b, Refusal::UnknownOperator);
     }
     let joined = b.joined;
     if has_bit(joined, operator) {
-        return Filed {
-            book: b,
-            answer: Answer::Refused(Refusal::AlreadyJoined),
-        };
+        return refused(b, Refusal::AlreadyJoined);
     }
     let mut next = b;
     next.joined = include_bit(joined, operator);
@@ -85,22 +80,13 @@ fn setting(b: Book, operator: u8, which: u8, value: u64) -> Filed
     ensures { λ r. ⌜ r ≡ Calls·apply b (Call.Setting operator which value) ⌝ }
 {
     if 15 < operator {
-        return Filed {
-            book: b,
-            answer: Answer::Refused(Refusal::UnknownOperator),
-        };
+        return refused(b, Refusal::UnknownOperator);
     }
     if !setting_in_range(which, value) {
-        return Filed {
-            book: b,
-            answer: Answer::Refused(Refusal::OutOfRange),
-        };
+        return refused(b, Refusal::OutOfRange);
     }
     if !has_bit(b.joined, operator) {
-        return Filed {
-            book: b,
-            answer: Answer::Refused(Refusal::NotJoined),
-        };
+        return refused(b, Refusal::NotJoined);
     }
     let mut next = b;
     let at = operator as usize * 3 + which as usize;
@@ -115,22 +101,13 @@ fn amount(b: Book, operator: u8, year: u8, figure: u8, sign: u8, value: u64) -> 
     ensures { λ r. ⌜ r ≡ Calls·apply b (Call.Amount operator year figure sign value) ⌝ }
 {
     if 15 < operator {
-        return Filed {
-            book: b,
-            answer: Answer::Refused(Refusal::UnknownOperator),
-        };
+        return refused(b, Refusal::UnknownOperator);
     }
     if !amount_in_range(year, figure, sign) {
-        return Filed {
-            book: b,
-            answer: Answer::Refused(Refusal::OutOfRange),
-        };
+        return refused(b, Refusal::OutOfRange);
     }
     if !has_bit(b.joined, operator) {
-        return Filed {
-            book: b,
-            answer: Answer::Refused(Refusal::NotJoined),
-        };
+        return refused(b, Refusal::NotJoined);
     }
     enter_amount(b, operator, year, figure, sign, value)
 }
@@ -151,14 +128,8 @@ fn enter_amount(b: Book, operator: u8, year: u8, figure: u8, sign: u8, value: u6
                 answer: Answer::Yes,
             }
         }
-        Moved::Above => Filed {
-            book: b,
-            answer: Answer::Refused(Refusal::AboveLimit),
-        },
-        Moved::Below => Filed {
-            book: b,
-            answer: Answer::Refused(Refusal::BelowZero),
-        },
+        Moved::Above => refused(b, Refusal::AboveLimit),
+        Moved::Below => refused(b, Refusal::BelowZero),
     }
 }
 
@@ -166,22 +137,13 @@ fn mark_indicator(b: Book, operator: u8, indicator: u8, mark: u8) -> Filed
     ensures { λ r. ⌜ r ≡ Calls·apply b (Call.Mark operator indicator mark) ⌝ }
 {
     if 15 < operator {
-        return Filed {
-            book: b,
-            answer: Answer::Refused(Refusal::UnknownOperator),
-        };
+        return refused(b, Refusal::UnknownOperator);
     }
     if !mark_in_range(indicator, mark) {
-        return Filed {
-            book: b,
-            answer: Answer::Refused(Refusal::OutOfRange),
-        };
+        return refused(b, Refusal::OutOfRange);
     }
     if !has_bit(b.joined, operator) {
-        return Filed {
-            book: b,
-            answer: Answer::Refused(Refusal::NotJoined),
-        };
+        return refused(b, Refusal::NotJoined);
     }
     let mut next = b;
     let at = indicator as usize;
@@ -197,10 +159,7 @@ fn rates(b: Book, pot: u32, cap: u32) -> Filed
     ensures { λ r. ⌜ r ≡ Calls·apply b (Call.Rates pot cap) ⌝ }
 {
     if !rates_in_range(pot, cap) {
-        return Filed {
-            book: b,
-            answer: Answer::Refused(Refusal::OutOfRange),
-        };
+        return refused(b, Refusal::OutOfRange);
     }
     let mut next = b;
     next.pot = pot;
@@ -215,10 +174,7 @@ fn index(b: Book, number: u8, value: u32) -> Filed
     ensures { λ r. ⌜ r ≡ Calls·apply b (Call.Index number value) ⌝ }
 {
     if !index_in_range(number, value) {
-        return Filed {
-            book: b,
-            answer: Answer::Refused(Refusal::OutOfRange),
-        };
+        return refused(b, Refusal::OutOfRange);
     }
     let mut next = b;
     let at = number as usize;

@@ -3,6 +3,7 @@ ghost use mathlib.Core.Path.{_≡_};
 ghost use Rattle.ledger.specs.Calls.{file as Calls·file};
 use crate::Filed;
 use crate::dispatch::apply;
+use crate::refused;
 use book::Book;
 use book::in_range;
 use calls::Answer;
@@ -14,10 +15,7 @@ pub fn file(b: Book, filing_call: Call) -> Filed
     ensures { λ r. ⌜ r ≡ Calls·file b «filing_call» ⌝ }
 {
     if !in_range(b) {
-        return Filed {
-            book: b,
-            answer: Answer::Refused(Refusal::OutOfRange),
-        };
+        return refused(b, Refusal::OutOfRange);
     }
     apply(b, filing_call)
 }

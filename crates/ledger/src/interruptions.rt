@@ -5,6 +5,7 @@ ghost use Rattle.calls.specs.Call.{countedEntries};
 ghost use Rattle.ledger.specs.Calls.{apply as Calls·apply};
 ghost use Rattle.ledger.specs.Entering.{entering};
 use crate::Filed;
+use crate::refused;
 use book::Book;
 use calls::Answer;
 use calls::Call;
@@ -31,28 +32,16 @@ pub(crate) fn interruption(
     ensures { λ r. ⌜ r ≡ Calls·apply b (Call.Interruption operator sign level cause start end weight) ⌝ }
 {
     if 15 < operator {
-        return Filed {
-            book: b,
-            answer: Answer::Refused(Refusal::UnknownOperator),
-        };
+        return refused(b, Refusal::UnknownOperator);
     }
     if !details_in_range(sign, level, cause, weight) {
-        return Filed {
-            book: b,
-            answer: Answer::Refused(Refusal::OutOfRange),
-        };
+        return refused(b, Refusal::OutOfRange);
     }
     let Period::Within { year, seconds } = period_of(start, end) else {
-        return Filed {
-            book: b,
-            answer: Answer::Refused(Refusal::OutOfRange),
-        };
+        return refused(b, Refusal::OutOfRange);
     };
     if !has_bit(b.joined, operator) {
-        return Filed {
-            book: b,
-            answer: Answer::Refused(Refusal::NotJoined),
-        };
+        return refused(b, Refusal::NotJoined);
     }
     if !is_counted(cause, seconds) {
         return Filed {
@@ -91,22 +80,10 @@ fn enter_counted(
                     answer: Answer::Counted { year },
                 }
             }
-            Moved::Above => Filed {
-                book: b,
-                answer: Answer::Refused(Refusal::AboveLimit),
-            },
-            Moved::Below => Filed {
-                book: b,
-                answer: Answer::Refused(Refusal::BelowZero),
-            },
+            Moved::Above => refused(b, Refusal::AboveLimit),
+            Moved::Below => refused(b, Refusal::BelowZero),
         },
-        Moved::Above => Filed {
-            book: b,
-            answer: Answer::Refused(Refusal::AboveLimit),
-        },
-        Moved::Below => Filed {
-            book: b,
-            answer: Answer::Refused(Refusal::BelowZero),
-        },
+        Moved::Above => refused(b, Refusal::AboveLimit),
+        Moved::Below => refused(b, Refusal::BelowZero),
     }
 }

@@ -3,8 +3,11 @@ mod dispatch;
 mod filing;
 mod interruptions;
 
+ghost use mathlib.Core.Path.{_≡_};
+ghost use Rattle.ledger.specs.Calls.{refusedCall};
 use book::Book;
 use calls::Answer;
+use calls::Refusal;
 pub use dispatch::apply;
 pub use filing::amount;
 pub use filing::file;
@@ -19,4 +22,14 @@ pub use filing::setting;
 pub struct Filed {
     pub book: Book,
     pub answer: Answer,
+}
+
+// A refused call leaves the book.
+pub(crate) fn refused(b: Book, refusal: Refusal) -> Filed
+    ensures { λ r. ⌜ r ≡ refusedCall b refusal ⌝ }
+{
+    Filed {
+        book: b,
+        answer: Answer::Refused(refusal),
+    }
 }

@@ -16,28 +16,38 @@ use borrow.Author.Needs.{needs}
 use Rattle.ledger.proofs.dispatch.amount.Statement.{statement}
 use Rattle.ledger.proofs.dispatch.amount.Tie as tie
 
+refused-requires : tie.Need-refused-requires
+refused-requires c κs = search needs
+
 returns : tie.Need-returns
 unfolding operatorOf
-returns c = sym (unknown-operator (c .before .args .b) _ (c .if1 .taken))
+returns c = c .refused .ensures ∙ sym (unknown-operator (c .before .before .args .b) _ (c .before .if1 .taken))
 
 amount-in-range-requires : tie.Need-amount-in-range-requires
 amount-in-range-requires c κs = search needs
 
+refused-requires-2 : tie.Need-refused-requires-2
+refused-requires-2 c κs = search needs
+
 returns-2 : tie.Need-returns-2
 unfolding operatorOf valuesInRange
-returns-2 c = sym (out-of-range (c .before .before .before .args .b) _ (omega arith) (denied (c .before .amount-in-range .ensures) (c .if2 .taken)))
+returns-2 c = c .refused2 .ensures ∙ sym (out-of-range (c .before .before .before .before .args .b) _ (omega arith) (denied (c .before .before .amount-in-range .ensures) (c .before .if2 .taken)))
 
 has-bit-requires : tie.Need-has-bit-requires
 has-bit-requires c κs = search needs
 
+refused-requires-3 : tie.Need-refused-requires-3
+refused-requires-3 c κs = search needs
+
 returns-3 : tie.Need-returns-3
 unfolding operatorOf valuesInRange joinsAgain lacksOperator isJoined
 returns-3 c =
-    sym
-    (not-joined (c .before .before .before .before .before .args .b) _ (omega arith)
-    (granted (c .before .before .before .amount-in-range .ensures) (c .before .before .if2 .left))
+    c .refused3 .ensures
+    ∙ sym
+    (not-joined (c .before .before .before .before .before .before .args .b) _ (omega arith)
+    (granted (c .before .before .before .before .amount-in-range .ensures) (c .before .before .before .if2 .left))
     refl
-    (negated (c .before .has-bit .ensures) (c .if3 .taken)))
+    (negated (c .before .before .has-bit .ensures) (c .before .if3 .taken)))
 
 enter-amount-requires : tie.Need-enter-amount-requires
 unfolding valuesInRange
@@ -62,10 +72,13 @@ pub amount-spec : {M : Type 1} → statement M
 amount-spec =
     tie.close
     (tie.spec
+    refused-requires
     returns
     amount-in-range-requires
+    refused-requires-2
     returns-2
     has-bit-requires
+    refused-requires-3
     returns-3
     enter-amount-requires
     returns-4)

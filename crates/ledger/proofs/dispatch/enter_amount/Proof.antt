@@ -44,8 +44,14 @@ element-write-next c = omega arith
 enum-told : tie.Need-enum-told
 enum-told c = search needs
 
+refused-requires : tie.Need-refused-requires
+refused-requires c κs = search needs
+
 enum-told-2 : tie.Need-enum-told-2
 enum-told-2 c = search needs
+
+refused-requires-2 : tie.Need-refused-requires-2
+refused-requires-2 c κs = search needs
 
 returns : tie.Need-returns
 unfolding amountEntries figureOf figureSlot withFigures answered
@@ -60,16 +66,16 @@ returns c =
 returns-2 : tie.Need-returns-2
 unfolding amountEntries figureOf figureSlot
 returns-2 c =
-    let start = c .before .before .before .before in
-    let above = moved-as (start .args .sign) (start .args .value) _ (start .pre .3) _ (sym (c .before .before .move-figure .ensures) ∙ c .enum-told .given .1) in
-    sym (refused-above (start .args .b) (start .args .operator) (start .args .sign) _ _ (too-much-first _ _ _ _ _ above))
+    let start = c .before .before .before .before .before in
+    let above = moved-as (start .args .sign) (start .args .value) _ (start .pre .3) _ (sym (c .before .before .before .move-figure .ensures) ∙ c .before .enum-told .given .1) in
+    c .refused .ensures ∙ sym (refused-above (start .args .b) (start .args .operator) (start .args .sign) _ _ (too-much-first _ _ _ _ _ above))
 
 returns-3 : tie.Need-returns-3
 unfolding amountEntries figureOf figureSlot
 returns-3 c =
-    let start = c .before .before .before .before in
-    let below = moved-as (start .args .sign) (start .args .value) _ (start .pre .3) _ (sym (c .before .before .move-figure .ensures) ∙ c .enum-told2 .given .1) in
-    sym (refused-below (start .args .b) (start .args .operator) (start .args .sign) _ _ (too-little-first _ _ _ _ _ (below .1)))
+    let start = c .before .before .before .before .before in
+    let below = moved-as (start .args .sign) (start .args .value) _ (start .pre .3) _ (sym (c .before .before .before .move-figure .ensures) ∙ c .before .enum-told2 .given .1) in
+    c .refused2 .ensures ∙ sym (refused-below (start .args .b) (start .args .operator) (start .args .sign) _ _ (too-little-first _ _ _ _ _ (below .1)))
 
 pub enter-amount-spec : {M : Type 1} → statement M
 enter-amount-spec =
@@ -86,7 +92,9 @@ enter-amount-spec =
     mul-next
     element-write-next
     enum-told
+    refused-requires
     enum-told-2
+    refused-requires-2
     returns
     returns-2
     returns-3)

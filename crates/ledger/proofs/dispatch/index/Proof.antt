@@ -1,6 +1,6 @@
 -- `ledger::dispatch::index` meets its contract.
 -- Assumes nothing.
-use mathlib.Core.Path.{refl, sym}
+use mathlib.Core.Path.{refl, sym, _∙_}
 use mathlib.Core.Bool.{_&&_}
 use native.Mathlib.Omega.{arith}
 use lib.Dec.{ltb, leb}
@@ -17,9 +17,12 @@ use Rattle.ledger.proofs.dispatch.index.Tie as tie
 index-in-range-requires : tie.Need-index-in-range-requires
 index-in-range-requires c κs = search needs
 
+refused-requires : tie.Need-refused-requires
+refused-requires c κs = search needs
+
 returns : tie.Need-returns
 unfolding operatorOf
-returns c = sym (out-of-range (c .before .before .args .b) _ (omega arith) (denied (c .before .index-in-range .ensures) (c .if1 .taken)))
+returns c = c .refused .ensures ∙ sym (out-of-range (c .before .before .before .args .b) _ (omega arith) (denied (c .before .before .index-in-range .ensures) (c .before .if1 .taken)))
 
 mul-next : tie.Need-mul-next
 mul-next c = search needs
@@ -37,4 +40,11 @@ returns-2 c = sym (admitted (c .before .before .args .b) _ (omega arith) (grante
 
 pub index-spec : {M : Type 1} → statement M
 index-spec =
-    tie.close (tie.spec index-in-range-requires returns mul-next element-write-next returns-2)
+    tie.close
+    (tie.spec
+    index-in-range-requires
+    refused-requires
+    returns
+    mul-next
+    element-write-next
+    returns-2)

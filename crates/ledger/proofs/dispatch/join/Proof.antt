@@ -13,18 +13,25 @@ use borrow.Author.Needs.{needs}
 use Rattle.ledger.proofs.dispatch.join.Statement.{statement}
 use Rattle.ledger.proofs.dispatch.join.Tie as tie
 
+refused-requires : tie.Need-refused-requires
+refused-requires c κs = search needs
+
 returns : tie.Need-returns
 unfolding operatorOf
-returns c = sym (unknown-operator (c .before .args .b) _ (c .if1 .taken))
+returns c = c .refused .ensures ∙ sym (unknown-operator (c .before .before .args .b) _ (c .before .if1 .taken))
 
 has-bit-requires : tie.Need-has-bit-requires
 has-bit-requires c κs = search needs
 
+refused-requires-2 : tie.Need-refused-requires-2
+refused-requires-2 c κs = search needs
+
 returns-2 : tie.Need-returns-2
 unfolding operatorOf valuesInRange joinsAgain isJoined
 returns-2 c =
-    let start = c .before .before .before in
-    sym (already-joined (start .args .b) _ (omega arith) refl (sym (c .before .has-bit .ensures) ∙ c .if2 .taken))
+    let start = c .before .before .before .before in
+    c .refused2 .ensures
+    ∙ sym (already-joined (start .args .b) _ (omega arith) refl (sym (c .before .before .has-bit .ensures) ∙ c .before .if2 .taken))
 
 include-bit-requires : tie.Need-include-bit-requires
 include-bit-requires c κs = search needs
@@ -37,4 +44,13 @@ returns-3 c =
     sym (admitted (start .args .b) _ (omega arith) refl free refl ∙ rw (← c .include-bit .ensures) refl)
 
 pub join-spec : {M : Type 1} → statement M
-join-spec = tie.close (tie.spec returns has-bit-requires returns-2 include-bit-requires returns-3)
+join-spec =
+    tie.close
+    (tie.spec
+    refused-requires
+    returns
+    has-bit-requires
+    refused-requires-2
+    returns-2
+    include-bit-requires
+    returns-3)

@@ -1,6 +1,6 @@
 -- `ledger::dispatch::setting` meets its contract.
 -- Assumes nothing.
-use mathlib.Core.Path.{refl, sym}
+use mathlib.Core.Path.{refl, sym, _∙_}
 use native.Mathlib.Omega.{arith}
 use lib.Dec.{ltb}
 use borrow.Author.Tests.{ltb-true}
@@ -14,28 +14,38 @@ use borrow.Author.Needs.{needs}
 use Rattle.ledger.proofs.dispatch.setting.Statement.{statement}
 use Rattle.ledger.proofs.dispatch.setting.Tie as tie
 
+refused-requires : tie.Need-refused-requires
+refused-requires c κs = search needs
+
 returns : tie.Need-returns
 unfolding operatorOf
-returns c = sym (unknown-operator (c .before .args .b) _ (c .if1 .taken))
+returns c = c .refused .ensures ∙ sym (unknown-operator (c .before .before .args .b) _ (c .before .if1 .taken))
 
 setting-in-range-requires : tie.Need-setting-in-range-requires
 setting-in-range-requires c κs = search needs
 
+refused-requires-2 : tie.Need-refused-requires-2
+refused-requires-2 c κs = search needs
+
 returns-2 : tie.Need-returns-2
 unfolding operatorOf valuesInRange
-returns-2 c = sym (out-of-range (c .before .before .before .args .b) _ (omega arith) (denied (c .before .setting-in-range .ensures) (c .if2 .taken)))
+returns-2 c = c .refused2 .ensures ∙ sym (out-of-range (c .before .before .before .before .args .b) _ (omega arith) (denied (c .before .before .setting-in-range .ensures) (c .before .if2 .taken)))
 
 has-bit-requires : tie.Need-has-bit-requires
 has-bit-requires c κs = search needs
 
+refused-requires-3 : tie.Need-refused-requires-3
+refused-requires-3 c κs = search needs
+
 returns-3 : tie.Need-returns-3
 unfolding operatorOf valuesInRange joinsAgain lacksOperator isJoined
 returns-3 c =
-    sym
-    (not-joined (c .before .before .before .before .before .args .b) _ (omega arith)
-    (granted (c .before .before .before .setting-in-range .ensures) (c .before .before .if2 .left))
+    c .refused3 .ensures
+    ∙ sym
+    (not-joined (c .before .before .before .before .before .before .args .b) _ (omega arith)
+    (granted (c .before .before .before .before .setting-in-range .ensures) (c .before .before .before .if2 .left))
     refl
-    (negated (c .before .has-bit .ensures) (c .if3 .taken)))
+    (negated (c .before .before .has-bit .ensures) (c .before .if3 .taken)))
 
 mul-at : tie.Need-mul-at
 mul-at c = search needs
@@ -66,10 +76,13 @@ pub setting-spec : {M : Type 1} → statement M
 setting-spec =
     tie.close
     (tie.spec
+    refused-requires
     returns
     setting-in-range-requires
+    refused-requires-2
     returns-2
     has-bit-requires
+    refused-requires-3
     returns-3
     mul-at
     add-at

@@ -1,6 +1,5 @@
 -- `ledger::filing::file` meets its contract.
 -- Assumes nothing.
-use mathlib.Core.Path.{refl}
 use Rattle.calls.proofs.Flags.{denied, granted}
 use Rattle.ledger.specs.Calls.{file}
 use borrow.Author.Needs.{needs}
@@ -10,9 +9,12 @@ use Rattle.ledger.proofs.filing.file.Tie as tie
 in-range-requires : tie.Need-in-range-requires
 in-range-requires c κs = search needs
 
+refused-requires : tie.Need-refused-requires
+refused-requires c κs = search needs
+
 returns : tie.Need-returns
 unfolding file
-returns c = rw (denied (c .before .in-range .ensures) (c .if1 .taken)) refl
+returns c = rw (denied (c .before .before .in-range .ensures) (c .before .if1 .taken)) (c .refused .ensures)
 
 apply-requires : tie.Need-apply-requires
 apply-requires c κs = search needs
@@ -22,4 +24,5 @@ unfolding file
 returns-2 c = rw (granted (c .before .before .in-range .ensures) (c .before .if1 .left)) (c .apply .ensures)
 
 pub file-spec : {M : Type 1} → statement M
-file-spec = tie.close (tie.spec in-range-requires returns apply-requires returns-2)
+file-spec =
+    tie.close (tie.spec in-range-requires refused-requires returns apply-requires returns-2)

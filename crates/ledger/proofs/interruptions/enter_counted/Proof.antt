@@ -81,14 +81,26 @@ element-write-next-2 c = search needs
 enum-told : tie.Need-enum-told
 enum-told c = search needs
 
+refused-requires : tie.Need-refused-requires
+refused-requires c κs = search needs
+
 enum-told-2 : tie.Need-enum-told-2
 enum-told-2 c = search needs
+
+refused-requires-2 : tie.Need-refused-requires-2
+refused-requires-2 c κs = search needs
 
 enum-told-3 : tie.Need-enum-told-3
 enum-told-3 c = search needs
 
+refused-requires-3 : tie.Need-refused-requires-3
+refused-requires-3 c κs = search needs
+
 enum-told-4 : tie.Need-enum-told-4
 enum-told-4 c = search needs
+
+refused-requires-4 : tie.Need-refused-requires-4
+refused-requires-4 c κs = search needs
 
 returns : tie.Need-returns
 unfolding countedEntries figureOf figureSlot withFigures answered
@@ -103,32 +115,32 @@ returns c =
 returns-2 : tie.Need-returns-2
 unfolding countedEntries figureOf figureSlot
 returns-2 c =
-    let start = c .before .before .before .before .before .before .before .before in
-    let moves = moved-as (start .args .sign) (start .args .weight) _ (start .pre .1) _ (sym (c .before .before .before .before .before .before .move-figure .ensures) ∙ c .before .before .before .before .moved .given .1) in
-    let above = moved-as (start .args .sign) (start .args .weight * start .args .seconds) _ (start .pre .1) _ (sym (c .before .before .move-figure2 .ensures) ∙ c .enum-told .given .1) in
-    sym (refused-above (start .args .b) (start .args .operator) (start .args .sign) _ _ (too-much-later _ _ _ _ _ moves (too-much-first _ _ _ _ _ above)))
+    let start = c .before .before .before .before .before .before .before .before .before in
+    let moves = moved-as (start .args .sign) (start .args .weight) _ (start .pre .1) _ (sym (c .before .before .before .before .before .before .before .move-figure .ensures) ∙ c .before .before .before .before .before .moved .given .1) in
+    let above = moved-as (start .args .sign) (start .args .weight * start .args .seconds) _ (start .pre .1) _ (sym (c .before .before .before .move-figure2 .ensures) ∙ c .before .enum-told .given .1) in
+    c .refused .ensures ∙ sym (refused-above (start .args .b) (start .args .operator) (start .args .sign) _ _ (too-much-later _ _ _ _ _ moves (too-much-first _ _ _ _ _ above)))
 
 returns-3 : tie.Need-returns-3
 unfolding countedEntries figureOf figureSlot
 returns-3 c =
-    let start = c .before .before .before .before .before .before .before .before in
-    let moves = moved-as (start .args .sign) (start .args .weight) _ (start .pre .1) _ (sym (c .before .before .before .before .before .before .move-figure .ensures) ∙ c .before .before .before .before .moved .given .1) in
-    let below = moved-as (start .args .sign) (start .args .weight * start .args .seconds) _ (start .pre .1) _ (sym (c .before .before .move-figure2 .ensures) ∙ c .enum-told2 .given .1) in
-    sym (refused-below (start .args .b) (start .args .operator) (start .args .sign) _ _ (too-little-later _ _ _ _ _ moves (too-little-first _ _ _ _ _ (below .1))))
+    let start = c .before .before .before .before .before .before .before .before .before in
+    let moves = moved-as (start .args .sign) (start .args .weight) _ (start .pre .1) _ (sym (c .before .before .before .before .before .before .before .move-figure .ensures) ∙ c .before .before .before .before .before .moved .given .1) in
+    let below = moved-as (start .args .sign) (start .args .weight * start .args .seconds) _ (start .pre .1) _ (sym (c .before .before .before .move-figure2 .ensures) ∙ c .before .enum-told2 .given .1) in
+    c .refused2 .ensures ∙ sym (refused-below (start .args .b) (start .args .operator) (start .args .sign) _ _ (too-little-later _ _ _ _ _ moves (too-little-first _ _ _ _ _ (below .1))))
 
 returns-4 : tie.Need-returns-4
 unfolding countedEntries figureOf figureSlot
 returns-4 c =
-    let start = c .before .before .before .before in
-    let above = moved-as (start .args .sign) (start .args .weight) _ (start .pre .1) _ (sym (c .before .before .move-figure .ensures) ∙ c .enum-told3 .given .1) in
-    sym (refused-above (start .args .b) (start .args .operator) (start .args .sign) _ _ (too-much-first _ _ _ _ _ above))
+    let start = c .before .before .before .before .before in
+    let above = moved-as (start .args .sign) (start .args .weight) _ (start .pre .1) _ (sym (c .before .before .before .move-figure .ensures) ∙ c .before .enum-told3 .given .1) in
+    c .refused3 .ensures ∙ sym (refused-above (start .args .b) (start .args .operator) (start .args .sign) _ _ (too-much-first _ _ _ _ _ above))
 
 returns-5 : tie.Need-returns-5
 unfolding countedEntries figureOf figureSlot
 returns-5 c =
-    let start = c .before .before .before .before in
-    let below = moved-as (start .args .sign) (start .args .weight) _ (start .pre .1) _ (sym (c .before .before .move-figure .ensures) ∙ c .enum-told4 .given .1) in
-    sym (refused-below (start .args .b) (start .args .operator) (start .args .sign) _ _ (too-little-first _ _ _ _ _ (below .1)))
+    let start = c .before .before .before .before .before in
+    let below = moved-as (start .args .sign) (start .args .weight) _ (start .pre .1) _ (sym (c .before .before .before .move-figure .ensures) ∙ c .before .enum-told4 .given .1) in
+    c .refused4 .ensures ∙ sym (refused-below (start .args .b) (start .args .operator) (start .args .sign) _ _ (too-little-first _ _ _ _ _ (below .1)))
 
 pub enter-counted-spec : {M : Type 1} → statement M
 enter-counted-spec =
@@ -156,9 +168,13 @@ enter-counted-spec =
     mul-next-2
     element-write-next-2
     enum-told
+    refused-requires
     enum-told-2
+    refused-requires-2
     enum-told-3
+    refused-requires-3
     enum-told-4
+    refused-requires-4
     returns
     returns-2
     returns-3

@@ -17,18 +17,25 @@ use borrow.Author.Needs.{needs}
 use Rattle.ledger.proofs.interruptions.interruption.Statement.{statement}
 use Rattle.ledger.proofs.interruptions.interruption.Tie as tie
 
+refused-requires : tie.Need-refused-requires
+refused-requires c κs = search needs
+
 returns : tie.Need-returns
 unfolding operatorOf
-returns c = sym (unknown-operator (c .before .args .b) _ (c .if1 .taken))
+returns c = c .refused .ensures ∙ sym (unknown-operator (c .before .before .args .b) _ (c .before .if1 .taken))
 
 details-in-range-requires : tie.Need-details-in-range-requires
 details-in-range-requires c κs = search needs
 
+refused-requires-2 : tie.Need-refused-requires-2
+refused-requires-2 c κs = search needs
+
 returns-2 : tie.Need-returns-2
 unfolding operatorOf
 returns-2 c =
-    let start = c .before .before .before in
-    sym (out-of-range (start .args .b) _ (omega arith) (bad-details (start .args .operator) (start .args .sign) (start .args .level) (start .args .cause) (start .args .weight) (start .args .start) (start .args .end) (denied (c .before .details-in-range .ensures) (c .if2 .taken))))
+    let start = c .before .before .before .before in
+    c .refused2 .ensures
+    ∙ sym (out-of-range (start .args .b) _ (omega arith) (bad-details (start .args .operator) (start .args .sign) (start .args .level) (start .args .cause) (start .args .weight) (start .args .start) (start .args .end) (denied (c .before .before .details-in-range .ensures) (c .before .if2 .taken))))
 
 period-of-requires : tie.Need-period-of-requires
 period-of-requires c κs = search needs
@@ -39,25 +46,33 @@ enum-known-year c = search needs
 enum-told : tie.Need-enum-told
 enum-told c = search needs
 
+refused-requires-3 : tie.Need-refused-requires-3
+refused-requires-3 c κs = search needs
+
 returns-3 : tie.Need-returns-3
 unfolding operatorOf
 returns-3 c =
-    let start = c .before .before .before .before .before .before in
-    let outside = period-says (start .args .start) (start .args .end) _ (sym (rw (back (start .fits .start), back (start .fits .end)) at (c .before .before .period-of .ensures)) ∙ c .enum-told .given .1) in
-    sym (out-of-range (start .args .b) _ (omega arith) (bad-times (start .args .operator) (start .args .sign) (start .args .level) (start .args .cause) (start .args .weight) (start .args .start) (start .args .end) (granted (c .before .before .before .before .details-in-range .ensures) (c .before .before .before .if2 .left)) outside))
+    let start = c .before .before .before .before .before .before .before in
+    let outside = period-says (start .args .start) (start .args .end) _ (sym (rw (back (start .fits .start), back (start .fits .end)) at (c .before .before .before .period-of .ensures)) ∙ c .before .enum-told .given .1) in
+    c .refused3 .ensures
+    ∙ sym (out-of-range (start .args .b) _ (omega arith) (bad-times (start .args .operator) (start .args .sign) (start .args .level) (start .args .cause) (start .args .weight) (start .args .start) (start .args .end) (granted (c .before .before .before .before .before .details-in-range .ensures) (c .before .before .before .before .if2 .left)) outside))
 
 has-bit-requires : tie.Need-has-bit-requires
 has-bit-requires c κs = search needs
 
+refused-requires-4 : tie.Need-refused-requires-4
+refused-requires-4 c κs = search needs
+
 returns-4 : tie.Need-returns-4
 unfolding operatorOf joinsAgain lacksOperator isJoined
 returns-4 c =
-    let start = c .before .before .before .before .before .before .before .before .before in
-    let period = period-says (start .args .start) (start .args .end) _ (sym (rw (back (start .fits .start), back (start .fits .end)) at (c .before .before .before .before .before .period-of .ensures)) ∙ c .before .before .before .year .given .1) in
-    sym
-    (not-joined (start .args .b) _ (omega arith) (good-values (start .args .operator) (start .args .sign) (start .args .level) (start .args .cause) (start .args .weight) (start .args .start) (start .args .end) (granted (c .before .before .before .before .before .before .before .details-in-range .ensures) (c .before .before .before .before .before .before .if2 .left)) (period .0))
+    let start = c .before .before .before .before .before .before .before .before .before .before in
+    let period = period-says (start .args .start) (start .args .end) _ (sym (rw (back (start .fits .start), back (start .fits .end)) at (c .before .before .before .before .before .before .period-of .ensures)) ∙ c .before .before .before .before .year .given .1) in
+    c .refused4 .ensures
+    ∙ sym
+    (not-joined (start .args .b) _ (omega arith) (good-values (start .args .operator) (start .args .sign) (start .args .level) (start .args .cause) (start .args .weight) (start .args .start) (start .args .end) (granted (c .before .before .before .before .before .before .before .before .details-in-range .ensures) (c .before .before .before .before .before .before .before .if2 .left)) (period .0))
     refl
-    (negated (c .before .has-bit .ensures) (c .if3 .taken)))
+    (negated (c .before .before .has-bit .ensures) (c .before .if3 .taken)))
 
 is-counted-requires : tie.Need-is-counted-requires
 is-counted-requires c κs = search needs
@@ -107,14 +122,18 @@ pub interruption-spec : {M : Type 1} → statement M
 interruption-spec =
     tie.close
     (tie.spec
+    refused-requires
     returns
     details-in-range-requires
+    refused-requires-2
     returns-2
     period-of-requires
     enum-known-year
     enum-told
+    refused-requires-3
     returns-3
     has-bit-requires
+    refused-requires-4
     returns-4
     is-counted-requires
     judge-requires
