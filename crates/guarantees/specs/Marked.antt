@@ -4,7 +4,7 @@ use mathlib.Core.Path.{_≡_}
 use mathlib.Core.List.{List, [], _∷_}
 use mathlib.Core.List.{reverse}
 use Prim.Native.Nat.{ℕ}
-use mathlib.Core.Bool.{true, false}
+use lib.Dec.{ltb}
 use lib.IntN.{pos, negℤ}
 use lib.ListN.{getD, take}
 use Rattle.apportion.specs.Share.{share}
@@ -18,10 +18,9 @@ use Rattle.ledger.specs.Calls.{filedAnswers}
 use Rattle.history.specs.Demand.{bookOf}
 use Rattle.values.specs.Operators.{each}
 use Rattle.values.specs.Indicator.{electricity}
-use Rattle.indicators.specs.Points.{levelled, allPoints}
+use Rattle.indicators.specs.Points.{levelledWeight, allPoints}
 use Rattle.settlement.specs.Settlement.{settled}
 use Rattle.text.specs.Text.{bytesOf}
-use Rattle.report.specs.Lines.{textOf}
 use Rattle.output.specs.Output.{outputOf}
 
 -- what the last of some calls on a fresh book is answered
@@ -40,6 +39,27 @@ caseM cap =
     ∷ Setting 0 0 100 ∷ Setting 1 0 100 ∷ Setting 0 1 1000 ∷ Setting 1 1 3000 ∷ Setting 0 2 100000000 ∷ Setting 1 2 200000000
     ∷ Amount 1 0 4 0 50000 ∷ Amount 1 0 5 0 100
     ∷ Rates 5000 cap ∷ []
+
+-- the same in the bytes of a filing, a field a line
+abbrev pub filingM : List ℕ
+filingM =
+    1 ∷ 0 ∷ 1 ∷ 0
+    ∷ 1 ∷ 0 ∷ 1 ∷ 1
+    ∷ 2 ∷ 0 ∷ 10 ∷ 0 ∷ 0 ∷ 0 ∷ 0 ∷ 0 ∷ 0 ∷ 0 ∷ 0 ∷ 0 ∷ 100
+    ∷ 2 ∷ 0 ∷ 10 ∷ 1 ∷ 0 ∷ 0 ∷ 0 ∷ 0 ∷ 0 ∷ 0 ∷ 0 ∷ 0 ∷ 100
+    ∷ 2 ∷ 0 ∷ 10 ∷ 0 ∷ 1 ∷ 0 ∷ 0 ∷ 0 ∷ 0 ∷ 0 ∷ 0 ∷ 3 ∷ 232
+    ∷ 2 ∷ 0 ∷ 10 ∷ 1 ∷ 1 ∷ 0 ∷ 0 ∷ 0 ∷ 0 ∷ 0 ∷ 0 ∷ 11 ∷ 184
+    ∷ 2 ∷ 0 ∷ 10 ∷ 0 ∷ 2 ∷ 0 ∷ 0 ∷ 0 ∷ 0 ∷ 5 ∷ 245 ∷ 225 ∷ 0
+    ∷ 2 ∷ 0 ∷ 10 ∷ 1 ∷ 2 ∷ 0 ∷ 0 ∷ 0 ∷ 0 ∷ 11 ∷ 235 ∷ 194 ∷ 0
+    ∷ 4 ∷ 0 ∷ 12 ∷ 1 ∷ 0 ∷ 4 ∷ 0 ∷ 0 ∷ 0 ∷ 0 ∷ 0 ∷ 0 ∷ 0 ∷ 195 ∷ 80
+    ∷ 4 ∷ 0 ∷ 12 ∷ 1 ∷ 0 ∷ 5 ∷ 0 ∷ 0 ∷ 0 ∷ 0 ∷ 0 ∷ 0 ∷ 0 ∷ 0 ∷ 100
+    ∷ 6 ∷ 0 ∷ 8 ∷ 0 ∷ 0 ∷ 19 ∷ 136 ∷ 0 ∷ 0 ∷ 39 ∷ 16 ∷ []
+
+-- the lines that 01 shows for M
+abbrev pub linesM : List ℕ
+linesM =
+    bytesOf
+    "operator points out in adjustment\n0 65036 375000 386463 11463\n1 62464 1125000 1113537 -11463\nall 127500 1500000 1500000 0\n"
 
 abbrev pub firstTwo : {A : Type 0} → List A → List A
 firstTwo list = take 2 list
@@ -86,14 +106,12 @@ marked =
     ∷ (firstTwo (settled (bookOf (caseM 10000)) .settlement .adjustments) ≡ pos 11463 ∷ negℤ (pos 11463) ∷ [])
     -- "M with cap rate 50 adjusts by 5000 and -5000"
     ∷ (firstTwo (settled (bookOf (caseM 50)) .settlement .adjustments) ≡ pos 5000 ∷ negℤ (pos 5000) ∷ [])
-    -- the lines that the program prints for M
-    ∷ (textOf (bookOf (caseM 10000))
-    ≡ bytesOf
-    "operator points out in adjustment\n0 65036 375000 386463 11463\n1 62464 1125000 1113537 -11463\nall 127500 1500000 1500000 0\n")
+    -- "The program .. prints this for marked case M"
+    ∷ (outputOf filingM ≡ linesM)
     -- filings that are refused at a field
     ∷ All refusedFilings
     -- "a refused settlement `refused 10`": a fresh book
     ∷ (outputOf [] ≡ bytesOf "refused 10\n")
     -- "weights 10, 8, 4 with the first two better become 18, 18, 8"
-    ∷ (levelled 2 18 true 10 ∷ levelled 2 18 true 8 ∷ levelled 2 18 false 4 ∷ [] ≡ 18 ∷ 18 ∷ 8 ∷ [])
+    ∷ (take 3 (each (levelledWeight (λ (operator : ℕ). ltb operator 2) (λ (operator : ℕ). getD (10 ∷ 8 ∷ 4 ∷ []) operator 0))) ≡ 18 ∷ 18 ∷ 8 ∷ [])
     ∷ []

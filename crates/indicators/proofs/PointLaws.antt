@@ -20,12 +20,12 @@ use Rattle.apportion.proofs.Sums.{element-le}
 use Rattle.apportion.proofs.Shared.{shared}
 use Rattle.values.specs.Operators.{count}
 use Rattle.values.specs.Indicator.{Indicator, reliableMask, isReliable, joinedCount, reliableCount, pool}
-use Rattle.indicators.specs.Points.{isAbove, isLevelled, aboveWeight, weights, points}
+use Rattle.indicators.specs.Points.{isBetter, isLevelled, weights, points}
 use Rattle.indicators.specs.Laws.{PointsMadeUp}
 use Rattle.values.proofs.Tables.{sum-none}
 use Rattle.values.proofs.CountLaws.{count-positive, count-mono, some-passes}
 use Rattle.indicators.proofs.OnesLaws.{ones-counted, and-has, complement}
-use Rattle.indicators.proofs.WeightLaws.{over-most, over-some, one-above, above-reliable, weights-length, weight-reliable, weight-none, weight-above}
+use Rattle.indicators.proofs.WeightLaws.{together, over-most, over-some, one-better, better-reliable, weights-length, weight-reliable, weight-none, weight-better}
 
 module _ (b : Book) (indicator : Indicator) where
   -- who takes part has joined
@@ -110,7 +110,7 @@ module _ (b : Book) (indicator : Indicator) where
         go : Dec (0 < count 16 (isReliable b indicator)) → count 16 (isReliable b indicator) ≡ 0
         go (yes some) =
             let found = some-passes 16 (isReliable b indicator) some in
-            absurd (omega (arith, noughts (found .0), weight-above b indicator (found .0) (found .1) (found .2)))
+            absurd (omega (arith, noughts (found .0), weight-better b indicator (found .0) (found .1) (found .2)))
         go (no none) = omega (arith, none)
 
     whole : sum (points b indicator) ≡ pool b indicator
@@ -130,16 +130,16 @@ module _ (b : Book) (indicator : Indicator) where
     pub points-most : (operator : ℕ) → getD (points b indicator) operator 0 ≤ 300 * indicator .points
     points-most operator = omega (arith, element-le (points b indicator) operator, whole, pool-most)
 
-    above-alike : isLevelled (indicator .measure) ≡ true → (operator other : ℕ) → operator < 16 → other < 16
-        → isAbove b indicator operator ≡ true → isAbove b indicator other ≡ true
+    better-alike : isLevelled (indicator .measure) ≡ true → (operator other : ℕ) → operator < 16 → other < 16
+        → isBetter b indicator operator ≡ true → isBetter b indicator other ≡ true
         → getD (points b indicator) operator 0 ≤ getD (points b indicator) other 0 + 1
     unfolding points
-    above-alike levels operator other lt lt' above above' =
+    better-alike levels operator other lt lt' better better' =
         points-shared .alike operator other (place operator lt) (place other lt')
-        (above-weight operator lt above ∙ sym (above-weight other lt' above'))
+        (better-weight operator lt better ∙ sym (better-weight other lt' better'))
       where
-        above-weight : (k : ℕ) → k < 16 → isAbove b indicator k ≡ true → getD (weights b indicator) k 0 ≡ aboveWeight b indicator
-        above-weight k small above = weight-reliable b indicator k small (above-reliable b indicator k above) ∙ one-above b indicator levels k small above
+        better-weight : (k : ℕ) → k < 16 → isBetter b indicator k ≡ true → getD (weights b indicator) k 0 ≡ together b indicator
+        better-weight k small better = weight-reliable b indicator k small (better-reliable b indicator k better) ∙ one-better b indicator levels k small better
 
     pub points-made-up : PointsMadeUp b indicator
     points-made-up =
@@ -149,5 +149,5 @@ module _ (b : Book) (indicator : Indicator) where
           reliable-exactly = reliable-exactly;
           whole = whole;
           others-none = points-none;
-          above-alike = above-alike;
+          better-alike = better-alike;
         }

@@ -16,7 +16,7 @@ use Rattle.calls.proofs.Flags.{and-left}
 use Rattle.values.specs.Operators.{count}
 use Rattle.values.specs.Indicator.{Indicator, over, isReliable}
 use Rattle.values.specs.Indicator.{scores}
-use Rattle.indicators.specs.Points.{largest, normalised, exponentWeight, isAbove, aboveCount, aboveWeight, levelled, linearWeight, isLevelled, weightOfOne, weights}
+use Rattle.indicators.specs.Points.{largest, normalised, exponentWeight, isBetter, betterWeight, levelled, levelledWeight, linearWeight, isLevelled, weightOfOne, weights}
 use Rattle.values.proofs.Tables.{length-each, each-at, each-le-sum, sum-each-le}
 use Rattle.values.proofs.CountLaws.{cond-le, count-le, count-positive}
 use Rattle.indicators.proofs.Largest.{largest-ge}
@@ -54,64 +54,64 @@ module _ (list : List ℕ) (operator : ℕ) where
   linear-most = omega arith
 
 -- levelling keeps a weight above 0, and at most sixteen times the most
-levelled-positive : (g together : ℕ) (above : Bool) (own : ℕ) → 0 < own → (above ≡ true → own ≤ together) → 0 < levelled g together above own
+levelled-positive : (g together : ℕ) (better : Bool) (own : ℕ) → 0 < own → (better ≡ true → own ≤ together) → 0 < levelled g together better own
 unfolding levelled
-levelled-positive g together above own pos reaches = go (eqb g 0) refl above refl
+levelled-positive g together better own pos reaches = go (eqb g 0) refl better refl
   where
-    go : (t : Bool) → eqb g 0 ≡ t → (s : Bool) → above ≡ s → 0 < cond t own (cond s together (g * own))
+    go : (t : Bool) → eqb g 0 ≡ t → (s : Bool) → better ≡ s → 0 < cond t own (cond s together (g * own))
     go true e s a = pos
     go false e true a = omega (arith, reaches a)
     go false e false a = mul-pos (omega (arith, eqb-false g 0 e)) pos
 
-levelled-most : (g together : ℕ) (above : Bool) (own most : ℕ) → g ≤ 16 → own ≤ most → together ≤ 16 * most → levelled g together above own ≤ 16 * most
+levelled-most : (g together : ℕ) (better : Bool) (own most : ℕ) → g ≤ 16 → own ≤ most → together ≤ 16 * most → levelled g together better own ≤ 16 * most
 unfolding levelled
-levelled-most g together above own most few small bound =
-    cond-le (eqb g 0) (omega arith) (cond-le above bound (mul-le-mul few small))
+levelled-most g together better own most few small bound =
+    cond-le (eqb g 0) (omega arith) (cond-le better bound (mul-le-mul few small))
 
 module _ (b : Book) (indicator : Indicator) where
-  -- who is above takes part, and the sum of the weights above reaches its own
-  pub above-reliable : (operator : ℕ) → isAbove b indicator operator ≡ true → isReliable b indicator operator ≡ true
-  unfolding isAbove
-  above-reliable operator above = and-left _ _ above
+  -- the weights of the better in one
+  abbrev pub together : ℕ
+  together = betterWeight (isBetter b indicator) (exponentWeight (scores b indicator))
 
-  above-reaches : (operator : ℕ) → operator < 16 → isAbove b indicator operator ≡ true
-      → exponentWeight (scores b indicator) operator ≤ aboveWeight b indicator
-  unfolding aboveWeight
-  above-reaches operator lt above =
-      rw above at (each-le-sum (λ (k : ℕ). cond (isAbove b indicator k) (exponentWeight (scores b indicator) k) 0) operator lt)
+  -- who is better takes part, and the sum of the better weights reaches its own
+  pub better-reliable : (operator : ℕ) → isBetter b indicator operator ≡ true → isReliable b indicator operator ≡ true
+  unfolding isBetter
+  better-reliable operator better = and-left _ _ better
 
-  above-most : aboveWeight b indicator ≤ 16 * 1000000000
-  unfolding aboveWeight
-  above-most = sum-each-le _ 1000000000 (λ k lt. cond-le (isAbove b indicator k) (exponent-most _ k) zero-le)
+  better-reaches : (operator : ℕ) → operator < 16 → isBetter b indicator operator ≡ true
+      → exponentWeight (scores b indicator) operator ≤ together
+  unfolding betterWeight
+  better-reaches operator lt better =
+      rw better at (each-le-sum (λ (k : ℕ). cond (isBetter b indicator k) (exponentWeight (scores b indicator) k) 0) operator lt)
 
-  pub above-few : aboveCount b indicator ≤ 16
-  unfolding aboveCount
-  above-few = count-le 16 _
+  better-most : together ≤ 16 * 1000000000
+  unfolding betterWeight
+  better-most = sum-each-le _ 1000000000 (λ k lt. cond-le (isBetter b indicator k) (exponent-most _ k) zero-le)
+
+  pub better-few : count 16 (isBetter b indicator) ≤ 16
+  better-few = count-le 16 _
 
   pub one-positive : (operator : ℕ) → operator < 16 → 0 < weightOfOne b indicator operator
-  unfolding weightOfOne
+  unfolding weightOfOne levelledWeight
   one-positive operator lt = go (isLevelled (indicator .measure))
     where
-      go : (t : Bool) → 0
-          < cond t
-          (levelled (aboveCount b indicator) (aboveWeight b indicator) (isAbove b indicator operator) (exponentWeight (scores b indicator) operator))
-          (linearWeight (scores b indicator) operator)
-      go true = levelled-positive _ _ _ _ (exponent-positive _ operator) (above-reaches operator lt)
+      go : (t : Bool) → 0 < cond t (levelledWeight (isBetter b indicator) (exponentWeight (scores b indicator)) operator) (linearWeight (scores b indicator) operator)
+      go true = levelled-positive _ _ _ _ (exponent-positive _ operator) (better-reaches operator lt)
       go false = omega (arith, linear-least (scores b indicator) operator)
 
-  -- those above all weigh the same
-  pub one-above : isLevelled (indicator .measure) ≡ true → (operator : ℕ) → operator < 16 → isAbove b indicator operator ≡ true
-      → weightOfOne b indicator operator ≡ aboveWeight b indicator
-  unfolding weightOfOne levelled aboveCount
-  one-above levels operator lt above =
-      let some : 0 < count 16 (isAbove b indicator) = count-positive 16 (isAbove b indicator) operator lt above in
-      rw (levels, above, ne-eqb (count 16 (isAbove b indicator)) 0 (λ e. omega (arith, e, some))) refl
+  -- the better all weigh the same
+  pub one-better : isLevelled (indicator .measure) ≡ true → (operator : ℕ) → operator < 16 → isBetter b indicator operator ≡ true
+      → weightOfOne b indicator operator ≡ together
+  unfolding weightOfOne levelledWeight levelled
+  one-better levels operator lt better =
+      let some : 0 < count 16 (isBetter b indicator) = count-positive 16 (isBetter b indicator) operator lt better in
+      rw (levels, better, ne-eqb (count 16 (isBetter b indicator)) 0 (λ e. omega (arith, e, some))) refl
 
   pub one-most : (operator : ℕ) → weightOfOne b indicator operator ≤ 16000000000
-  unfolding weightOfOne
+  unfolding weightOfOne levelledWeight
   one-most operator =
       cond-le (isLevelled (indicator .measure))
-      (levelled-most (aboveCount b indicator) (aboveWeight b indicator) (isAbove b indicator operator) _ 1000000000 above-few (exponent-most _ operator) above-most)
+      (levelled-most (count 16 (isBetter b indicator)) together (isBetter b indicator operator) _ 1000000000 better-few (exponent-most _ operator) better-most)
       (omega (arith, linear-most (scores b indicator) operator))
 
   -- the list of weights
@@ -132,8 +132,8 @@ module _ (b : Book) (indicator : Indicator) where
   weight-none operator lt marked = weight-at operator lt ∙ rw marked refl
 
   -- whoever takes part has a weight above 0
-  pub weight-above : (operator : ℕ) → operator < 16 → isReliable b indicator operator ≡ true → 0 < getD (weights b indicator) operator 0
-  weight-above operator lt reliable = rw (weight-reliable operator lt reliable) (one-positive operator lt)
+  pub weight-better : (operator : ℕ) → operator < 16 → isReliable b indicator operator ≡ true → 0 < getD (weights b indicator) operator 0
+  weight-better operator lt reliable = rw (weight-reliable operator lt reliable) (one-positive operator lt)
 
   pub weight-most-at : (operator : ℕ) → operator < 16 → getD (weights b indicator) operator 0 ≤ 16000000000
   weight-most-at operator lt = rw (weight-at operator lt) (cond-le (isReliable b indicator operator) (one-most operator) zero-le)

@@ -9,8 +9,8 @@ use Rattle.apportion.specs.Sum.{sum}
 use Rattle.values.specs.Operators.{each}
 use Rattle.values.specs.Indicator.{Indicator, electricity, numbered, reliableMask, isReliable, reliableCount}
 use Rattle.values.specs.Indicator.{scores}
-use Rattle.indicators.specs.Points.{exponentWeight, isAbove, aboveCount, aboveWeight, isLevelled, weightOfOne, weights}
-use Rattle.indicators.specs.Steps.{aboveIn, weightIfAbove, aboveSum, levelledAt, levelledIn, linearAt, linearIn}
+use Rattle.indicators.specs.Points.{exponentWeight, isBetter, betterWeight, levelledWeight, isLevelled, weightOfOne, weights}
+use Rattle.indicators.specs.Steps.{betterIn, weightIfBetter, betterSum, levelledAt, levelledIn, linearAt, linearIn}
 use Rattle.values.proofs.Tables.{each-at, each-same}
 
 -- the first four indicators are levelled, the others linear
@@ -33,12 +33,12 @@ linears (suc (suc (suc (suc (suc zero))))) le lt = refl
 linears (suc (suc (suc (suc (suc (suc n)))))) le lt = absurd (omega arith)
 
 module _ (b : Book) (indicator : Indicator) where
-  together-same : aboveWeight b indicator ≡ aboveSum (reliableMask b indicator) (scores b indicator) (each (exponentWeight (scores b indicator)))
-  unfolding aboveWeight aboveSum weightIfAbove isAbove isReliable reliableCount aboveIn
+  together-same : betterWeight (isBetter b indicator) (exponentWeight (scores b indicator)) ≡ betterSum (reliableMask b indicator) (scores b indicator) (each (exponentWeight (scores b indicator)))
+  unfolding betterWeight betterSum weightIfBetter isBetter isReliable reliableCount betterIn
   together-same = ap sum (each-same _ _ (λ k lt. rw (each-at (exponentWeight (scores b indicator)) k lt) refl))
 
   pub levelled-same : isLevelled (indicator .measure) ≡ true → weights b indicator ≡ levelledIn (reliableMask b indicator) (scores b indicator)
-  unfolding weights levelledIn levelledAt weightOfOne aboveCount isAbove isReliable reliableCount aboveIn
+  unfolding weights levelledIn levelledAt weightOfOne levelledWeight isBetter isReliable reliableCount betterIn
   levelled-same e = each-same _ _ (λ k lt. rw (e, together-same) refl)
 
   pub linear-same : isLevelled (indicator .measure) ≡ false → weights b indicator ≡ linearIn (reliableMask b indicator) (scores b indicator)

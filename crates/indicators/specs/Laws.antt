@@ -9,7 +9,7 @@ use Rattle.book.specs.Book.{isJoined, isMarked}
 use Rattle.apportion.specs.Sum.{sum}
 use Rattle.values.specs.Operators.{count}
 use Rattle.values.specs.Indicator.{Indicator, joinedCount, reliableCount, isReliable, pool}
-use Rattle.indicators.specs.Points.{isAbove, isLevelled, points}
+use Rattle.indicators.specs.Points.{isBetter, isLevelled, points}
 
 pub record PointsMadeUp (b : Book) (indicator : Indicator) : Type 0 where
   -- n and m, ones of masks, are the counts over the operators
@@ -23,6 +23,6 @@ pub record PointsMadeUp (b : Book) (indicator : Indicator) : Type 0 where
   -- who does not take part gets 0
   pub others-none : (operator : ℕ) → operator < 16 → isReliable b indicator operator ≡ false → getD (points b indicator) operator 0 ≡ 0
   -- "Within the group points differ by at most a hundredth"
-  pub above-alike : isLevelled (indicator .measure) ≡ true → (operator other : ℕ) → operator < 16 → other < 16
-      → isAbove b indicator operator ≡ true → isAbove b indicator other ≡ true
+  pub better-alike : isLevelled (indicator .measure) ≡ true → (operator other : ℕ) → operator < 16 → other < 16
+      → isBetter b indicator operator ≡ true → isBetter b indicator other ≡ true
       → getD (points b indicator) operator 0 ≤ getD (points b indicator) other 0 + 1

@@ -26,21 +26,21 @@ unfoldable pub exponentWeight : List ℕ → ℕ → ℕ
 exponentWeight list operator = weightOf (normalised 1000 list operator)
 
 -- "Better operators have m × s below the sum of all s"
-unfoldable pub isAbove : Book → Indicator → ℕ → Bool
-isAbove b indicator operator =
+unfoldable pub isBetter : Book → Indicator → ℕ → Bool
+isBetter b indicator operator =
     isReliable b indicator operator && ltb (reliableCount b indicator * getD (scores b indicator) operator 0) (sum (scores b indicator))
 
--- g, and the sum of the better operators' weights
-unfoldable pub aboveCount : Book → Indicator → ℕ
-aboveCount b indicator = count 16 (isAbove b indicator)
-
-unfoldable pub aboveWeight : Book → Indicator → ℕ
-aboveWeight b indicator =
-    sum (each (λ (operator : ℕ). cond (isAbove b indicator operator) (exponentWeight (scores b indicator) operator) 0))
+-- the sum of the better operators' weights
+unfoldable pub betterWeight : (ℕ → Bool) → (ℕ → ℕ) → ℕ
+betterWeight better weight = sum (each (λ (operator : ℕ). cond (better operator) (weight operator) 0))
 
 -- "each of them takes the sum of their weights and each other takes g times its own"; with no better operator each keeps its own
 unfoldable pub levelled : ℕ → ℕ → Bool → ℕ → ℕ
-levelled g together above own = cond (eqb g 0) own (cond above together (g * own))
+levelled g together better own = cond (eqb g 0) own (cond better together (g * own))
+
+-- an operator's weight after levelling: "With g better operators .."
+unfoldable pub levelledWeight : (ℕ → Bool) → (ℕ → ℕ) → ℕ → ℕ
+levelledWeight better weight operator = levelled (count 16 better) (betterWeight better weight) (better operator) (weight operator)
 
 -- D: "the weight is 1,000,000 - 6 × e"
 unfoldable pub linearWeight : List ℕ → ℕ → ℕ
@@ -56,7 +56,7 @@ isLevelled (fee fees connections) = false
 unfoldable pub weightOfOne : Book → Indicator → ℕ → ℕ
 weightOfOne b indicator operator =
     cond (isLevelled (indicator .measure))
-    (levelled (aboveCount b indicator) (aboveWeight b indicator) (isAbove b indicator operator) (exponentWeight (scores b indicator) operator))
+    (levelledWeight (isBetter b indicator) (exponentWeight (scores b indicator)) operator)
     (linearWeight (scores b indicator) operator)
 
 unfoldable pub weights : Book → Indicator → List ℕ

@@ -15,20 +15,20 @@ use Rattle.indicators.specs.Points.{exponentWeight, levelled, linearWeig
 abbrev pub Weighed : List ℕ → Type 0
 Weighed list = (place : ℕ) → getD list place 0 ≤ 1000000000
 
-unfoldable pub aboveIn : ℕ → List ℕ → ℕ → Bool
-aboveIn mask list operator = has mask operator && ltb (ones mask * getD list operator 0) (sum list)
+unfoldable pub betterIn : ℕ → List ℕ → ℕ → Bool
+betterIn mask list operator = has mask operator && ltb (ones mask * getD list operator 0) (sum list)
 
-unfoldable pub weightIfAbove : ℕ → List ℕ → List ℕ → ℕ → ℕ
-weightIfAbove mask list own operator = cond (aboveIn mask list operator) (getD own operator 0) 0
+unfoldable pub weightIfBetter : ℕ → List ℕ → List ℕ → ℕ → ℕ
+weightIfBetter mask list own operator = cond (betterIn mask list operator) (getD own operator 0) 0
 
-unfoldable pub aboveSum : ℕ → List ℕ → List ℕ → ℕ
-aboveSum mask list own = sum (each (weightIfAbove mask list own))
+unfoldable pub betterSum : ℕ → List ℕ → List ℕ → ℕ
+betterSum mask list own = sum (each (weightIfBetter mask list own))
 
 -- weights levelled, and 0 for those that take no part
 unfoldable pub levelledAt : ℕ → List ℕ → ℕ → ℕ
 levelledAt mask list operator =
     cond (has mask operator)
-    (levelled (count 16 (aboveIn mask list)) (aboveSum mask list (each (exponentWeight list))) (aboveIn mask list operator) (exponentWeight list operator))
+    (levelled (count 16 (betterIn mask list)) (betterSum mask list (each (exponentWeight list))) (betterIn mask list operator) (exponentWeight list operator))
     0
 
 unfoldable pub levelledIn : ℕ → List ℕ → List ℕ

@@ -10,7 +10,7 @@ ghost use Rattle.values.specs.Operators.{each, count};
 ghost use Rattle.values.specs.Indicator.{over};
 ghost use Rattle.indicators.specs.Points.{largest, exponentWeight, levelled};
 ghost use Rattle.values.specs.Steps.{Scored};
-ghost use Rattle.indicators.specs.Steps.{Weighed, aboveIn, aboveSum, levelledIn, linearIn};
+ghost use Rattle.indicators.specs.Steps.{Weighed, betterIn, betterSum, levelledIn, linearIn};
 use calls::has_bit;
 
 // A indicators: better operators share alike.
@@ -20,8 +20,8 @@ pub(crate) fn levelled_weights(mask: u16, scores: [u64; 16]) -> [u64; 16]
 {
     let own = exponent_weights(scores);
     let sum = apportion::total(scores);
-    let g = count_above(mask, scores, sum);
-    let together = weigh_above(mask, scores, sum, own);
+    let g = count_better(mask, scores, sum);
+    let together = weigh_better(mask, scores, sum, own);
     let mut weights = [0u64; 16];
     let mut i = 0;
     while i < 16 {
@@ -95,7 +95,7 @@ fn larger(a: u64, b: u64) -> u64
 }
 
 // Better than the mean of those that take part.
-fn is_above(mask: u16, score: u64, sum: u64, operator: u8) -> bool
+fn is_better(mask: u16, score: u64, sum: u64, operator: u8) -> bool
     requires { ⌜ score ≤ 300000000000000000 ⌝ }
     ensures { λ r. ⌜ r ≡ has mask operator && ltb (ones mask * score) sum ⌝ }
 {
@@ -112,14 +112,14 @@ pub(crate) fn ones_of(mask: u16) -> u64
     u16::count_ones(mask) as u64
 }
 
-fn count_above(mask: u16, scores: [u64; 16], sum: u64) -> u64
+fn count_better(mask: u16, scores: [u64; 16], sum: u64) -> u64
     requires { ⌜ (Scored scores) × (sum ≡ Sum·sum scores) ⌝ }
-    ensures { λ r. ⌜ (r ≡ count 16 (aboveIn mask scores)) × (r ≤ 16) ⌝ }
+    ensures { λ r. ⌜ (r ≡ count 16 (betterIn mask scores)) × (r ≤ 16) ⌝ }
 {
     let mut g = 0;
     let mut i = 0;
     while i < 16 {
-        if is_above(mask, scores[i], sum, i as u8) {
+        if is_better(mask, scores[i], sum, i as u8) {
             g += 1;
         }
         i += 1;
@@ -128,24 +128,24 @@ fn count_above(mask: u16, scores: [u64; 16], sum: u64) -> u64
 }
 
 // The better operators' weights together.
-fn weigh_above(mask: u16, scores: [u64; 16], sum: u64, own: [u64; 16]) -> u64
+fn weigh_better(mask: u16, scores: [u64; 16], sum: u64, own: [u64; 16]) -> u64
     requires { ⌜ (Scored scores) × (sum ≡ Sum·sum scores) × Weighed own ⌝ }
-    ensures { λ r. ⌜ r ≡ aboveSum mask scores own ⌝ }
+    ensures { λ r. ⌜ r ≡ betterSum mask scores own ⌝ }
 {
     let mut counted = [0u64; 16];
     let mut i = 0;
     while i < 16 {
-        counted[i] = weight_if_above(mask, scores[i], sum, i as u8, own[i]);
+        counted[i] = weight_if_better(mask, scores[i], sum, i as u8, own[i]);
         i += 1;
     }
     apportion::total(counted)
 }
 
-fn weight_if_above(mask: u16, score: u64, sum: u64, operator: u8, own: u64) -> u64
+fn weight_if_better(mask: u16, score: u64, sum: u64, operator: u8, own: u64) -> u64
     requires { ⌜ score ≤ 300000000000000000 ⌝ }
     ensures { λ r. ⌜ r ≡ cond (has mask operator && ltb (ones mask * score) sum) own 0 ⌝ }
 {
-    if is_above(mask, score, sum, operator) {
+    if is_better(mask, score, sum, operator) {
         return own;
     }
     0
@@ -170,7 +170,7 @@ fn levelled_weight(
     if g == 0 {
         return own;
     }
-    if is_above(mask, score, sum, operator) {
+    if is_better(mask, score, sum, operator) {
         return together;
     }
     g * own

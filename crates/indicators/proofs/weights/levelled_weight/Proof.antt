@@ -20,14 +20,14 @@ returns-2 : tie.Need-returns-2
 unfolding levelled
 returns-2 c = rw (granted (c .before .before .has-bit .ensures) (c .before .if1 .left), eq-eqb _ _ (c .if2 .taken)) refl
 
-is-above-requires : tie.Need-is-above-requires
-is-above-requires c κs = search needs
+is-better-requires : tie.Need-is-better-requires
+is-better-requires c κs = search needs
 
 returns-3 : tie.Need-returns-3
 unfolding levelled
 returns-3 c =
     rw (
-      ← c .before .is-above .ensures,
+      ← c .before .is-better .ensures,
       c .if3 .taken,
       granted (c .before .before .before .before .has-bit .ensures) (c .before .before .before .if1 .left),
       ne-eqb _ _ (c .before .before .if2 .left),
@@ -44,7 +44,7 @@ returns-4 : tie.Need-returns-4
 unfolding levelled
 returns-4 c =
     rw (
-      ← c .before .is-above .ensures,
+      ← c .before .is-better .ensures,
       c .if3 .left,
       granted (c .before .before .before .before .has-bit .ensures) (c .before .before .before .if1 .left),
       ne-eqb _ _ (c .before .before .if2 .left),
@@ -54,4 +54,4 @@ returns-4 c =
 pub levelled-weight-spec : {M : Type 1} → statement M
 levelled-weight-spec =
     tie.close
-    (tie.spec has-bit-requires returns returns-2 is-above-requires returns-3 mul-result returns-4)
+    (tie.spec has-bit-requires returns returns-2 is-better-requires returns-3 mul-result returns-4)

@@ -8,7 +8,7 @@ use lib.ListN.{length, getD}
 use Rattle.apportion.specs.Sum.{sum}
 use Rattle.values.specs.Operators.{each}
 use Rattle.indicators.specs.Points.{exponentWeight}
-use Rattle.indicators.specs.Steps.{aboveIn, levelledAt, levelledIn}
+use Rattle.indicators.specs.Steps.{betterIn, levelledAt, levelledIn}
 use Rattle.values.proofs.Tables.{Filling, filling-none, filling-more, filling-each, each-at}
 use Rattle.apportion.proofs.Sums.{sum-bound}
 use mathlib.Core.List.{List}
@@ -37,11 +37,11 @@ total-requires c κs =
     let long : length scores ≡ 16 = search needs in
     omega (arith, rw long at (sum-bound scores 300000000000000000 (λ k lt. c .before .pre k)))
 
-count-above-requires : tie.Need-count-above-requires Inv-loop μ-loop
-count-above-requires c κs = (c .before .before .pre, c .total .ensures)
+count-better-requires : tie.Need-count-better-requires Inv-loop μ-loop
+count-better-requires c κs = (c .before .before .pre, c .total .ensures)
 
-weigh-above-requires : tie.Need-weigh-above-requires Inv-loop μ-loop
-weigh-above-requires c κs = (c .before .before .before .pre, c .before .total .ensures, own-most (c .before .before .before .args .t2) _ (c .before .before .exponent-weights .ensures))
+weigh-better-requires : tie.Need-weigh-better-requires Inv-loop μ-loop
+weigh-better-requires c κs = (c .before .before .before .pre, c .before .total .ensures, own-most (c .before .before .before .args .t2) _ (c .before .before .exponent-weights .ensures))
 
 loop-holds : tie.Need-loop-holds Inv-loop μ-loop
 loop-holds c = filling-none _ _ refl
@@ -66,7 +66,7 @@ levelled-weight-requires c κs =
     let begun = c .before .before .before .before .before .before in
     let i = c .before .loop .i in (
       begun .pre i,
-      c .before .before .before .count-above .ensures .1,
+      c .before .before .before .count-better .ensures .1,
       own-most (begun .args .t2) _ (c .before .before .before .before .before .exponent-weights .ensures) i,
     )
 
@@ -83,19 +83,19 @@ loop-less : tie.Need-loop-less Inv-loop μ-loop
 loop-less c = omega arith
 
 loop-again : tie.Need-loop-again Inv-loop μ-loop
-unfolding levelledAt aboveIn
+unfolding levelledAt betterIn
 loop-again c =
     let begun = c .before .before .before .before .before .before .before in
     let scores = begun .args .t2 in
     let here = c .before .before .loop in
     let f = levelledAt (begun .args .mask) scores in
     let own = c .before .before .before .before .before .before .exponent-weights .ensures in
-    let g = c .before .before .before .before .count-above .ensures .0 in
+    let g = c .before .before .before .before .count-better .ensures .0 in
     let value : c .levelled-weight .result ≡ f (here .i) =
     rw (
       c .before .before .before .before .before .total .ensures,
       g,
-      c .before .before .before .weigh-above .ensures,
+      c .before .before .before .weigh-better .ensures,
       own,
       each-at (exponentWeight scores) (here .i) (omega arith),
     )
@@ -117,8 +117,8 @@ levelled-weights-spec =
     μ-loop
     exponent-weights-requires
     total-requires
-    count-above-requires
-    weigh-above-requires
+    count-better-requires
+    weigh-better-requires
     loop-holds
     mul-levelled-weight
     array-read-levelled-weight

@@ -1,12 +1,12 @@
--- `indicators::weights::is_above` meets its contract.
+-- `indicators::weights::is_better` meets its contract.
 -- Assumes nothing.
 use mathlib.Core.Path.{refl}
 use native.Mathlib.Omega.{arith}
 use Rattle.calls.proofs.Flags.{denied, granted}
 use native.Mathlib.Nat.{mul-le-mul}
 use borrow.Author.Needs.{needs}
-use Rattle.indicators.proofs.weights.is_above.Statement.{statement}
-use Rattle.indicators.proofs.weights.is_above.Tie as tie
+use Rattle.indicators.proofs.weights.is_better.Statement.{statement}
+use Rattle.indicators.proofs.weights.is_better.Tie as tie
 
 has-bit-requires : tie.Need-has-bit-requires
 has-bit-requires c κs = search needs
@@ -25,5 +25,5 @@ mul-result c =
 returns-2 : tie.Need-returns-2
 returns-2 c = rw (granted (c .before .before .has-bit .ensures) (c .before .if1 .left), c .ones-of .ensures .0) refl
 
-pub is-above-spec : {M : Type 1} → statement M
-is-above-spec = tie.close (tie.spec has-bit-requires returns ones-of-requires mul-result returns-2)
+pub is-better-spec : {M : Type 1} → statement M
+is-better-spec = tie.close (tie.spec has-bit-requires returns ones-of-requires mul-result returns-2)
