@@ -4,3 +4,4 @@ pub mod MaskLaws
 pub mod Times
 pub mod Judged
 pub mod RangeLaws
+pub mod Acceptance

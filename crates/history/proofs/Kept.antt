@@ -3,28 +3,26 @@
 use Prim.Native.Nat.{ℕ, _/_, _%_, _<_}
 use mathlib.Core.Path.{_≡_, refl, sym, ap, ap₂, subst, _∙_}
 use mathlib.Core.Logic.{_⊎_, inl, inr}
-use mathlib.Core.Bool.{Bool, true, false, cond, not, _||_}
+use mathlib.Core.Bool.{Bool, true, false, not, _||_}
 use mathlib.Core.List.{List, [], _∷_}
 use native.Mathlib.Omega.{arith}
-use lib.Dec.{leb, eqb}
 use lib.ListN.{length, getD, getD-replicate}
 use lib.Seq.{ext-getD}
 use borrow.Author.Tests.{le-leb}
 use Rattle.book.specs.declared.Book.{Book}
 use Rattle.ledger.specs.declared.Filed.{Filed}
 use Rattle.calls.specs.declared.Call.{Call}
-use Rattle.calls.specs.declared.Call.the-variants.{Join, Setting, Interruption, Amount, Mark, Rates, Index}
 use Rattle.calls.specs.declared.Refusal.{Refusal}
-use Rattle.calls.specs.declared.Reason.the-variants.{Short, Planned, Coupled, Exceptional}
 use Rattle.calls.specs.declared.Answer.{Answer}
 use Rattle.calls.specs.declared.Answer.the-variants.{Yes, Counted, LeftOut, Refused}
 use Rattle.calls.specs.Limits.{operators, years, figures, settings, indicators, indexNumbers, indexLeast, indexMost}
 use Rattle.book.specs.Book.{freshBook, isJoined, isMarked, settingOf, figureOf, indexOf, settingSlot, figureSlot, most, settingsInRange, figuresInRange, marksInRange, indicesInRange, ratesInRange, inRange}
-use Rattle.calls.specs.Call.{outcome, acceptance, secondsOf, yearOf}
+use Rattle.calls.specs.Call.{acceptance}
 use Rattle.ledger.specs.Calls.{changed, refusedCall, answered, apply, file, filedBook, filedAnswers}
 use Rattle.history.specs.History.{History, plain, total, recorded, after, noteAnswer, noteHistory, notedHistory, notedAnswers, Same}
 use Rattle.history.specs.Demand.{bookOf, historyOf, Holds, Kept, EqualAsHistories}
 use Rattle.calls.proofs.Flags.{and-true}
+use Rattle.calls.proofs.Acceptance.{Accepts, accepts}
 use Rattle.book.proofs.EveryLaws.{every-of-each}
 use Rattle.calls.proofs.MaskLaws.{has-zero, same-bits}
 use Rattle.history.proofs.SlotLaws.{setting-slot-lt, figure-slot-lt, setting-place, figure-place}
@@ -92,34 +90,6 @@ module _ (b : Book) (h : History) (held : Holds b h) (ranged : Ranged h) where
   all-in : inRange b ≡ true
   unfolding inRange
   all-in = and-true (and-true (and-true (and-true settings-in figures-in) marks-in) rates-in) indices-in
-
--- an answer that is no refusal
-abbrev Accepts : Answer → Type 0
-Accepts Yes = Unit {0}
-Accepts (Counted year) = Unit {0}
-Accepts (LeftOut reason) = Unit {0}
-Accepts (Refused refusal) = ⊥
-
-accepts-either : (t : Bool) (a b : Answer) → Accepts a → Accepts b → Accepts (cond t a b)
-accepts-either true a b p q = p
-accepts-either false a b p q = q
-
-outcome-accepts : (cause seconds year : ℕ) → Accepts (outcome cause seconds year)
-unfolding outcome
-outcome-accepts cause seconds year =
-    accepts-either (leb seconds 180) (LeftOut Short) _ tt
-    (accepts-either (eqb cause 1) (LeftOut Planned) _ tt
-    (accepts-either (eqb cause 2) (LeftOut Coupled) _ tt (accepts-either (eqb cause 3) (LeftOut Exceptional) (Counted year) tt tt)))
-
-accepts : (call : Call) → Accepts (acceptance call)
-unfolding acceptance
-accepts (Join operator) = tt
-accepts (Setting operator which value) = tt
-accepts (Interruption operator sign level cause start end weight) = outcome-accepts cause (secondsOf start end) (yearOf end)
-accepts (Amount operator year figure sign value) = tt
-accepts (Mark operator indicator mark) = tt
-accepts (Rates pot cap) = tt
-accepts (Index number value) = tt
 
 -- book and history move together
 together : (b c : Book) (h g : History) (answer : Answer) → Accepts answer → Agrees c g → Agrees (answered b c answer .book) (after h g answer)

@@ -4,7 +4,7 @@ use Prim.Native.Nat.{ℕ, _+_, _≤_, _<_}
 use mathlib.Core.Path.{_≡_, refl, ap}
 use mathlib.Core.Logic.{_⊎_, inl, inr}
 use mathlib.Core.Bool.{Bool, true, false, not, _&&_}
-use mathlib.Core.List.{List}
+use mathlib.Core.List.{List, [], _∷_}
 use lib.Dec.{ltb, eqb}
 use borrow.Author.Tests.{ltb-true, ltb-false, eq-eqb}
 use Rattle.calls.specs.declared.Call.{Call}
@@ -15,7 +15,7 @@ use Rattle.calls.specs.declared.Answer.{Answer}
 use Rattle.calls.specs.declared.Answer.the-variants.{Refused}
 use Rattle.calls.specs.Limits.{operators, years, figures, figureLimit}
 use Rattle.calls.specs.Call.{Entry, entries, operatorOf, signOf, valuesInRange, acceptance}
-use Rattle.ledger.specs.Table.{joinsAgain, lacksOperator, refuse, passesLimit, fallsBelow, answerTo}
+use Rattle.ledger.specs.Table.{joinsAgain, lacksOperator, firstOf, linesFor, passesLimit, fallsBelow, answerTo}
 use Rattle.calls.proofs.Flags.{and-other}
 use Rattle.calls.proofs.RangeLaws.{Ranges, ranges}
 use Rattle.history.proofs.EntryLaws.{All, Within, all-map, none-some, same-some, entries-within}
@@ -41,10 +41,10 @@ module _ (joined : ℕ → Bool) (total : ℕ → ℕ → ℕ → ℕ) (call : C
       → passesLimit total (operatorOf call) (signOf call) (entries call) ≡ x
       → fallsBelow total (operatorOf call) (signOf call) (entries call) ≡ y
       → Decided
-      (refuse (not t) UnknownOperator
-      (refuse (not u) OutOfRange
-      (refuse v AlreadyJoined (refuse w NotJoined (refuse x AboveLimit (refuse y BelowZero (acceptance call)))))))
-  unfolding refuse
+      (firstOf
+      ((UnknownOperator, not t) ∷ (OutOfRange, not u) ∷ (AlreadyJoined, v) ∷ (NotJoined, w) ∷ (AboveLimit, x) ∷ (BelowZero, y) ∷ [])
+      (acceptance call))
+  unfolding firstOf
   decide false u v w x y known ranged no-join present below above = inr (UnknownOperator, refl)
   decide true false v w x y known ranged no-join present below above = inr (OutOfRange, refl)
   decide true true true w x y known ranged no-join present below above = inr (AlreadyJoined, refl)
@@ -66,7 +66,7 @@ module _ (joined : ℕ → Bool) (total : ℕ → ℕ → ℕ → ℕ) (call : C
 
   -- a call is accepted or refused
   pub decided : Decided (answerTo joined total call)
-  unfolding answerTo
+  unfolding answerTo linesFor
   decided = decide _ _ _ _ _ _ refl refl refl refl refl refl
 
 -- an entry that can be filed, and one that can be withdrawn
@@ -129,20 +129,20 @@ module _ (joined known : ℕ → Bool) (total sum : ℕ → ℕ → ℕ → ℕ)
         (all-map Within _ (λ entry w. ap (λ (n : ℕ). ltb n (entry .value)) (same-total operator _ _ lt (w .0) (w .1))) list within))
 
   pub same-answer : (call : Call) → answerTo joined total call ≡ answerTo known sum call
-  unfolding answerTo refuse
+  unfolding answerTo linesFor firstOf
   same-answer call = go (ltb (operatorOf call) operators) (valuesInRange call) refl refl
     where
-      rest : (ℕ → Bool) → (ℕ → ℕ → ℕ → ℕ) → Answer
+      rest : (ℕ → Bool) → (ℕ → ℕ → ℕ → ℕ) → List (Refusal × Bool)
       rest held figures =
-          refuse (joinsAgain held call) AlreadyJoined
-          (refuse (lacksOperator held call) NotJoined
-          (refuse (passesLimit figures (operatorOf call) (signOf call) (entries call)) AboveLimit
-          (refuse (fallsBelow figures (operatorOf call) (signOf call) (entries call)) BelowZero
-          (acceptance call))))
+          (AlreadyJoined, joinsAgain held call)
+          ∷ (NotJoined, lacksOperator held call)
+          ∷ (AboveLimit, passesLimit figures (operatorOf call) (signOf call) (entries call))
+          ∷ (BelowZero, fallsBelow figures (operatorOf call) (signOf call) (entries call))
+          ∷ []
 
       go : (t u : Bool) → ltb (operatorOf call) operators ≡ t → valuesInRange call ≡ u
-          → refuse (not t) UnknownOperator (refuse (not u) OutOfRange (rest joined total))
-          ≡ refuse (not t) UnknownOperator (refuse (not u) OutOfRange (rest known sum))
+          → firstOf ((UnknownOperator, not t) ∷ (OutOfRange, not u) ∷ rest joined total) (acceptance call)
+          ≡ firstOf ((UnknownOperator, not t) ∷ (OutOfRange, not u) ∷ rest known sum) (acceptance call)
       go false u lt ranged = refl
       go true false lt ranged = refl
       go true true lt ranged =

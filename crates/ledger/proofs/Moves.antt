@@ -19,7 +19,7 @@ use Rattle.calls.specs.declared.Moved.the-variants.{To, Above, Below}
 use Rattle.calls.specs.Limits.{figureLimit}
 use Rattle.book.specs.Book.{figureSlot, figureOf}
 use Rattle.calls.specs.Call.{Entry}
-use Rattle.ledger.specs.Table.{some, refuse, passesLimit, fallsBelow}
+use Rattle.ledger.specs.Table.{some, firstOf, passesLimit, fallsBelow}
 use Rattle.ledger.specs.Calls.{withFigures, entered, enterAll, refusedCall, answered}
 use Rattle.calls.specs.Steps.{movedBy}
 use Rattle.ledger.specs.Entering.{entering}
@@ -147,15 +147,15 @@ module _ (total : ℕ → ℕ → ℕ → ℕ) (operator sign : ℕ) where
 -- what entering gives
 module _ (b : Book) (operator sign : ℕ) (list : List Entry) (answer : Answer) where
   pub refused-above : TooMuch (figureOf b) operator sign list → entering b operator sign list answer ≡ refusedCall b AboveLimit
-  unfolding entering refuse answered
+  unfolding entering firstOf answered
   refused-above e = rw e refl
 
   pub refused-below : TooLittle (figureOf b) operator sign list → entering b operator sign list answer ≡ refusedCall b BelowZero
-  unfolding entering refuse answered
+  unfolding entering firstOf answered
   refused-below e = rw (e .0, e .1) refl
 
   pub entered-all : Fitting (figureOf b) operator sign list → entering b operator sign list answer ≡ answered b (enterAll operator sign b list) answer
-  unfolding entering refuse
+  unfolding entering firstOf
   entered-all e = rw (e .0, e .1) refl
 
 -- one figure moved, and two

@@ -38,9 +38,10 @@ unfoldable pub some : (Entry → Bool) → List Entry → Bool
 some test [] = false
 some test (entry ∷ rest) = test entry || some test rest
 
--- the refusal where it applies, else what comes after it
-unfoldable pub refuse : Bool → Refusal → Answer → Answer
-refuse applies refusal otherwise = cond applies (Refused refusal) otherwise
+-- the refusal of the first line that applies, else what comes after the lines
+unfoldable pub firstOf : List (Refusal × Bool) → Answer → Answer
+firstOf [] otherwise = otherwise
+firstOf ((refusal, applies) ∷ rest) otherwise = cond applies (Refused refusal) (firstOf rest otherwise)
 
 module _ (total : ℕ → ℕ → ℕ → ℕ) (operator sign : ℕ) (list : List Entry) where
   -- 8: "a figure would pass 10^11"
@@ -52,13 +53,17 @@ module _ (total : ℕ → ℕ → ℕ → ℕ) (operator sign : ℕ) (list : Lis
   unfoldable pub fallsBelow : Bool
   fallsBelow = eqb sign 1 && some (λ (entry : Entry). ltb (total operator (entry .year) (entry .figure)) (entry .value)) list
 
--- "The lowest number that applies is given"
+-- the lines of the table, 4 to 9, each with whether it applies to a call
+unfoldable pub linesFor : (ℕ → Bool) → (ℕ → ℕ → ℕ → ℕ) → Call → List (Refusal × Bool)
+linesFor joined total call =
+    (UnknownOperator, not (ltb (operatorOf call) operators))
+    ∷ (OutOfRange, not (valuesInRange call))
+    ∷ (AlreadyJoined, joinsAgain joined call)
+    ∷ (NotJoined, lacksOperator joined call)
+    ∷ (AboveLimit, passesLimit total (operatorOf call) (signOf call) (entries call))
+    ∷ (BelowZero, fallsBelow total (operatorOf call) (signOf call) (entries call))
+    ∷ []
+
+-- "The lowest number that applies is given": the lines stand in the order of their numbers
 unfoldable pub answerTo : (ℕ → Bool) → (ℕ → ℕ → ℕ → ℕ) → Call → Answer
-answerTo joined total call =
-    refuse (not (ltb (operatorOf call) operators)) UnknownOperator
-    (refuse (not (valuesInRange call)) OutOfRange
-    (refuse (joinsAgain joined call) AlreadyJoined
-    (refuse (lacksOperator joined call) NotJoined
-    (refuse (passesLimit total (operatorOf call) (signOf call) (entries call)) AboveLimit
-    (refuse (fallsBelow total (operatorOf call) (signOf call) (entries call)) BelowZero
-    (acceptance call))))))
+answerTo joined total call = firstOf (linesFor joined total call) (acceptance call)

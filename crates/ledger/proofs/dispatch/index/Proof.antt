@@ -6,7 +6,7 @@ use native.Mathlib.Omega.{arith}
 use lib.Dec.{ltb, leb}
 use borrow.Author.Tests.{ltb-true}
 use Rattle.calls.specs.Call.{operatorOf, signOf, entries, valuesInRange, acceptance}
-use Rattle.ledger.specs.Table.{refuse, some, joinsAgain, lacksOperator, passesLimit, fallsBelow}
+use Rattle.ledger.specs.Table.{firstOf, some, joinsAgain, lacksOperator, passesLimit, fallsBelow}
 use Rattle.ledger.specs.Calls.{changed, answered, withIndices}
 use Rattle.calls.proofs.Flags.{both, denied, granted}
 use Rattle.ledger.proofs.Admission.{out-of-range, admitted}
@@ -35,7 +35,7 @@ element-write-next c =
     ltb-true (start .args .number) 4 (both (ltb (start .args .number) 4) _ (both (ltb (start .args .number) 4 && leb 1 (start .args .value)) _ valid .0) .0)
 
 returns-2 : tie.Need-returns-2
-unfolding operatorOf joinsAgain lacksOperator withIndices refuse some passesLimit fallsBelow signOf entries acceptance changed answered
+unfolding operatorOf joinsAgain lacksOperator withIndices firstOf some passesLimit fallsBelow signOf entries acceptance changed answered
 returns-2 c = sym (admitted (c .before .before .args .b) _ (omega arith) (granted (c .before .index-in-range .ensures) (c .if1 .left)) refl refl)
 
 pub index-spec : {M : Type 1} → statement M

@@ -6,7 +6,7 @@ use native.Mathlib.Omega.{arith}
 use Rattle.calls.specs.Masks.{has}
 use Rattle.book.specs.Book.{isJoined}
 use Rattle.calls.specs.Call.{operatorOf, signOf, entries, valuesInRange, acceptance}
-use Rattle.ledger.specs.Table.{refuse, some, joinsAgain, lacksOperator, passesLimit, fallsBelow}
+use Rattle.ledger.specs.Table.{firstOf, some, joinsAgain, lacksOperator, passesLimit, fallsBelow}
 use Rattle.ledger.specs.Calls.{changed, answered, withJoined}
 use Rattle.ledger.proofs.Admission.{unknown-operator, already-joined, admitted}
 use borrow.Author.Needs.{needs}
@@ -37,7 +37,7 @@ include-bit-requires : tie.Need-include-bit-requires
 include-bit-requires c κs = search needs
 
 returns-3 : tie.Need-returns-3
-unfolding operatorOf valuesInRange joinsAgain lacksOperator isJoined withJoined refuse some passesLimit fallsBelow signOf entries acceptance changed answered
+unfolding operatorOf valuesInRange joinsAgain lacksOperator isJoined withJoined firstOf some passesLimit fallsBelow signOf entries acceptance changed answered
 returns-3 c =
     let start = c .before .before .before .before in
     let free : has (start .args .b .joined) (start .args .operator) ≡ false = sym (c .before .before .has-bit .ensures) ∙ c .before .if2 .left in

@@ -6,7 +6,7 @@ use lib.Dec.{ltb}
 use borrow.Author.Tests.{ltb-true}
 use Rattle.book.specs.Book.{isJoined}
 use Rattle.calls.specs.Call.{operatorOf, signOf, entries, valuesInRange, acceptance}
-use Rattle.ledger.specs.Table.{refuse, some, joinsAgain, lacksOperator, passesLimit, fallsBelow}
+use Rattle.ledger.specs.Table.{firstOf, some, joinsAgain, lacksOperator, passesLimit, fallsBelow}
 use Rattle.ledger.specs.Calls.{changed, answered, withMarks}
 use Rattle.calls.proofs.Flags.{both, denied, granted, negated}
 use Rattle.ledger.proofs.Admission.{unknown-operator, out-of-range, not-joined, admitted}
@@ -69,7 +69,7 @@ element-write-next c =
     ltb-true _ _ (both (ltb (c .before .before .before .before .before .before .before .args .indicator) 6) _ valid .0)
 
 returns-4 : tie.Need-returns-4
-unfolding operatorOf valuesInRange joinsAgain lacksOperator isJoined withMarks refuse some passesLimit fallsBelow signOf entries acceptance changed answered
+unfolding operatorOf valuesInRange joinsAgain lacksOperator isJoined withMarks firstOf some passesLimit fallsBelow signOf entries acceptance changed answered
 returns-4 c =
     rw (c .remask .ensures)
     (sym

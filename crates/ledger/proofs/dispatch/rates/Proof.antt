@@ -3,7 +3,7 @@
 use mathlib.Core.Path.{refl, sym, _∙_}
 use native.Mathlib.Omega.{arith}
 use Rattle.calls.specs.Call.{operatorOf, signOf, entries, acceptance}
-use Rattle.ledger.specs.Table.{refuse, some, joinsAgain, lacksOperator, passesLimit, fallsBelow}
+use Rattle.ledger.specs.Table.{firstOf, some, joinsAgain, lacksOperator, passesLimit, fallsBelow}
 use Rattle.ledger.specs.Calls.{changed, answered, withRates}
 use Rattle.calls.proofs.Flags.{denied, granted}
 use Rattle.ledger.proofs.Admission.{out-of-range, admitted}
@@ -22,7 +22,7 @@ unfolding operatorOf
 returns c = c .refused .ensures ∙ sym (out-of-range (c .before .before .before .args .b) _ (omega arith) (denied (c .before .before .rates-in-range .ensures) (c .before .if1 .taken)))
 
 returns-2 : tie.Need-returns-2
-unfolding operatorOf joinsAgain lacksOperator withRates refuse some passesLimit fallsBelow signOf entries acceptance changed answered
+unfolding operatorOf joinsAgain lacksOperator withRates firstOf some passesLimit fallsBelow signOf entries acceptance changed answered
 returns-2 c = sym (admitted (c .before .before .args .b) _ (omega arith) (granted (c .before .rates-in-range .ensures) (c .if1 .left)) refl refl)
 
 pub rates-spec : {M : Type 1} → statement M

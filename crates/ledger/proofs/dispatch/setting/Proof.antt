@@ -6,7 +6,7 @@ use lib.Dec.{ltb}
 use borrow.Author.Tests.{ltb-true}
 use Rattle.book.specs.Book.{isJoined, settingSlot}
 use Rattle.calls.specs.Call.{operatorOf, signOf, entries, valuesInRange, acceptance}
-use Rattle.ledger.specs.Table.{refuse, some, joinsAgain, lacksOperator, passesLimit, fallsBelow}
+use Rattle.ledger.specs.Table.{firstOf, some, joinsAgain, lacksOperator, passesLimit, fallsBelow}
 use Rattle.ledger.specs.Calls.{changed, answered, withSettings}
 use Rattle.calls.proofs.Flags.{both, denied, granted, negated}
 use Rattle.ledger.proofs.Admission.{unknown-operator, out-of-range, not-joined, admitted}
@@ -64,7 +64,7 @@ element-write-next c =
     omega (arith, ltb-true (start .args .which) 3 (both (ltb (start .args .which) 3) _ valid .0))
 
 returns-4 : tie.Need-returns-4
-unfolding operatorOf valuesInRange joinsAgain lacksOperator isJoined settingSlot withSettings refuse some passesLimit fallsBelow signOf entries acceptance changed answered
+unfolding operatorOf valuesInRange joinsAgain lacksOperator isJoined settingSlot withSettings firstOf some passesLimit fallsBelow signOf entries acceptance changed answered
 returns-4 c =
     sym
     (admitted (c .before .before .before .before .before .args .b) _ (omega arith)
