@@ -1,17 +1,19 @@
 -- An interruption's range, and what a left-out and a counted one enter and answer.
 -- Assumes nothing.
 use mathlib.Core.Path.{_≡_, refl}
-use mathlib.Core.Bool.{Bool, true, false, cond, _&&_, _||_}
+use mathlib.Core.Bool.{Bool, true, false, cond, _&&_, false≢true}
 use mathlib.Core.List.{[]}
-use Prim.Native.Nat.{ℕ, _≤_, _<_}
+use Prim.Native.Nat.{ℕ, _≤_}
 use native.Mathlib.Omega.{arith}
-use lib.Dec.{ltb, leb, eqb}
+use lib.Dec.{leb, eqb}
 use lib.IntN.{ℤ}
-use borrow.Author.Tests.{ltb-true, eqb-true, lt-leb, ne-eqb, leb-true}
+use borrow.Author.Tests.{eqb-true, leb-true}
 use Rattle.calls.specs.declared.Call.{Call}
 use Rattle.calls.specs.declared.Call.the-variants.{Interruption}
-use Rattle.calls.specs.declared.Answer.the-variants.{Counted}
-use Rattle.calls.specs.Call.{timesInRange, weightInRange, detailsInRange, secondsOf, yearOf, counts, outcome, countedEntries, entries, valuesInRange}
+use Rattle.calls.specs.declared.Reason.the-variants.{Short, Planned, Coupled, Exceptional}
+use Rattle.calls.specs.declared.Answer.{Answer}
+use Rattle.calls.specs.declared.Answer.the-variants.{Counted, LeftOut}
+use Rattle.calls.specs.Call.{timesInRange, weightInRange, detailsInRange, secondsOf, yearOf, outcome, isCounted, countedEntries, entries, valuesInRange}
 use Rattle.calls.proofs.Flags.{both}
 
 module _ (operator sign level cause weight : ℕ) (start end : ℤ) where
@@ -30,31 +32,28 @@ module _ (operator sign level cause weight : ℕ) (start end : ℤ) where
   unfolding valuesInRange
   good-values e t = rw (e, t) refl
 
-  pub entries-left-out : counts cause (secondsOf start end) ≡ false → entries interruptionCall ≡ []
+  pub entries-left-out : isCounted (outcome cause (secondsOf start end) (yearOf end)) ≡ false → entries interruptionCall ≡ []
   unfolding entries
   entries-left-out e = rw e refl
 
-  pub entries-counted : counts cause (secondsOf start end) ≡ true → entries interruptionCall ≡ countedEntries (yearOf end) level weight (secondsOf start end)
+  pub entries-counted : isCounted (outcome cause (secondsOf start end) (yearOf end)) ≡ true → entries interruptionCall ≡ countedEntries (yearOf end) level weight (secondsOf start end)
   unfolding entries
   entries-counted e = rw e refl
 
 -- a counted interruption is answered with its year
-pub outcome-counted : (cause seconds year : ℕ) → counts cause seconds ≡ true → outcome cause seconds year ≡ Counted year
-unfolding counts outcome
-outcome-counted cause seconds year e =
-    let parts = both (ltb 180 seconds) (eqb cause 0 || eqb cause 4) e in
-    let differs = other (eqb cause 0) refl (parts .1) in
-    rw (
-      lt-leb seconds 180 (ltb-true 180 seconds (parts .0)),
-      ne-eqb cause 1 (λ o. differs (omega (arith, o)) (omega (arith, o))),
-      ne-eqb cause 2 (λ o. differs (omega (arith, o)) (omega (arith, o))),
-      ne-eqb cause 3 (λ o. differs (omega (arith, o)) (omega (arith, o))),
-    )
-    refl
+pub outcome-counted : (cause seconds year : ℕ) → isCounted (outcome cause seconds year) ≡ true → outcome cause seconds year ≡ Counted year
+unfolding outcome isCounted
+outcome-counted cause seconds year = go (leb seconds 180) (eqb cause 1) (eqb cause 2) (eqb cause 3)
   where
-    other : (t : Bool) → eqb cause 0 ≡ t → t || eqb cause 4 ≡ true → 0 < cause → cause < 4 → ⊥
-    other true z o above below = omega (arith, eqb-true cause 0 z)
-    other false z o above below = omega (arith, eqb-true cause 4 o)
+    judged : Bool → Bool → Bool → Bool → Answer
+    judged s t u v = cond s (LeftOut Short) (cond t (LeftOut Planned) (cond u (LeftOut Coupled) (cond v (LeftOut Exceptional) (Counted year))))
+
+    go : (s t u v : Bool) → isCounted (judged s t u v) ≡ true → judged s t u v ≡ Counted year
+    go true t u v e = absurd (false≢true e)
+    go false true u v e = absurd (false≢true e)
+    go false false true v e = absurd (false≢true e)
+    go false false false true e = absurd (false≢true e)
+    go false false false false e = refl
 
 -- what the range of the details says in numbers
 pub record Details (sign level cause weight : ℕ) : Type 0 where

@@ -1,7 +1,7 @@
 -- The seven filing calls: their arguments' ranges, and what an accepted one enters (01, "The filing").
 -- Assumes nothing.
 use Prim.Native.Nat.{ℕ, _+_, _*_, _/_}
-use mathlib.Core.Bool.{Bool, true, cond, _&&_, _||_}
+use mathlib.Core.Bool.{Bool, true, false, cond, _&&_}
 use mathlib.Core.List.{List, [], _∷_}
 use lib.Dec.{ltb, leb, eqb}
 use lib.IntN.{ℤ, pos, negℤ, natAbs, _-ℤ_}
@@ -10,7 +10,7 @@ use Rattle.calls.specs.declared.Call.{Call}
 use Rattle.calls.specs.declared.Call.the-variants.{Join, Setting, Interruption, Amount, Mark, Rates, Index}
 use Rattle.calls.specs.declared.Reason.the-variants.{Short, Planned, Coupled, Exceptional}
 use Rattle.calls.specs.declared.Answer.{Answer}
-use Rattle.calls.specs.declared.Answer.the-variants.{Yes, Counted, LeftOut}
+use Rattle.calls.specs.declared.Answer.the-variants.{Yes, Counted, LeftOut, Refused}
 use Rattle.calls.specs.Limits.{years, figures, settings, indicators, indexNumbers, settingLimit, rateLimit, indexLeast, indexMost, yearLength}
 
 -- "End is 0 to 94,607,999, start at least -31,536,000 and at most end"
@@ -42,8 +42,12 @@ outcome cause seconds year =
     (cond (eqb cause 3) (LeftOut Exceptional)
     (Counted year))))
 
-unfoldable pub counts : ℕ → ℕ → Bool
-counts cause seconds = ltb 180 seconds && (eqb cause 0 || eqb cause 4)
+-- whether an answer is "counted, with its year"
+unfoldable pub isCounted : Answer → Bool
+isCounted Yes = false
+isCounted (Counted year) = true
+isCounted (LeftOut reason) = false
+isCounted (Refused refusal) = false
 
 -- what a call adds to, or takes from, a figure of its operator
 pub record Entry : Type 0 where
@@ -61,11 +65,12 @@ countedEntries year level weight seconds =
 unfoldable pub amountEntries : ℕ → ℕ → ℕ → List Entry
 amountEntries year figure value = record { year = year; figure = figure; value = value } ∷ []
 
+-- what a call enters; "Left out: the book stays"
 unfoldable pub entries : Call → List Entry
 entries (Join operator) = []
 entries (Setting operator which value) = []
 entries (Interruption operator sign level cause start end weight) =
-    cond (counts cause (secondsOf start end)) (countedEntries (yearOf end) level weight (secondsOf start end)) []
+    cond (isCounted (outcome cause (secondsOf start end) (yearOf end))) (countedEntries (yearOf end) level weight (secondsOf start end)) []
 entries (Amount operator year figure sign value) = amountEntries year figure value
 entries (Mark operator indicator mark) = []
 entries (Rates pot cap) = []

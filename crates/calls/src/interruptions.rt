@@ -1,6 +1,6 @@
 // An interruption: the ranges of its values, its year and length, and what is left out and why.
 ghost use mathlib.Core.Path.{_≡_};
-ghost use Rattle.calls.specs.Call.{weightInRange, detailsInRange, counts, outcome};
+ghost use Rattle.calls.specs.Call.{weightInRange, detailsInRange, outcome, isCounted};
 ghost use Rattle.calls.specs.Steps.{periodOf};
 use crate::Answer;
 use crate::Period;
@@ -62,18 +62,6 @@ pub fn period_of(start: i64, end: i64) -> Period
     }
 }
 
-pub fn is_counted(cause: u8, seconds: u64) -> bool
-    ensures { λ r. ⌜ r ≡ counts cause seconds ⌝ }
-{
-    if seconds <= SHORT {
-        return false;
-    }
-    if cause == 0 {
-        return true;
-    }
-    cause == 4
-}
-
 // The answer to an interruption that nothing refuses: short comes before the cause.
 pub fn judge(cause: u8, seconds: u64, year: u8) -> Answer
     ensures { λ r. ⌜ r ≡ outcome cause seconds year ⌝ }
@@ -91,4 +79,15 @@ pub fn judge(cause: u8, seconds: u64, year: u8) -> Answer
         return Answer::LeftOut(Reason::Exceptional);
     }
     Answer::Counted { year }
+}
+
+pub fn is_counted(answer: Answer) -> bool
+    ensures { λ r. ⌜ r ≡ isCounted answer ⌝ }
+{
+    match answer {
+        Answer::Counted { year } => true,
+        Answer::Yes => false,
+        Answer::LeftOut(reason) => false,
+        Answer::Refused(refusal) => false,
+    }
 }

@@ -16,7 +16,7 @@ use Rattle.exponent.specs.Weight.{next, weightOf}
 use Rattle.calls.specs.Masks.{has, including}
 use Rattle.book.specs.Every.{every}
 use Rattle.book.specs.Book.{freshBook, figureSlot, settingSlot, isJoined, isMarked, settingOf, figureOf, indexOf, most, settingsInRange, figuresInRange, marksInRange, indicesInRange, ratesInRange, inRange}
-use Rattle.calls.specs.Call.{timesInRange, weightInRange, detailsInRange, secondsOf, yearOf, outcome, counts, countedEntries, amountEntries, entries, operatorOf, signOf, valuesInRange, acceptance}
+use Rattle.calls.specs.Call.{timesInRange, weightInRange, detailsInRange, secondsOf, yearOf, outcome, isCounted, countedEntries, amountEntries, entries, operatorOf, signOf, valuesInRange, acceptance}
 use Rattle.ledger.specs.Table.{joinsAgain, lacksOperator, some, firstOf, passesLimit, fallsBelow, linesFor, answerTo}
 use Rattle.ledger.specs.Calls.{withJoined, withFigures, entered, enterAll, changed, refusedCall, answered, apply, file, filedBook, filedAnswers}
 use Rattle.ledger.specs.Calls.{withSettings, withRates}
@@ -48,15 +48,15 @@ filings-refused =
 
 -- M's bytes are read to their end, and leave the book that M's calls leave
 read-m : read freshBook filingM ≡ reading (bookOf (caseM 10000)) 11 127 Yes
-unfolding has including every freshBook figureSlot settingSlot isJoined isMarked settingOf figureOf indexOf most settingsInRange figuresInRange marksInRange indicesInRange ratesInRange inRange timesInRange weightInRange detailsInRange secondsOf yearOf outcome counts countedEntries amountEntries entries operatorOf signOf valuesInRange acceptance joinsAgain lacksOperator some firstOf passesLimit fallsBelow linesFor answerTo withJoined withFigures entered enterAll changed refusedCall answered apply file filedBook filedAnswers withSettings withRates bigEndian unsigned twosComplement signed tags isKnown tagged fieldAt followed fieldsFrom fieldsOf isRefused reading run read
+unfolding has including every freshBook figureSlot settingSlot isJoined isMarked settingOf figureOf indexOf most settingsInRange figuresInRange marksInRange indicesInRange ratesInRange inRange timesInRange weightInRange detailsInRange secondsOf yearOf outcome isCounted countedEntries amountEntries entries operatorOf signOf valuesInRange acceptance joinsAgain lacksOperator some firstOf passesLimit fallsBelow linesFor answerTo withJoined withFigures entered enterAll changed refusedCall answered apply file filedBook filedAnswers withSettings withRates bigEndian unsigned twosComplement signed tags isKnown tagged fieldAt followed fieldsFrom fieldsOf isRefused reading run read
 read-m = refl
 
 settles-m : settled (bookOf (caseM 10000)) .answer ≡ Yes
-unfolding sum floors remainders precedes earlier foremost incremented award leftOver share next weightOf has including every freshBook figureSlot settingSlot isJoined isMarked settingOf figureOf indexOf most settingsInRange figuresInRange marksInRange indicesInRange ratesInRange inRange timesInRange weightInRange detailsInRange secondsOf yearOf outcome counts countedEntries amountEntries entries operatorOf signOf valuesInRange acceptance joinsAgain lacksOperator some firstOf passesLimit fallsBelow linesFor answerTo withJoined withFigures entered enterAll changed refusedCall answered apply file filedBook filedAnswers withSettings withRates table each count electricity over yearlyValue threeYears reliableMask isReliable joinedCount reliableCount pool largest scoreOf scores normalised exponentWeight isBetter betterWeight levelled levelledWeight linearWeight isLevelled weightOfOne weights points allPoints accessPoints incomes pot contributions returnWeights returns limits capped balanced bonuses maluses adjustments networkMissing allMarked pointsOfAll settlementBy nothing refusing settledBy settled sumℤ bytesOf digits decimal signedDecimal line header pointsOfOperator operatorLine operatorLines lastLine printed textOf ones onesIn
+unfolding sum floors remainders precedes earlier foremost incremented award leftOver share next weightOf has including every freshBook figureSlot settingSlot isJoined isMarked settingOf figureOf indexOf most settingsInRange figuresInRange marksInRange indicesInRange ratesInRange inRange timesInRange weightInRange detailsInRange secondsOf yearOf outcome isCounted countedEntries amountEntries entries operatorOf signOf valuesInRange acceptance joinsAgain lacksOperator some firstOf passesLimit fallsBelow linesFor answerTo withJoined withFigures entered enterAll changed refusedCall answered apply file filedBook filedAnswers withSettings withRates table each count electricity over yearlyValue threeYears reliableMask isReliable joinedCount reliableCount pool largest scoreOf scores normalised exponentWeight isBetter betterWeight levelled levelledWeight linearWeight isLevelled weightOfOne weights points allPoints accessPoints incomes pot contributions returnWeights returns limits capped balanced bonuses maluses adjustments networkMissing allMarked pointsOfAll settlementBy nothing refusing settledBy settled sumℤ bytesOf digits decimal signedDecimal line header pointsOfOperator operatorLine operatorLines lastLine printed textOf ones onesIn
 settles-m = refl
 
 printed-m : textOf (bookOf (caseM 10000)) ≡ linesM
-unfolding sum floors remainders precedes earlier foremost incremented award leftOver share next weightOf has including every freshBook figureSlot settingSlot isJoined isMarked settingOf figureOf indexOf most settingsInRange figuresInRange marksInRange indicesInRange ratesInRange inRange timesInRange weightInRange detailsInRange secondsOf yearOf outcome counts countedEntries amountEntries entries operatorOf signOf valuesInRange acceptance joinsAgain lacksOperator some firstOf passesLimit fallsBelow linesFor answerTo withJoined withFigures entered enterAll changed refusedCall answered apply file filedBook filedAnswers withSettings withRates table each count electricity over yearlyValue threeYears reliableMask isReliable joinedCount reliableCount pool largest scoreOf scores normalised exponentWeight isBetter betterWeight levelled levelledWeight linearWeight isLevelled weightOfOne weights points allPoints accessPoints incomes pot contributions returnWeights returns limits capped balanced bonuses maluses adjustments networkMissing allMarked pointsOfAll settlementBy nothing refusing settledBy settled sumℤ bytesOf digits decimal signedDecimal line header pointsOfOperator operatorLine operatorLines lastLine printed textOf ones onesIn
+unfolding sum floors remainders precedes earlier foremost incremented award leftOver share next weightOf has including every freshBook figureSlot settingSlot isJoined isMarked settingOf figureOf indexOf most settingsInRange figuresInRange marksInRange indicesInRange ratesInRange inRange timesInRange weightInRange detailsInRange secondsOf yearOf outcome isCounted countedEntries amountEntries entries operatorOf signOf valuesInRange acceptance joinsAgain lacksOperator some firstOf passesLimit fallsBelow linesFor answerTo withJoined withFigures entered enterAll changed refusedCall answered apply file filedBook filedAnswers withSettings withRates table each count electricity over yearlyValue threeYears reliableMask isReliable joinedCount reliableCount pool largest scoreOf scores normalised exponentWeight isBetter betterWeight levelled levelledWeight linearWeight isLevelled weightOfOne weights points allPoints accessPoints incomes pot contributions returnWeights returns limits capped balanced bonuses maluses adjustments networkMissing allMarked pointsOfAll settlementBy nothing refusing settledBy settled sumℤ bytesOf digits decimal signedDecimal line header pointsOfOperator operatorLine operatorLines lastLine printed textOf ones onesIn
 printed-m = refl
 
 output-m : outputOf filingM ≡ linesM
@@ -64,6 +64,6 @@ unfolding outputOf longestFiling readingText reading settlementText unless
 output-m = rw (read-m, settles-m) printed-m
 
 pub all-hold : All marked
-unfolding sum floors remainders precedes earlier foremost incremented award leftOver share next weightOf has including every freshBook figureSlot settingSlot isJoined isMarked settingOf figureOf indexOf most settingsInRange figuresInRange marksInRange indicesInRange ratesInRange inRange timesInRange weightInRange detailsInRange secondsOf yearOf outcome counts countedEntries amountEntries entries operatorOf signOf valuesInRange acceptance joinsAgain lacksOperator some firstOf passesLimit fallsBelow linesFor answerTo withJoined withFigures entered enterAll changed refusedCall answered apply file filedBook filedAnswers withSettings withRates table each count electricity over yearlyValue threeYears reliableMask isReliable joinedCount reliableCount pool largest scoreOf scores normalised exponentWeight isBetter betterWeight levelled levelledWeight linearWeight isLevelled weightOfOne weights points allPoints accessPoints incomes pot contributions returnWeights returns limits capped balanced bonuses maluses adjustments networkMissing allMarked pointsOfAll settlementBy nothing refusing settledBy settled sumℤ bigEndian unsigned twosComplement signed tags isKnown tagged fieldAt followed fieldsFrom fieldsOf isRefused reading run read bytesOf digits decimal signedDecimal line header pointsOfOperator operatorLine operatorLines lastLine printed textOf longestFiling refusedBy refusedField refusedSettlement unless settlementText readingText outputOf ones onesIn
+unfolding sum floors remainders precedes earlier foremost incremented award leftOver share next weightOf has including every freshBook figureSlot settingSlot isJoined isMarked settingOf figureOf indexOf most settingsInRange figuresInRange marksInRange indicesInRange ratesInRange inRange timesInRange weightInRange detailsInRange secondsOf yearOf outcome isCounted countedEntries amountEntries entries operatorOf signOf valuesInRange acceptance joinsAgain lacksOperator some firstOf passesLimit fallsBelow linesFor answerTo withJoined withFigures entered enterAll changed refusedCall answered apply file filedBook filedAnswers withSettings withRates table each count electricity over yearlyValue threeYears reliableMask isReliable joinedCount reliableCount pool largest scoreOf scores normalised exponentWeight isBetter betterWeight levelled levelledWeight linearWeight isLevelled weightOfOne weights points allPoints accessPoints incomes pot contributions returnWeights returns limits capped balanced bonuses maluses adjustments networkMissing allMarked pointsOfAll settlementBy nothing refusing settledBy settled sumℤ bigEndian unsigned twosComplement signed tags isKnown tagged fieldAt followed fieldsFrom fieldsOf isRefused reading run read bytesOf digits decimal signedDecimal line header pointsOfOperator operatorLine operatorLines lastLine printed textOf longestFiling refusedBy refusedField refusedSettlement unless settlementText readingText outputOf ones onesIn
 all-hold =
     (refl, (refl, (refl, (refl, (refl, (refl, (refl, (refl, (refl, (refl, (refl, (refl, (refl, (refl, (refl, (output-m, (filings-refused, (refl, (refl, tt)))))))))))))))))))

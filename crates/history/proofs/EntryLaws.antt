@@ -11,7 +11,7 @@ use borrow.Author.Tests.{eqb-true, ne-eqb}
 use Rattle.calls.specs.declared.Call.{Call}
 use Rattle.calls.specs.declared.Call.the-variants.{Join, Setting, Interruption, Amount, Mark, Rates, Index}
 use Rattle.calls.specs.Limits.{years, figures}
-use Rattle.calls.specs.Call.{Entry, yearOf, secondsOf, counts, countedEntries, amountEntries, entries}
+use Rattle.calls.specs.Call.{Entry, yearOf, secondsOf, outcome, isCounted, countedEntries, amountEntries, entries}
 use Rattle.ledger.specs.Table.{some}
 use Rattle.history.specs.History.{summed, summedAll}
 use Rattle.calls.proofs.Flags.{and-left, and-right, and-false-right}
@@ -41,7 +41,7 @@ unfolding entries amountEntries
 entries-within (Join operator) r = tt
 entries-within (Setting operator which value) r = tt
 entries-within (Interruption operator sign level cause start end weight) r =
-    counted-within (counts cause (secondsOf start end)) (yearOf end) level weight (secondsOf start end) (r .2) (r .1)
+    counted-within (isCounted (outcome cause (secondsOf start end) (yearOf end))) (yearOf end) level weight (secondsOf start end) (r .2) (r .1)
 entries-within (Amount operator year figure sign value) r = ((r .0, r .1), tt)
 entries-within (Mark operator indicator mark) r = tt
 entries-within (Rates pot cap) r = tt
@@ -57,7 +57,7 @@ unfolding entries amountEntries
 entries-distinct (Join operator) = tt
 entries-distinct (Setting operator which value) = tt
 entries-distinct (Interruption operator sign level cause start end weight) =
-    counted-distinct (counts cause (secondsOf start end)) (yearOf end) level weight (secondsOf start end)
+    counted-distinct (isCounted (outcome cause (secondsOf start end) (yearOf end))) (yearOf end) level weight (secondsOf start end)
 entries-distinct (Amount operator year figure sign value) = (tt, tt)
 entries-distinct (Mark operator indicator mark) = tt
 entries-distinct (Rates pot cap) = tt

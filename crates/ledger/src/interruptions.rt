@@ -43,11 +43,9 @@ pub(crate) fn interruption(
     if !has_bit(b.joined, operator) {
         return refused(b, Refusal::NotJoined);
     }
-    if !is_counted(cause, seconds) {
-        return Filed {
-            book: b,
-            answer: judge(cause, seconds, year),
-        };
+    let answer = judge(cause, seconds, year);
+    if !is_counted(answer) {
+        return Filed { book: b, answer };
     }
     enter_counted(b, operator, sign, level, year, weight, seconds)
 }

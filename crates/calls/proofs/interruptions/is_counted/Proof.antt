@@ -1,21 +1,48 @@
 -- `calls::interruptions::is_counted` meets its contract.
 -- Assumes nothing.
-use borrow.Author.Tests.{lt-ltb, le-ltb, eq-eqb, ne-eqb}
-use Rattle.calls.specs.Call.{counts}
+use borrow.Author.Needs.{needs}
+use mathlib.Core.Path.{refl}
+use Rattle.calls.specs.Call.{isCounted}
 use Rattle.calls.proofs.interruptions.is_counted.Statement.{statement}
 use Rattle.calls.proofs.interruptions.is_counted.Tie as tie
 
+enum-known-answer : tie.Need-enum-known-answer
+enum-known-answer c = search needs
+
+enum-told : tie.Need-enum-told
+enum-told c = search needs
+
+enum-known-answer-2 : tie.Need-enum-known-answer-2
+enum-known-answer-2 c = search needs
+
+enum-known-answer-3 : tie.Need-enum-known-answer-3
+enum-known-answer-3 c = search needs
+
 returns : tie.Need-returns
-unfolding counts
-returns c = simp (le-ltb 180 (c .before .args .seconds) (c .if1 .taken))
+unfolding isCounted
+returns c = rw (c .before .answer .given .1) refl
 
 returns-2 : tie.Need-returns-2
-unfolding counts
-returns-2 c = simp (lt-ltb 180 (c .before .before .args .seconds) (c .before .if1 .left), eq-eqb _ _ (c .if2 .taken))
+unfolding isCounted
+returns-2 c = rw (c .enum-told .given .1) refl
 
 returns-3 : tie.Need-returns-3
-unfolding counts
-returns-3 c = simp (lt-ltb 180 (c .before .before .args .seconds) (c .before .if1 .left), ne-eqb _ _ (c .if2 .left))
+unfolding isCounted
+returns-3 c = rw (c .before .answer2 .given .1) refl
+
+returns-4 : tie.Need-returns-4
+unfolding isCounted
+returns-4 c = rw (c .before .answer3 .given .1) refl
 
 pub is-counted-spec : {M : Type 1} → statement M
-is-counted-spec = tie.close (tie.spec returns returns-2 returns-3)
+is-counted-spec =
+    tie.close
+    (tie.spec
+    enum-known-answer
+    enum-told
+    enum-known-answer-2
+    enum-known-answer-3
+    returns
+    returns-2
+    returns-3
+    returns-4)

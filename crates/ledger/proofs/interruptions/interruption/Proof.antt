@@ -4,7 +4,7 @@ use mathlib.Core.Path.{_≡_, refl, sym, _∙_}
 use mathlib.Core.Bool.{true, false}
 use native.Mathlib.Omega.{arith}
 use Rattle.book.specs.Book.{isJoined}
-use Rattle.calls.specs.Call.{operatorOf, signOf, acceptance, counts, secondsOf}
+use Rattle.calls.specs.Call.{operatorOf, signOf, acceptance, outcome, isCounted, secondsOf, yearOf}
 use Rattle.ledger.specs.Table.{joinsAgain, lacksOperator}
 use Rattle.ledger.specs.Calls.{changed}
 use Rattle.ledger.specs.Entering.{entering}
@@ -74,19 +74,19 @@ returns-4 c =
     refl
     (negated (c .before .before .has-bit .ensures) (c .before .if3 .taken)))
 
-is-counted-requires : tie.Need-is-counted-requires
-is-counted-requires c κs = search needs
-
 judge-requires : tie.Need-judge-requires
 judge-requires c κs = search needs
+
+is-counted-requires : tie.Need-is-counted-requires
+is-counted-requires c κs = search needs
 
 returns-5 : tie.Need-returns-5
 unfolding operatorOf joinsAgain lacksOperator isJoined entering signOf acceptance changed
 returns-5 c =
     let start = c .before .before .before .before .before .before .before .before .before .before .before .before in
     let period = period-says (start .args .start) (start .args .end) _ (sym (rw (back (start .fits .start), back (start .fits .end)) at (c .before .before .before .before .before .before .before .before .period-of .ensures)) ∙ c .before .before .before .before .before .before .year .given .1) in
-    let left-out : counts (start .args .cause) (secondsOf (start .args .start) (start .args .end)) ≡ false = rw (period .2) at (denied (c .before .before .is-counted .ensures) (c .before .if4 .taken)) in
-    rw (c .judge .ensures, period .1, period .2)
+    let left-out : isCounted (outcome (start .args .cause) (secondsOf (start .args .start) (start .args .end)) (yearOf (start .args .end))) ≡ false = rw (c .before .before .judge .ensures, period .1, period .2) at (denied (c .before .is-counted .ensures) (c .if4 .taken)) in
+    rw (c .before .before .judge .ensures, period .1, period .2)
     (sym
     (admitted (start .args .b) _ (omega arith) (good-values (start .args .operator) (start .args .sign) (start .args .level) (start .args .cause) (start .args .weight) (start .args .start) (start .args .end) (granted (c .before .before .before .before .before .before .before .before .before .before .details-in-range .ensures) (c .before .before .before .before .before .before .before .before .before .if2 .left)) (period .0)) refl
     (negated (c .before .before .before .before .has-bit .ensures) (c .before .before .before .if3 .left))
@@ -94,10 +94,10 @@ returns-5 c =
 
 enter-counted-requires : tie.Need-enter-counted-requires
 enter-counted-requires c κs =
-    let start = c .before .before .before .before .before .before .before .before .before .before .before in
-    let period = period-says (start .args .start) (start .args .end) _ (sym (rw (back (start .fits .start), back (start .fits .end)) at (c .before .before .before .before .before .before .before .period-of .ensures)) ∙ c .before .before .before .before .before .year .given .1) in
+    let start = c .before .before .before .before .before .before .before .before .before .before .before .before in
+    let period = period-says (start .args .start) (start .args .end) _ (sym (rw (back (start .fits .start), back (start .fits .end)) at (c .before .before .before .before .before .before .before .before .period-of .ensures)) ∙ c .before .before .before .before .before .before .year .given .1) in
     let times = timed (start .args .start) (start .args .end) (period .0) in
-    let in-range = details (start .args .sign) (start .args .level) (start .args .cause) (start .args .weight) (granted (c .before .before .before .before .before .before .before .before .before .details-in-range .ensures) (c .before .before .before .before .before .before .before .before .if2 .left)) in (
+    let in-range = details (start .args .sign) (start .args .level) (start .args .cause) (start .args .weight) (granted (c .before .before .before .before .before .before .before .before .before .before .details-in-range .ensures) (c .before .before .before .before .before .before .before .before .before .if2 .left)) in (
       omega arith,
       in-range .sign-most,
       in-range .level-most,
@@ -109,13 +109,13 @@ enter-counted-requires c κs =
 returns-6 : tie.Need-returns-6
 unfolding operatorOf joinsAgain lacksOperator isJoined entering signOf acceptance changed
 returns-6 c =
-    let start = c .before .before .before .before .before .before .before .before .before .before .before .before in
-    let period = period-says (start .args .start) (start .args .end) _ (sym (rw (back (start .fits .start), back (start .fits .end)) at (c .before .before .before .before .before .before .before .before .period-of .ensures)) ∙ c .before .before .before .before .before .before .year .given .1) in
-    let counted : counts (start .args .cause) (secondsOf (start .args .start) (start .args .end)) ≡ true = rw (period .2) at (granted (c .before .before .is-counted .ensures) (c .before .if4 .left)) in
+    let start = c .before .before .before .before .before .before .before .before .before .before .before .before .before in
+    let period = period-says (start .args .start) (start .args .end) _ (sym (rw (back (start .fits .start), back (start .fits .end)) at (c .before .before .before .before .before .before .before .before .before .period-of .ensures)) ∙ c .before .before .before .before .before .before .before .year .given .1) in
+    let counted : isCounted (outcome (start .args .cause) (secondsOf (start .args .start) (start .args .end)) (yearOf (start .args .end))) ≡ true = rw (c .before .before .before .judge .ensures, period .1, period .2) at (granted (c .before .before .is-counted .ensures) (c .before .if4 .left)) in
     (rw (period .1, period .2) at (c .enter-counted .ensures))
     ∙ sym
-    (admitted (start .args .b) _ (omega (arith, c .before .before .before .before .before .before .before .before .before .before .before .if1 .left)) (good-values (start .args .operator) (start .args .sign) (start .args .level) (start .args .cause) (start .args .weight) (start .args .start) (start .args .end) (granted (c .before .before .before .before .before .before .before .before .before .before .details-in-range .ensures) (c .before .before .before .before .before .before .before .before .before .if2 .left)) (period .0)) refl
-    (negated (c .before .before .before .before .has-bit .ensures) (c .before .before .before .if3 .left))
+    (admitted (start .args .b) _ (omega (arith, c .before .before .before .before .before .before .before .before .before .before .before .before .if1 .left)) (good-values (start .args .operator) (start .args .sign) (start .args .level) (start .args .cause) (start .args .weight) (start .args .start) (start .args .end) (granted (c .before .before .before .before .before .before .before .before .before .before .before .details-in-range .ensures) (c .before .before .before .before .before .before .before .before .before .before .if2 .left)) (period .0)) refl
+    (negated (c .before .before .before .before .before .has-bit .ensures) (c .before .before .before .before .if3 .left))
     ∙ rw (entries-counted (start .args .operator) (start .args .sign) (start .args .level) (start .args .cause) (start .args .weight) (start .args .start) (start .args .end) counted, outcome-counted (start .args .cause) _ _ counted) refl)
 
 pub interruption-spec : {M : Type 1} → statement M
@@ -135,8 +135,8 @@ interruption-spec =
     has-bit-requires
     refused-requires-4
     returns-4
-    is-counted-requires
     judge-requires
+    is-counted-requires
     returns-5
     enter-counted-requires
     returns-6)
