@@ -4,7 +4,7 @@
 set -euo pipefail
 . "$(dirname "$0")/common.sh"
 
-# Sixteen operators with a network, then fields of one kind or of all by turns, up to 65,536 bytes exactly.
+# Sixteen operators with a network, then amounts, interruptions, or both by turns with marks between, up to 65,536 bytes exactly.
 calls() { # KIND
     awk -v kind="$1" '
         function put(text, size) { print text; left -= size }
@@ -30,11 +30,19 @@ instructions() { # COMMAND..
     valgrind --tool=callgrind --callgrind-out-file=/dev/null "$@" 2>&1 >/dev/null | awk '/Collected/ { print $4 }'
 }
 
+if ! command -v valgrind >/dev/null; then
+    echo "tests/benchmark.sh: valgrind is needed" >&2
+    exit 1
+fi
+
 printf '%-14s %14s %14s %7s\n' filing program model ratio
 for kind in amounts interruptions mixed; do
     mkdir "$work/$kind"
     calls "$kind" | "$model" encode >"$work/$kind/filing.q"
-    [ "$(wc -c <"$work/$kind/filing.q")" = 65536 ]
+    if [ "$(wc -c <"$work/$kind/filing.q")" != 65536 ]; then
+        echo "tests/benchmark.sh: the filing of $kind has not 65,536 bytes" >&2
+        exit 1
+    fi
     cmp <(cd "$work/$kind" && "$program") <("$model" program "$work/$kind/filing.q")
     ours=$(cd "$work/$kind" && instructions "$program")
     theirs=$(instructions "$model" program "$work/$kind/filing.q")

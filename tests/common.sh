@@ -3,5 +3,9 @@ cd "$(dirname "${BASH_SOURCE[0]}")/.."
 (cd model && cargo build --quiet --release --offline)
 model=$PWD/model/target/release/model
 program=$PWD/target/bin/quality
+if [ ! -x "$program" ]; then
+    echo "$0: the program isn't built: rt check quality" >&2
+    exit 1
+fi
 work=$(mktemp -d)
 trap 'rm -rf "$work"' EXIT

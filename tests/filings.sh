@@ -17,11 +17,19 @@ part() { # NAME FIRST COUNT
     return 1
 }
 
+if [ "$count" -lt 2 ]; then
+    echo "tests/filings.sh: at least 2 filings" >&2
+    exit 1
+fi
+
+# Both parts run to their end, whatever the other finds.
 half=$((count / 2))
 part low 0 "$half" &
 low=$!
-part high "$half" $((count - half))
-wait "$low"
+agreed=yes
+part high "$half" $((count - half)) || agreed=no
+wait "$low" || agreed=no
+[ "$agreed" = yes ]
 echo "filings: $count of seed $seed agree"
 
 # The comparison can fail: a model with one mistake is caught.
@@ -30,6 +38,8 @@ if model/target/slip/release/model compare "$program" "$work/slip" "$seed" 0 300
     echo "tests/filings.sh: a wrong model was not noticed" >&2
     exit 1
 fi
-grep -q 'is kept as' "$work/slip.said"
-ls "$work/slip"/mismatch-*.q >"$work/kept"
+if ! grep -q 'is kept as' "$work/slip.said" || ! ls "$work/slip"/mismatch-*.q >"$work/kept"; then
+    echo "tests/filings.sh: the filing on which a wrong model was noticed is not kept" >&2
+    exit 1
+fi
 echo "filings: a wrong model is noticed, at $(sed -n '1s/ is kept.*//p' "$work/slip.said")"

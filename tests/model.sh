@@ -9,7 +9,7 @@ model=model/target/release/model
 
 # The inputs of a stored output, answered by the model, in the layout of the stored output.
 answered() { # SUBCOMMAND FILE
-    paste -d '=' <(sed 's/=.*/=/; s/=$//' "$2") <(sed 's/ *=.*//' "$2" | "$model" "$1" | sed 's/^/ /')
+    paste -d '=' <(sed 's/=.*//' "$2") <(sed 's/ *=.*//' "$2" | "$model" "$1" | sed 's/^/ /')
 }
 
 agrees() { # SUBCOMMAND FILE

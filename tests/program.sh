@@ -13,6 +13,10 @@ for example in examples/*/; do
     ./settle "$example" | cmp - <("$model" program "$example/filing.q")
 done
 cmp examples/case-m/filing.q crates/quality/data/filing.q
+./settle | cmp - <(for example in examples/*/; do
+    sed -n '/^#/p' "$example/calls.txt"
+    "$model" program "$example/filing.q"
+done)
 echo "program: the examples print what the model prints"
 
 [ "$(cd "$work" && "$program")" = "refused 10" ] || fail "a missing filing does not count as empty"

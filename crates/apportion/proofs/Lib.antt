@@ -1,3 +1,4 @@
+-- The laws that the proofs of `apportion`, and of the crates above it, use.
 pub mod Fill
 pub mod Sums
 pub mod Order

@@ -1,3 +1,4 @@
+-- The definitions of `apportion`.
 pub mod Sum
 pub mod Share
 pub mod Laws

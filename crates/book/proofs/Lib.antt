@@ -1,2 +1,3 @@
+-- The laws that the proofs of `book`, and of the crates above it, use.
 pub mod EveryLaws
 pub mod FlatRange

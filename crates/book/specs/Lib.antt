@@ -1,2 +1,3 @@
+-- The definitions of `book`.
 pub mod Every
 pub mod Book

@@ -1,6 +1,6 @@
 // A fresh book, and what a book holds, by name.
 ghost use mathlib.Core.Path.{_≡_};
-ghost use Rattle.book.specs.Book.{freshBook, isJoined, isMarked, settingOf, figureOf};
+ghost use Rattle.book.specs.Book.{freshBook, isJoined, settingOf, figureOf};
 use crate::Book;
 use calls::has_bit;
 
@@ -24,18 +24,7 @@ pub fn is_joined(b: Book, operator: u8) -> bool
     has_bit(b.joined, operator)
 }
 
-// True is unreliable.
-pub fn is_marked(b: Book, operator: u8, indicator: u8) -> bool
-    ensures { λ r. ⌜ r ≡ isMarked b operator indicator ⌝ }
-{
-    if 5 < indicator {
-        return false;
-    }
-    let marks = b.marks;
-    has_bit(marks[indicator as usize], operator)
-}
-
-// Cabins, active access points or income of an operator; 0 where there is no such place.
+// Cabins, active access points or income of an operator; 0 past the last place of the book.
 pub fn setting_of(b: Book, operator: u8, which: u8) -> u64
     ensures { λ r. ⌜ r ≡ settingOf b operator which ⌝ }
 {
@@ -47,7 +36,7 @@ pub fn setting_of(b: Book, operator: u8, which: u8) -> u64
     0
 }
 
-// A figure of an operator and year; 0 where there is no such place.
+// A figure of an operator and year; 0 past the last place of the book.
 pub fn figure_of(b: Book, operator: u8, year: u8, figure: u8) -> u64
     ensures { λ r. ⌜ r ≡ figureOf b operator year figure ⌝ }
 {

@@ -5,7 +5,6 @@ mod range;
 pub use access::figure_of;
 pub use access::fresh;
 pub use access::is_joined;
-pub use access::is_marked;
 pub use access::setting_of;
 pub use range::in_range;
 

@@ -7,7 +7,6 @@ ghost use Rattle.book.specs.Book.{settingsInRange, figuresInRange, marks
 use crate::Book;
 use calls::FIGURE_LIMIT;
 use calls::INDEX_MOST;
-use calls::RATE_LIMIT;
 use calls::has_bit;
 use calls::setting_limit;
 
@@ -97,10 +96,7 @@ fn mark_allowed(mask: u16, joined: u16, operator: u8) -> bool
 fn rates_in_range(b: Book) -> bool
     ensures { λ r. ⌜ r ≡ ratesInRange b ⌝ }
 {
-    if RATE_LIMIT < b.pot {
-        return false;
-    }
-    b.cap <= RATE_LIMIT
+    calls::rates_in_range(b.pot, b.cap)
 }
 
 fn indices_in_range(b: Book) -> bool

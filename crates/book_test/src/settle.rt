@@ -5,6 +5,7 @@ use crate::print::put_byte;
 use crate::print::put_number;
 use book::Book;
 use calls::Answer;
+use libc::STDOUT_FILENO;
 use settlement::Settlement;
 
 pub(crate) fn settled(b: Book) -> Book {
@@ -84,9 +85,9 @@ fn put_signed(n: i64) {
     if n < 0 {
         put(b"-");
         if -9223372036854775807 <= n {
-            io::print_decimal(1, (0 - n) as u64);
+            io::print_decimal(STDOUT_FILENO, (0 - n) as u64);
         }
     } else {
-        io::print_decimal(1, n as u64);
+        io::print_decimal(STDOUT_FILENO, n as u64);
     }
 }

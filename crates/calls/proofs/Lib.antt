@@ -1,3 +1,4 @@
+-- The laws that the proofs of `calls`, and of the crates above it, use.
 pub mod Flags
 pub mod Bit
 pub mod MaskLaws

@@ -1,3 +1,4 @@
+-- The definitions of `calls`.
 pub mod Limits
 pub mod Masks
 pub mod Answers

@@ -4,7 +4,7 @@ ghost use Rattle.calls.specs.Limits.{settingLimit};
 ghost use Rattle.calls.specs.Call.{valuesInRange};
 use crate::Call;
 
-pub const RATE_LIMIT: u32 = 20000;
+const RATE_LIMIT: u32 = 20000;
 
 pub const INDEX_MOST: u32 = 100000;
 

@@ -8,6 +8,13 @@ use crate::Reason;
 
 const YEAR: u64 = 31536000;
 
+// The last second of the three years, and the first of the year before them: an interruption may have begun then.
+const LAST_END: i64 = 94607999;
+
+const FIRST_START: i64 = -31536000;
+
+const MOST_CABINS: u32 = 100000;
+
 // Up to this many seconds an interruption is short.
 const SHORT: u64 = 180;
 
@@ -35,7 +42,7 @@ fn weight_in_range(level: u8, weight: u32) -> bool
     if weight < 1 {
         return false;
     }
-    weight <= 100000
+    weight <= MOST_CABINS
 }
 
 // The year is that of the end.
@@ -45,10 +52,10 @@ pub fn period_of(start: i64, end: i64) -> Period
     if end < 0 {
         return Period::Outside;
     }
-    if 94607999 < end {
+    if LAST_END < end {
         return Period::Outside;
     }
-    if start < -31536000 {
+    if start < FIRST_START {
         return Period::Outside;
     }
     if end < start {

@@ -1,4 +1,5 @@
-// A filing call and its answers: the ranges of its arguments, what an interruption comes to, how a figure moves.
+// A filing call and its answers: the ranges of its arguments, what an interruption comes to, how a figure moves,
+// and masks of operators.
 mod answers;
 mod arguments;
 mod figures;
@@ -7,7 +8,6 @@ mod masks;
 
 pub use answers::number_of;
 pub use arguments::INDEX_MOST;
-pub use arguments::RATE_LIMIT;
 pub use arguments::amount_in_range;
 pub use arguments::index_in_range;
 pub use arguments::mark_in_range;

@@ -9,7 +9,8 @@ pub struct Division {
     pub remainder: u64,
 }
 
-// t * w divided by s, exact over the whole numbers. Each wide product here shares t by a weight w of a sum s, so w ≤ s.
+// t * w divided by s, exact over the whole numbers. In each wide product here w is a part of a sum s, or s is the largest of some w,
+// so w ≤ s.
 pub fn divide_product(t: u64, w: u64, s: u64) -> Division
     requires { ⌜ (0 < s) × (w ≤ s) × (s < 2 ^ 62) × (t < 2 ^ 62) ⌝ }
     ensures { λ r. ⌜ (r .quotient ≡ t * w / s) × (r .remainder ≡ t * w % s) ⌝ }

@@ -1,2 +1,3 @@
+-- The laws that the proofs of `exponent`, and of the crates above it, use.
 pub mod Entries
 pub mod Laws

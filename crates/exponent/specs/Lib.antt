@@ -1,1 +1,2 @@
+-- The definitions of `exponent`.
 pub mod Weight

@@ -1,2 +1,3 @@
+-- The laws that the proofs of `filing`, and of the crates above it, use.
 pub mod WalkLaws
 pub mod ReadLaws

@@ -33,7 +33,7 @@ unfoldable pub fieldsFrom : ℕ → List ℕ → ℕ → Fields
 fieldsFrom zero bytes at = ended at
 fieldsFrom (suc most) bytes at = followed (fieldsFrom most bytes) at (fieldAt bytes at)
 
--- all fields: each has 3 bytes or more, so there are fewer fields than bytes
+-- all fields: each has 3 bytes or more, so there are no more fields than bytes
 unfoldable pub fieldsOf : List ℕ → Fields
 fieldsOf bytes = fieldsFrom (length bytes) bytes 0
 

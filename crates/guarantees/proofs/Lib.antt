@@ -1,1 +1,2 @@
+-- The laws that the proofs of `guarantees`, and of the crates above it, use.
 pub mod MarkedHold

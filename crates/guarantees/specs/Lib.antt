@@ -1,1 +1,2 @@
+-- The definitions of `guarantees`.
 pub mod Marked

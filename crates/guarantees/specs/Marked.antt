@@ -1,4 +1,4 @@
--- The cases that document 01 marks, gathered in one list of statements. One theorem covers the list: `all-hold` of proofs/MarkedHold.antt.
+-- The cases that document 01 marks, and its examples in bytes, gathered in one list of statements. One theorem covers the list: `all-hold` of proofs/MarkedHold.antt.
 -- Assumes nothing.
 use mathlib.Core.Path.{_≡_}
 use mathlib.Core.List.{List, [], _∷_}

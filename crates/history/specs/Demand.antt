@@ -32,15 +32,15 @@ pub record Holds (b : Book) (h : History) : Type 0 where
 
 -- for every list of calls, refused ones included
 pub record Kept (calls : List Call) : Type 0 where
-  -- (a) the answers are the history's
+  -- the answers are the history's
   pub answers : filedAnswers freshBook calls ≡ notedAnswers plain calls
-  -- (b) the final book holds exactly the history's operators, settings, marks, rates, indices and totals
+  -- the final book holds exactly the history's operators, settings, marks, rates, indices and totals
   pub held : Holds (bookOf calls) (historyOf calls)
   -- no figure has more withdrawn than filed, so that its total is their difference
   pub covered : (operator year figure : ℕ) → historyOf calls .withdrawn operator year figure ≤ historyOf calls .filed operator year figure
-  -- (d) the final book is in range, so no call was answered by the book's own 5
+  -- the final book is in range, so no call was answered by the book's own 5
   pub in-range : inRange (bookOf calls) ≡ true
 
--- (c) for every two lists the final books are equal exactly when the histories are the same
+-- for every two lists the final books are equal exactly when the histories are the same
 abbrev pub EqualAsHistories : List Call → List Call → Type 0
 EqualAsHistories calls others = (bookOf calls ≡ bookOf others) ↔ Same (historyOf calls) (historyOf others)

@@ -1,2 +1,3 @@
+-- The definitions of `history`.
 pub mod History
 pub mod Demand

@@ -1,3 +1,4 @@
+-- The laws that the proofs of `indicators`, and of the crates above it, use.
 pub mod Largest
 pub mod Weighting
 pub mod OnesLaws

@@ -1,3 +1,4 @@
+-- The definitions of `ledger`.
 pub mod Table
 pub mod Calls
 pub mod Entering

@@ -1,1 +1,2 @@
+-- The definitions of `output`.
 pub mod Output

@@ -1,5 +1,5 @@
-// The program: reads `filing.q` from the folder that it is run in, and prints its settlement or its refusal. All decisions are those of
-// `output`; here is only reading and writing.
+// The program: reads `filing.q` from the folder that it is run in, and prints its settlement or its refusal. What is printed for the
+// bytes of a filing is `output`'s to say; here is reading and writing, and what a file that cannot be opened or read counts as.
 ghost use Rattle.io.specs.Counts.{Counts};
 use libc::ENOENT;
 use libc::STDOUT_FILENO;
@@ -7,8 +7,8 @@ use output::output;
 
 const NAME: [u8; 8] = *b"filing.q";
 
-// One byte more than a filing may have, so that a longer one shows.
 fn main() {
+    // One byte more than a filing may have, so that a longer one shows.
     let mut filing = [0u8; 65537];
     let length = read_filing(&mut filing);
     let error = os::errno();

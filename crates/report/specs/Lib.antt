@@ -1,2 +1,3 @@
+-- The definitions of `report`.
 pub mod Lines
 pub mod Steps

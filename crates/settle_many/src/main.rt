@@ -1,8 +1,9 @@
-// Settles a full book of sixteen operators as often as it has arguments, each time with another income, and prints one number made of
-// all adjustments. It is for counting the instructions of one settlement: docs/ARCHITECTURE.md says how.
+// Settles a full book of sixteen operators as often as it has arguments, each time with another income, and prints the sum of
+// operator 0's returns. It is for counting the instructions of one settlement: docs/ARCHITECTURE.md says how.
 ghost use Prim.Native.Nat.{_<_};
 use book::Book;
 use calls::Answer;
+use libc::STDOUT_FILENO;
 
 fn main() {
     let b = full_book();
@@ -13,10 +14,10 @@ fn main() {
         sum = std::num::wrapping_add_u64(sum, settled(b, i));
         i += 1;
     }
-    io::print_decimal(1, sum);
+    io::print_decimal(STDOUT_FILENO, sum);
 }
 
-// The settlement of the book with one income changed, folded into a number.
+// What operator 0 gets back from the book with one income changed.
 fn settled(b: Book, i: usize) -> u64 {
     let mut next = b;
     next.settings[2] = 1000000000 + (i % 1000) as u64;

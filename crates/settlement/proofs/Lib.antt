@@ -1,3 +1,4 @@
+-- The laws that the proofs of `settlement`, and of the crates above it, use.
 pub mod InRange
 pub mod Signs
 pub mod DifferenceLaws

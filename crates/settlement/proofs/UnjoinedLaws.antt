@@ -23,7 +23,7 @@ use Rattle.indicators.specs.Points.{points}
 use Rattle.values.proofs.Tables.{length-each, each-at}
 use Rattle.indicators.proofs.PointLaws.{reliable-joined, points-none}
 use Rattle.settlement.specs.Money.{accessPoints, pot, contributions, returnWeights, returns, limits, adjustments}
-use Rattle.settlement.specs.Laws.{AllNought}
+use Rattle.settlement.specs.Laws.{AllNought, NoughtIfApart}
 use Rattle.settlement.proofs.SettledLaws.{within-limits}
 
 -- a share by a weight of 0
@@ -68,8 +68,8 @@ module _ (b : Book) (ranged : inRange b ≡ true) (operator : ℕ) (lt : operato
     adjustment-none : getD (adjustments b indicators) operator (pos 0) ≡ pos 0
     adjustment-none = no-size _ (omega (arith, within-limits b indicators operator lt, limit-none))
 
-    pub all-nought : AllNought b indicators operator
-    all-nought =
+    nought : AllNought b indicators operator
+    nought =
         record {
           points-nought = points-unjoined;
           contribution-nought = contribution-none;
@@ -77,3 +77,6 @@ module _ (b : Book) (ranged : inRange b ≡ true) (operator : ℕ) (lt : operato
           limit-nought = limit-none;
           adjustment-nought = adjustment-none;
         }
+
+pub all-nought : (b : Book) (indicators : List Indicator) (operator : ℕ) → NoughtIfApart b indicators operator
+all-nought b indicators operator ranged lt apart = nought b ranged operator lt apart indicators

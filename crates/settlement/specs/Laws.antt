@@ -1,7 +1,7 @@
 -- What holds of every book that settles, over a list of indicators, and of operators not joined. Proofs: proofs/SettledLaws.antt and
 -- proofs/UnjoinedLaws.antt.
 -- Assumes nothing.
-use Prim.Native.Nat.{ℕ, _≤_, _<_}
+use Prim.Native.Nat.{ℕ, _^_, _≤_, _<_}
 use mathlib.Core.Path.{_≡_}
 use mathlib.Core.Bool.{true, false}
 use mathlib.Core.List.{List, [], _∷_}
@@ -9,7 +9,7 @@ use lib.Dec.{eqb}
 use lib.IntN.{ℤ, pos, natAbs, _+ℤ_}
 use lib.ListN.{getD}
 use Rattle.book.specs.declared.Book.{Book}
-use Rattle.book.specs.Book.{inRange}
+use Rattle.book.specs.Book.{isJoined, inRange}
 use Rattle.apportion.specs.Sum.{sum}
 use Rattle.values.specs.Indicator.{Indicator}
 use Rattle.indicators.specs.Points.{points}
@@ -47,6 +47,14 @@ module _ (b : Book) (indicators : List Indicator) where
     pub return-nought : getD (returns b indicators) operator 0 ≡ 0
     pub limit-nought : getD (limits b) operator 0 ≡ 0
     pub adjustment-nought : getD (adjustments b indicators) operator (pos 0) ≡ pos 0
+
+-- for every list of indicators worth points, every book of sixteen bits that settles is balanced
+abbrev pub BalancedIfSettles : Book → List Indicator → Type 0
+BalancedIfSettles b indicators = b .joined < 2 ^ 16 → Worth indicators → Settles b indicators → Balanced b indicators
+
+-- for every book in range, an operator not joined
+abbrev pub NoughtIfApart : Book → List Indicator → ℕ → Type 0
+NoughtIfApart b indicators operator = inRange b ≡ true → operator < 16 → isJoined b operator ≡ false → AllNought b indicators operator
 
 -- equal books give equal settlements or the same refusal
 abbrev pub SettleAlike : Book → Book → Type 0

@@ -1,3 +1,4 @@
+-- The definitions of `settlement`.
 pub mod Money
 pub mod Settlement
 pub mod Steps

@@ -1,3 +1,4 @@
+-- The laws that the proofs of `values`, and of the crates above it, use.
 pub mod Tables
 pub mod CountLaws
 pub mod InRange

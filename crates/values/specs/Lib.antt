@@ -1,3 +1,4 @@
+-- The definitions of `values`.
 pub mod Operators
 pub mod Indicator
 pub mod Steps

@@ -1,3 +1,5 @@
+-- `exact::append_bit` meets its contract.
+-- Assumes nothing.
 use borrow.Author.Needs.{needs}
 use native.Mathlib.Omega.{arith}
 use Rattle.exact.proofs.Product.{bit-times}

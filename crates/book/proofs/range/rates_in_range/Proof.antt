@@ -1,17 +1,17 @@
--- `book::range::rates_in_range` meets its contract.
+-- `book::range::rates_in_range` meets its contract: the rates of a book have the range of those that are filed.
 -- Assumes nothing.
-use borrow.Author.Tests.{lt-leb, le-leb}
+use borrow.Author.Needs.{needs}
+use Rattle.calls.specs.Call.{valuesInRange}
 use Rattle.book.specs.Book.{ratesInRange}
 use Rattle.book.proofs.range.rates_in_range.Statement.{statement}
 use Rattle.book.proofs.range.rates_in_range.Tie as tie
 
-returns : tie.Need-returns
-unfolding ratesInRange
-returns c = simp (lt-leb _ _ (c .if1 .taken))
+rates-in-range-requires : tie.Need-rates-in-range-requires
+rates-in-range-requires c κs = search needs
 
-returns-2 : tie.Need-returns-2
-unfolding ratesInRange
-returns-2 c = simp (le-leb _ _ (c .before .if1 .left))
+returns : tie.Need-returns
+unfolding ratesInRange valuesInRange
+returns c = c .rates-in-range .ensures
 
 pub rates-in-range-spec : {M : Type 1} → statement M
-rates-in-range-spec = tie.close (tie.spec returns returns-2)
+rates-in-range-spec = tie.close (tie.spec rates-in-range-requires returns)
