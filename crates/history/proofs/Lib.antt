@@ -1,6 +1,8 @@
+pub mod Bounds
 pub mod SlotLaws
 pub mod EntryLaws
 pub mod TableLaws
+pub mod RangeKept
 pub mod HistoryLaws
 pub mod ShapeLaws
 pub mod StepLaws
