@@ -1,14 +1,14 @@
--- A call keeps a book in range, whatever its lists' lengths are (specs/Demand.antt).
+-- A call keeps a book in range, whatever the lengths of its lists (specs/Demand.antt).
 -- Assumes nothing.
-use Prim.Native.Nat.{ℕ, zero, suc, _+_, _-_, _≤_, _<_}
-use mathlib.Core.Path.{_≡_, refl, ap}
-use mathlib.Core.Logic.{_⊎_, inl, inr, _≢_}
+use Prim.Native.Nat.{ℕ, _+_, _-_, _≤_, _<_}
+use mathlib.Core.Path.{_≡_, refl}
+use mathlib.Core.Logic.{inl, inr, _≢_}
 use mathlib.Core.Bool.{Bool, true, false, cond}
 use mathlib.Core.List.{List, [], _∷_}
 use native.Mathlib.Omega.{arith}
 use native.Mathlib.Decide.{ℕ-discrete}
 use lib.Dec.{eqb}
-use lib.ListN.{getD, set}
+use lib.ListN.{getD}
 use borrow.Author.Tests.{eqb-true, not-false}
 use Rattle.book.specs.declared.Book.{Book}
 use Rattle.calls.specs.declared.Call.{Call}
@@ -16,25 +16,18 @@ use Rattle.calls.specs.declared.Call.the-variants.{Join, Setting, Interruption,
 use Rattle.calls.specs.declared.Refusal.{Refusal}
 use Rattle.calls.specs.declared.Answer.{Answer}
 use Rattle.calls.specs.declared.Answer.the-variants.{Yes, Counted, LeftOut, Refused}
-use Rattle.calls.specs.Limits.{operators, figures, settings, indicators, settingLimit, figureLimit, rateLimit, indexLeast, indexMost}
+use Rattle.calls.specs.Limits.{operators, settings, indicators, settingLimit, figureLimit, rateLimit, indexLeast, indexMost}
 use Rattle.calls.specs.Masks.{has, including, excluding, remasked}
-use Rattle.calls.specs.Call.{Entry, entries, operatorOf, signOf, acceptance}
-use Rattle.book.specs.Book.{isJoined, isMarked, settingOf, figureOf, indexOf, settingSlot, figureSlot, most}
+use Rattle.calls.specs.Call.{Entry, entries, operatorOf, signOf}
+use Rattle.book.specs.Book.{isJoined, isMarked, settingOf, figureOf, indexOf, settingSlot, figureSlot, most, inRange}
 use Rattle.ledger.specs.Table.{lacksOperator, answerTo}
-use Rattle.ledger.specs.Calls.{withJoined, withMarks, withSettings, withFigures, withRates, withIndices, entered, enterAll, changed, refusedCall, answered, apply}
+use Rattle.ledger.specs.Calls.{withJoined, withMarks, withSettings, withFigures, withRates, withIndices, entered, enterAll, changed, refusedCall, answered, apply, file, filedBook}
 use Rattle.history.specs.Demand.{StaysInRange}
 use Rattle.calls.proofs.MaskLaws.{including-has, including-other, excluding-other}
 use Rattle.history.proofs.Bounds.{Bounds, bounded, in-range}
+use Rattle.history.proofs.SlotLaws.{store-holds}
 use Rattle.history.proofs.EntryLaws.{All, Within, Distinct, entries-within, entries-distinct}
-use Rattle.history.proofs.TableLaws.{Passed, Fits, all-fit, decided}
-
--- after a store each place holds what was stored there, or what it held before
-store-holds : (P : ℕ → Type 0) (l : List ℕ) (i v j : ℕ) → (j ≡ i → P v) → P (getD l j 0) → P (getD (set l i v) j 0)
-store-holds P [] i v j new old = old
-store-holds P (x ∷ l) zero v zero new old = new refl
-store-holds P (x ∷ l) zero v (suc j) new old = old
-store-holds P (x ∷ l) (suc i) v zero new old = old
-store-holds P (x ∷ l) (suc i) v (suc j) new old = store-holds P l i v j (λ e. new (ap suc e)) old
+use Rattle.history.proofs.TableLaws.{Passed, Decided, Fits, all-fit, decided}
 
 -- the mark of one operator leaves the others'
 remasked-other : (mask operator mark o : ℕ) → o ≢ operator → has (remasked mask operator mark) o ≡ has mask o
@@ -64,6 +57,7 @@ most-joined : (b : Book) (operator limit n : ℕ) → isJoined b operator ≡ tr
 unfolding most
 most-joined b operator limit n joined le = rw joined le
 
+-- one value of the book replaced: the others keep their bounds
 module _ (b : Book) (bounds : Bounds b) where
   join-bounds : (operator : ℕ) → Bounds (changed b (Join operator))
   unfolding changed withJoined settingOf figureOf isMarked indexOf isJoined most
@@ -114,6 +108,7 @@ module _ (b : Book) (bounds : Bounds b) where
         index = bounds .index;
       }
     where
+      -- the operator itself has joined, another's mark is as it was
       remarked : (o : ℕ) → o < operators → Dec (o ≡ operator) → has (remasked (getD (b .marks) indicator 0) operator mark) o ≡ true → isJoined b o ≡ true
       remarked o lo (yes same) marked = rw same joined
       remarked o lo (no other) marked = bounds .mark o indicator lo li (rw (remasked-other (getD (b .marks) indicator 0) operator mark o other) at marked)
@@ -145,6 +140,7 @@ module _ (b : Book) (bounds : Bounds b) where
 -- entries of a joined operator, filed where the sign is 0, else withdrawn
 module _ (operator sign : ℕ) (known : operator < operators) where
   module _ (b : Book) (entry : Entry) (within : Within entry) where
+    -- the figure that an entry makes
     moved-le : isJoined b operator ≡ true → Bounds b → (t : Bool) → (t ≡ true → Fits (figureOf b) operator entry)
         → cond t
         (figureOf b operator (entry .year) (entry .figure) + entry .value)
@@ -200,6 +196,7 @@ module _ (operator sign : ℕ) (known : operator < operators) where
 
 -- an accepted call keeps the bounds
 module _ (b : Book) (bounds : Bounds b) where
+  -- an interruption or an amount
   call-entries-bounds : (call : Call) → Passed (isJoined b) (figureOf b) call → isJoined b (operatorOf call) ≡ true
       → Bounds (enterAll (operatorOf call) (signOf call) b (entries call))
   call-entries-bounds call passed joined =
@@ -221,24 +218,36 @@ module _ (b : Book) (bounds : Bounds b) where
   changed-bounds (Rates pot cap) passed = rates-bounds b bounds pot cap (passed .in-range .0) (passed .in-range .1)
   changed-bounds (Index number value) passed = index-bounds b bounds number value (passed .in-range .1) (passed .in-range .2)
 
--- the book after a call is the old one or the changed one
-old-or-changed : (P : Book → Type 0) (old new : Book) (answer : Answer) → P old → P new → P (answered old new answer .book)
+-- the book after a call is the old one or the changed one, after a refused call the old one
+either-bounds : (old new : Book) (answer : Answer) → Bounds old → Bounds new → Bounds (answered old new answer .book)
 unfolding answered refusedCall
-old-or-changed P old new Yes stays moves = moves
-old-or-changed P old new (Counted year) stays moves = moves
-old-or-changed P old new (LeftOut reason) stays moves = moves
-old-or-changed P old new (Refused refusal) stays moves = stays
+either-bounds old new Yes before after = after
+either-bounds old new (Counted year) before after = after
+either-bounds old new (LeftOut reason) before after = after
+either-bounds old new (Refused refusal) before after = before
 
-refused-old : (P : Book → Type 0) (old new : Book) (refusal : Refusal) → P old → P (answered old new (Refused refusal) .book)
+refused-bounds : (old new : Book) (refusal : Refusal) → Bounds old → Bounds (answered old new (Refused refusal) .book)
 unfolding answered refusedCall
-refused-old P old new refusal stays = stays
+refused-bounds old new refusal before = before
 
+-- a call, accepted or refused
 pub stays : (b : Book) (call : Call) → StaysInRange b call
 unfolding apply
 stays b call ranged = in-range _ (go (answerTo (isJoined b) (figureOf b) call) (decided (isJoined b) (figureOf b) call))
   where
-    go : (answer : Answer)
-        → ((answer ≡ acceptance call) × Passed (isJoined b) (figureOf b) call) ⊎ ((refusal : Refusal) × (answer ≡ Refused refusal))
-        → Bounds (answered b (changed b call) answer .book)
-    go answer (inl (e, passed)) = old-or-changed Bounds b (changed b call) answer (bounded b ranged) (changed-bounds b (bounded b ranged) call passed)
-    go answer (inr (refusal, e)) = rw e (refused-old Bounds b (changed b call) refusal (bounded b ranged))
+    bounds : Bounds b
+    bounds = bounded b ranged
+
+    go : (answer : Answer) → Decided (isJoined b) (figureOf b) call answer → Bounds (answered b (changed b call) answer .book)
+    go answer (inl (e, passed)) = either-bounds b (changed b call) answer bounds (changed-bounds b bounds call passed)
+    go answer (inr (refusal, e)) = rw e (refused-bounds b (changed b call) refusal bounds)
+
+-- the same of a call on any book, and of a list of calls
+pub filed-stays : (b : Book) (call : Call) → inRange b ≡ true → inRange (file b call .book) ≡ true
+unfolding file
+filed-stays b call ranged = rw ranged (stays b call ranged)
+
+pub all-stay : (calls : List Call) (b : Book) → inRange b ≡ true → inRange (filedBook b calls) ≡ true
+unfolding filedBook
+all-stay [] b ranged = ranged
+all-stay (call ∷ rest) b ranged = all-stay rest (file b call .book) (filed-stays b call ranged)
