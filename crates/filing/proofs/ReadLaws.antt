@@ -15,6 +15,7 @@ use Rattle.book.specs.Book.{freshBook, inRange}
 use Rattle.ledger.specs.Calls.{apply, file, filedBook, filedAnswers}
 use Rattle.history.specs.Demand.{bookOf}
 use Rattle.history.proofs.Kept.{kept}
+use Rattle.history.proofs.RangeKept.{filed-stays}
 use Rattle.fields.specs.declared.Field.{Field}
 use Rattle.fields.specs.declared.Field.the-variants.{Filing, End, Refused}
 use Rattle.filing.specs.declared.Reading.{Reading}
@@ -23,21 +24,15 @@ use Rattle.filing.specs.Reader.{Fields, field, ended, broken, followed, 
 use Rattle.filing.specs.Laws.{callsIn, offsetsIn, ending, ReadAsCalls}
 use Rattle.fields.proofs.FieldLaws.{Stands, stands}
 
--- a book that stays in range whatever is filed to it
-abbrev Sound : Book → Type 0
-Sound b = (calls : List Call) → inRange (filedBook b calls) ≡ true
-
 filed-more : (b : Book) (calls more : List Call) → filedBook b (calls ++ more) ≡ filedBook (filedBook b calls) more
 unfolding filedBook
 filed-more b [] more = refl
 filed-more b (call ∷ calls) more = filed-more (file b call .book) calls more
 
-kept-sound : (calls : List Call) → Sound (bookOf calls)
-kept-sound calls more = rw (filed-more freshBook calls more) at (kept (calls ++ more) .in-range)
-
-applied-as-filed : (b : Book) (call : Call) → Sound b → file b call ≡ apply b call
-unfolding file filedBook
-applied-as-filed b call sound = rw (sound []) refl
+-- a book in range gets no 5 of its own
+applied-as-filed : (b : Book) (call : Call) → inRange b ≡ true → file b call ≡ apply b call
+unfolding file
+applied-as-filed b call ranged = rw ranged refl
 
 -- a run of fields of which so many were applied
 record Runs (b : Book) (fields : Fields) (many : ℕ) (r : Reading) : Type 0 where
@@ -108,21 +103,17 @@ module _ (call : Call) (at : ℕ) (rest : Fields) (b : Book) (applied : ℕ) whe
     },
   )
 
-  one-more : Sound b → RunsFrom (file b call .book) rest (suc applied) (run (file b call .book) (suc applied) rest)
+  one-more : inRange b ≡ true → RunsFrom (file b call .book) rest (suc applied) (run (file b call .book) (suc applied) rest)
       → RunsFrom b (field call at rest) applied (run b applied (field call at rest))
   unfolding run
-  one-more sound later = rw (← applied-as-filed b call sound) (by-answer (isRefused (file b call .answer)) refl later)
+  one-more ranged later = rw (← applied-as-filed b call ranged) (by-answer (isRefused (file b call .answer)) refl later)
 
-sound-later : (b : Book) (call : Call) → Sound b → Sound (file b call .book)
-unfolding filedBook
-sound-later b call sound calls = sound (call ∷ calls)
-
-runs : (fields : Fields) (b : Book) (applied : ℕ) → Sound b → RunsFrom b fields applied (run b applied fields)
+runs : (fields : Fields) (b : Book) (applied : ℕ) → inRange b ≡ true → RunsFrom b fields applied (run b applied fields)
 unfolding run callsIn offsetsIn ending
-runs (ended at) b applied sound = no-call (ended at) at refl refl b applied
-runs (broken refusal at) b applied sound = no-call (broken refusal at) at refl refl b applied
-runs (field call at rest) b applied sound =
-    one-more call at rest b applied sound (runs rest (file b call .book) (suc applied) (sound-later b call sound))
+runs (ended at) b applied ranged = no-call (ended at) at refl refl b applied
+runs (broken refusal at) b applied ranged = no-call (broken refusal at) at refl refl b applied
+runs (field call at rest) b applied ranged =
+    one-more call at rest b applied ranged (runs rest (file b call .book) (suc applied) (filed-stays b call ranged))
 
 -- a run that nothing refuses gets to the end: as many fields are allowed as bytes are left
 abbrev ToTheEnd : List ℕ → Reading → Type 0
@@ -156,8 +147,9 @@ pub read-as-calls : (calls : List Call) (bytes : List ℕ) → ReadAsCalls calls
 unfolding fieldsOf
 read-as-calls calls bytes =
     let b : Book = bookOf calls in
-    let reads : read b bytes ≡ run b 0 (fieldsOf bytes) = read-runs b bytes (kept calls .in-range) in
-    let found : RunsFrom b (fieldsOf bytes) 0 (read b bytes) = rw reads (runs (fieldsOf bytes) b 0 (kept-sound calls)) in
+    let ranged : inRange b ≡ true = kept calls .in-range in
+    let reads : read b bytes ≡ run b 0 (fieldsOf bytes) = read-runs b bytes ranged in
+    let found : RunsFrom b (fieldsOf bytes) 0 (read b bytes) = rw reads (runs (fieldsOf bytes) b 0 ranged) in
     let many : read b bytes .applied ≡ found .0 = omega (arith, found .1) in
     let ran : Runs b (fieldsOf bytes) (read b bytes .applied) (read b bytes) =
     subst (λ (n : ℕ). Runs b (fieldsOf bytes) n (read b bytes)) (sym many) (found .2) in

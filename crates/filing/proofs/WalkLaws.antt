@@ -12,9 +12,10 @@ use Rattle.calls.specs.declared.Answer.{Answer}
 use Rattle.calls.specs.declared.Answer.the-variants.{Yes, Counted, LeftOut, Refused as Refusing}
 use Rattle.book.specs.declared.Book.{Book}
 use Rattle.ledger.specs.declared.Filed.{Filed}
-use Rattle.book.specs.Book.{isJoined, figureOf}
+use Rattle.book.specs.Book.{isJoined, figureOf, inRange}
 use Rattle.ledger.specs.Table.{answerTo}
 use Rattle.ledger.specs.Calls.{changed, refusedCall, answered, apply}
+use Rattle.history.proofs.RangeKept.{stays}
 use Rattle.fields.specs.declared.Field.{Field}
 use Rattle.fields.specs.declared.Field.the-variants.{Filing, End, Refused}
 use Rattle.filing.specs.declared.Reading.{Reading}
@@ -60,12 +61,13 @@ completed bytes walk =
 unfoldable pub remaining : List ℕ → Walk → ℕ
 remaining bytes walk = cond (walk .continues) (suc (length bytes - walk .reading .offset)) 0
 
-abbrev pub Inside : List ℕ → Reading → Type 0
-Inside bytes r = (r .applied ≤ r .offset) × (r .offset ≤ length bytes)
+-- what a step asks of a reading: an offset inside the filing, and a book in range
+abbrev pub Ready : List ℕ → Reading → Type 0
+Ready bytes r = (r .applied ≤ r .offset) × (r .offset ≤ length bytes) × (inRange (r .book) ≡ true)
 
--- a walk that follows a reading: its offset is inside, and less is left to read
+-- a walk that follows a reading: it is ready for a step again, and less is left to read
 pub record Follows (bytes : List ℕ) (r : Reading) (walk : Walk) : Type 0 where
-  pub inside : Inside bytes (walk .reading)
+  pub ready : Ready bytes (walk .reading)
   pub less : remaining bytes walk < suc (length bytes - r .offset)
 
 module _ (bytes : List ℕ) (r : Reading) where
@@ -89,16 +91,17 @@ module _ (bytes : List ℕ) (r : Reading) where
       go End = refl
       go (Refused refusal) = refl
 
-  pub step-follows : Inside bytes r → Follows bytes r (stepped r (fieldAt bytes (r .offset)))
+  pub step-follows : Ready bytes r → Follows bytes r (stepped r (fieldAt bytes (r .offset)))
   unfolding remaining stepped stopped advanced held moved reading
-  step-follows inside = go (fieldAt bytes (r .offset)) (stands bytes (r .offset))
+  step-follows (counted, inside, ranged) = go (fieldAt bytes (r .offset)) (stands bytes (r .offset))
     where
-      by-answer : (filed : Filed) (next : ℕ) (refused : Bool) → (r .offset + 3 ≤ next) × (next ≤ length bytes)
+      by-answer : (filed : Filed) (next : ℕ) (refused : Bool) → inRange (filed .book) ≡ true → (r .offset + 3 ≤ next) × (next ≤ length bytes)
           → Follows bytes r (cond refused (held r filed) (moved r next filed))
-      by-answer filed next true placed = record { inside = inside; less = omega arith }
-      by-answer filed next false placed = record { inside = (omega arith, omega arith); less = omega arith }
+      by-answer filed next true kept placed = record { ready = (counted, inside, kept); less = omega arith }
+      by-answer filed next false kept placed = record { ready = (omega arith, omega arith, kept); less = omega arith }
 
       go : (found : Field) → Stands bytes (r .offset) found → Follows bytes r (stepped r found)
-      go (Filing call next) placed = by-answer (apply (r .book) call) next (isRefused (apply (r .book) call .answer)) placed
-      go End placed = record { inside = inside; less = omega arith }
-      go (Refused refusal) placed = record { inside = inside; less = omega arith }
+      go (Filing call next) placed =
+          by-answer (apply (r .book) call) next (isRefused (apply (r .book) call .answer)) (stays (r .book) call ranged) placed
+      go End placed = record { ready = (counted, inside, ranged); less = omega arith }
+      go (Refused refusal) placed = record { ready = (counted, inside, ranged); less = omega arith }

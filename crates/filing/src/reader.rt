@@ -1,7 +1,9 @@
 // Reading a filing into a book: its fields applied in order, up to the first refusal.
 ghost use mathlib.Core.Path.{_≡_};
+ghost use mathlib.Core.Bool.{true};
 ghost use Prim.Native.Nat.{_≤_, _<_};
 ghost use lib.ListN.{length};
+ghost use Rattle.book.specs.Book.{inRange};
 ghost use Rattle.ledger.specs.Calls.{apply as Calls·apply};
 ghost use Rattle.fields.specs.Field.{fieldAt};
 ghost use Rattle.filing.specs.Reader.{isRefused, read as Reader·read};
@@ -50,7 +52,7 @@ pub fn read(b: Book, bytes: &[u8]) -> Reading
 
 // The field at the offset.
 fn step(reached: Reading, bytes: &[u8]) -> Walk
-    requires { ⌜ (reached .applied ≤ reached .offset) × (reached .offset ≤ length (now bytes)) ⌝ }
+    requires { ⌜ (reached .applied ≤ reached .offset) × (reached .offset ≤ length (now bytes)) × (inRange (reached .book) ≡ true) ⌝ }
     ensures { λ r. ⌜ r ≡ stepped reached (fieldAt (now (bytes .entry)) (reached .offset)) ⌝ }
 {
     match field_at(bytes, reached.offset) {
@@ -62,7 +64,7 @@ fn step(reached: Reading, bytes: &[u8]) -> Walk
 
 // A call applied; one that is refused leaves the book, the number applied and the offset.
 fn advance(reached: Reading, filing_call: Call, next: usize) -> Walk
-    requires { ⌜ reached .applied < next ⌝ }
+    requires { ⌜ (reached .applied < next) × (inRange (reached .book) ≡ true) ⌝ }
     ensures { λ r. ⌜ r ≡ advanced reached next (Calls·apply (reached .book) «filing_call») ⌝ }
 {
     let filed = apply(reached.book, filing_call);

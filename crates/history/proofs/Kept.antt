@@ -2,32 +2,32 @@
 -- Assumes nothing.
 use Prim.Native.Nat.{ℕ, _/_, _%_, _<_}
 use mathlib.Core.Path.{_≡_, refl, sym, ap, ap₂, subst, _∙_}
-use mathlib.Core.Logic.{_⊎_, inl, inr}
-use mathlib.Core.Bool.{Bool, true, false, not, _||_}
+use mathlib.Core.Logic.{inl, inr}
+use mathlib.Core.Bool.{true}
 use mathlib.Core.List.{List, [], _∷_}
 use native.Mathlib.Omega.{arith}
 use lib.ListN.{length, getD, getD-replicate}
 use lib.Seq.{ext-getD}
-use borrow.Author.Tests.{le-leb}
 use Rattle.book.specs.declared.Book.{Book}
 use Rattle.ledger.specs.declared.Filed.{Filed}
 use Rattle.calls.specs.declared.Call.{Call}
 use Rattle.calls.specs.declared.Refusal.{Refusal}
 use Rattle.calls.specs.declared.Answer.{Answer}
 use Rattle.calls.specs.declared.Answer.the-variants.{Yes, Counted, LeftOut, Refused}
-use Rattle.calls.specs.Limits.{operators, years, figures, settings, indicators, indexNumbers, indexLeast, indexMost}
+use Rattle.calls.specs.Limits.{operators, years, figures, settings}
+use Rattle.calls.specs.Masks.{has}
+use Rattle.book.specs.Every.{every}
 use Rattle.book.specs.Book.{freshBook, isJoined, isMarked, settingOf, figureOf, indexOf, settingSlot, figureSlot, most, settingsInRange, figuresInRange, marksInRange, indicesInRange, ratesInRange, inRange}
 use Rattle.calls.specs.Call.{acceptance}
 use Rattle.ledger.specs.Calls.{changed, refusedCall, answered, apply, file, filedBook, filedAnswers}
 use Rattle.history.specs.History.{History, plain, total, recorded, after, noteAnswer, noteHistory, notedHistory, notedAnswers, Same}
 use Rattle.history.specs.Demand.{bookOf, historyOf, Holds, Kept, EqualAsHistories}
-use Rattle.calls.proofs.Flags.{and-true}
 use Rattle.calls.proofs.Acceptance.{Accepts, accepts}
-use Rattle.book.proofs.EveryLaws.{every-of-each}
 use Rattle.calls.proofs.MaskLaws.{has-zero, same-bits}
 use Rattle.history.proofs.SlotLaws.{setting-slot-lt, figure-slot-lt, setting-place, figure-place}
-use Rattle.history.proofs.TableLaws.{Passed, decided, same-answer}
-use Rattle.history.proofs.HistoryLaws.{Ranged, plain-ranged, recorded-ranged}
+use Rattle.history.proofs.TableLaws.{Passed, Decided, decided, same-answer}
+use Rattle.history.proofs.RangeKept.{filed-stays, all-stay}
+use Rattle.history.proofs.HistoryLaws.{AllCovered, plain-covered, recorded-covered}
 use Rattle.history.proofs.ShapeLaws.{Shaped, fresh-shaped, changed-shaped}
 use Rattle.history.proofs.StepLaws.{changed-holds}
 
@@ -35,7 +35,7 @@ use Rattle.history.proofs.StepLaws.{changed-holds}
 record Agrees (b : Book) (h : History) : Type 0 where
   shape : Shaped b
   held : Holds b h
-  ranged : Ranged h
+  covered : AllCovered h
 
 fresh-holds : Holds freshBook plain
 unfolding freshBook plain isJoined isMarked settingOf figureOf indexOf total
@@ -50,46 +50,10 @@ fresh-holds =
       totals = λ o y f lo ly lf. getD-replicate {A = ℕ} 384 (figureSlot o y f) 0 0 (figure-slot-lt o y f lo ly lf);
     }
 
--- a book that holds what a history in range holds is in range
-module _ (b : Book) (h : History) (held : Holds b h) (ranged : Ranged h) where
-  settings-in : settingsInRange b ≡ true
-  unfolding settingsInRange most
-  settings-in =
-      every-of-each operators _
-      (λ o lo. every-of-each settings _ (λ w lw. rw (held .setting o w lo lw, held .joined o lo) (le-leb _ _ (ranged .setting o w))))
-
-  figures-in : figuresInRange b ≡ true
-  unfolding figuresInRange most
-  figures-in =
-      every-of-each operators _
-      (λ o lo. every-of-each years _
-      (λ y ly. every-of-each figures _
-      (λ f lf. rw (held .totals o y f lo ly lf, held .joined o lo) (le-leb _ _ (ranged .figure o y f)))))
-
-  marks-in : marksInRange b ≡ true
-  unfolding marksInRange
-  marks-in =
-      every-of-each indicators _
-      (λ i li. every-of-each operators _
-      (λ o lo. rw (held .mark o i lo li, held .joined o lo) (implied (h .mark o i) (h .joined o) (ranged .mark o i))))
-    where
-      implied : (s t : Bool) → (s ≡ true → t ≡ true) → not s || t ≡ true
-      implied true t f = f refl
-      implied false t f = refl
-
-  indices-in : indicesInRange b ≡ true
-  unfolding indicesInRange
-  indices-in =
-      every-of-each indexNumbers _
-      (λ n lt. rw (held .index n lt) (and-true (le-leb indexLeast _ (ranged .index-least n)) (le-leb _ indexMost (ranged .index-most n))))
-
-  rates-in : ratesInRange b ≡ true
-  unfolding ratesInRange
-  rates-in = rw (held .pot, held .cap) (and-true (le-leb _ _ (ranged .pot)) (le-leb _ _ (ranged .cap)))
-
-  all-in : inRange b ≡ true
-  unfolding inRange
-  all-in = and-true (and-true (and-true (and-true settings-in figures-in) marks-in) rates-in) indices-in
+-- found by testing each of its values
+fresh-in-range : inRange freshBook ≡ true
+unfolding inRange settingsInRange figuresInRange marksInRange ratesInRange indicesInRange isJoined isMarked settingOf figureOf indexOf settingSlot figureSlot most freshBook every has
+fresh-in-range = refl
 
 -- book and history move together
 together : (b c : Book) (h g : History) (answer : Answer) → Accepts answer → Agrees c g → Agrees (answered b c answer .book) (after h g answer)
@@ -111,12 +75,12 @@ same-said b c (LeftOut reason) = refl
 same-said b c (Refused refusal) = refl
 
 -- one call
-module _ (b : Book) (h : History) (now : Agrees b h) (call : Call) where
+module _ (b : Book) (h : History) (ranged : inRange b ≡ true) (now : Agrees b h) (call : Call) where
   filed-as : file b call ≡ answered b (changed b call) (noteAnswer h call)
   unfolding file apply noteAnswer
   filed-as =
       rw (
-        all-in b h (now .held) (now .ranged),
+        ranged,
         same-answer (isJoined b) (h .joined) (figureOf b) (total h) (now .held .joined) (now .held .totals) call,
       )
       refl
@@ -125,16 +89,15 @@ module _ (b : Book) (h : History) (now : Agrees b h) (call : Call) where
   accepted passed =
       record {
         shape = changed-shaped b call (now .shape) (passed .known) (passed .in-range);
-        held = changed-holds b h call (now .shape) (now .held) (now .ranged) (passed .known) (passed .in-range);
-        ranged = recorded-ranged h (now .ranged) call passed;
+        held = changed-holds b h call (now .shape) (now .held) (now .covered) (passed .known) (passed .in-range);
+        covered = recorded-covered h (now .covered) call passed;
       }
 
   next : Agrees (file b call .book) (noteHistory h call)
   unfolding noteHistory noteAnswer
   next = rw filed-as (go (noteAnswer h call) (decided (h .joined) (total h) call))
     where
-      go : (answer : Answer)
-          → ((answer ≡ acceptance call) × Passed (h .joined) (total h) call) ⊎ ((refusal : Refusal) × (answer ≡ Refused refusal))
+      go : (answer : Answer) → Decided (h .joined) (total h) call answer
           → Agrees (answered b (changed b call) answer .book) (after h (recorded h call) answer)
       go answer (inl (e, passed)) = rw e (together b (changed b call) h (recorded h call) (acceptance call) (accepts call) (accepted passed))
       go answer (inr (refusal, e)) = rw e (refused b (changed b call) h (recorded h call) refusal now)
@@ -143,27 +106,27 @@ module _ (b : Book) (h : History) (now : Agrees b h) (call : Call) where
   next-answer = ap (λ (filed : Filed). filed .answer) filed-as ∙ same-said b (changed b call) (noteAnswer h call)
 
 -- a list of calls
-kept-from : (calls : List Call) (b : Book) (h : History) → Agrees b h
+kept-from : (calls : List Call) (b : Book) (h : History) → inRange b ≡ true → Agrees b h
     → (filedAnswers b calls ≡ notedAnswers h calls) × Agrees (filedBook b calls) (notedHistory h calls)
 unfolding filedAnswers notedAnswers filedBook notedHistory
-kept-from [] b h now = (refl, now)
-kept-from (call ∷ rest) b h now =
-    let later = kept-from rest _ _ (next b h now call) in
-    (ap₂ _∷_ (next-answer b h now call) (later .0), later .1)
+kept-from [] b h ranged now = (refl, now)
+kept-from (call ∷ rest) b h ranged now =
+    let later = kept-from rest _ _ (filed-stays b call ranged) (next b h ranged now call) in
+    (ap₂ _∷_ (next-answer b h ranged now call) (later .0), later .1)
 
 fresh : Agrees freshBook plain
-fresh = record { shape = fresh-shaped; held = fresh-holds; ranged = plain-ranged }
+fresh = record { shape = fresh-shaped; held = fresh-holds; covered = plain-covered }
 
 agree : (calls : List Call) → Agrees (bookOf calls) (historyOf calls)
-agree calls = kept-from calls freshBook plain fresh .1
+agree calls = kept-from calls freshBook plain fresh-in-range fresh .1
 
 pub kept : (calls : List Call) → Kept calls
 kept calls =
     record {
-      answers = kept-from calls freshBook plain fresh .0;
+      answers = kept-from calls freshBook plain fresh-in-range fresh .0;
       held = agree calls .held;
-      covered = agree calls .ranged .covered;
-      in-range = all-in (bookOf calls) (historyOf calls) (agree calls .held) (agree calls .ranged);
+      covered = agree calls .covered;
+      in-range = all-stay calls freshBook fresh-in-range;
     }
 
 -- two histories that one book holds are the same

@@ -1,9 +1,9 @@
 -- Where settings and figures stand: every place of the two lists is one slot, and a store at a slot changes that place alone.
 -- Assumes nothing.
-use Prim.Native.Nat.{ℕ, _/_, _%_, _<_}
-use mathlib.Core.Path.{_≡_, refl}
+use Prim.Native.Nat.{ℕ, zero, suc, _/_, _%_, _<_}
+use mathlib.Core.Path.{_≡_, refl, ap}
 use mathlib.Core.Bool.{Bool, true, false, cond, _&&_}
-use mathlib.Core.List.{List}
+use mathlib.Core.List.{List, [], _∷_}
 use native.Mathlib.Omega.{arith}
 use lib.Dec.{eqb}
 use lib.ListN.{length, getD, set}
@@ -19,6 +19,14 @@ stored l i v j lt = go (eqb j i) refl
     go : (t : Bool) → eqb j i ≡ t → getD (set l i v) j 0 ≡ cond t v (getD l j 0)
     go true e = rw (eqb-true j i e) (getD-set-same l i v 0 lt)
     go false e = getD-set-other l i j v 0 (eqb-false j i e)
+
+-- what holds of the value stored and of the value before holds after a store, also of one that falls outside the list
+pub store-holds : (P : ℕ → Type 0) (l : List ℕ) (i v j : ℕ) → (j ≡ i → P v) → P (getD l j 0) → P (getD (set l i v) j 0)
+store-holds P [] i v j new old = old
+store-holds P (x ∷ l) zero v zero new old = new refl
+store-holds P (x ∷ l) zero v (suc j) new old = old
+store-holds P (x ∷ l) (suc i) v zero new old = old
+store-holds P (x ∷ l) (suc i) v (suc j) new old = store-holds P l i v j (λ e. new (ap suc e)) old
 
 pub setting-slot-lt : (operator which : ℕ) → operator < operators → which < settings → settingSlot operator which < 48
 unfolding settingSlot

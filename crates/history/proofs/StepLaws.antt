@@ -1,9 +1,10 @@
 -- What one accepted call does to what a book holds is what it does to the history.
 -- Assumes nothing.
-use Prim.Native.Nat.{ℕ, _+_, _-_, _≤_, _<_}
+use Prim.Native.Nat.{ℕ, _+_, _-_, _<_}
 use mathlib.Core.Path.{_≡_, refl, ap, _∙_}
 use mathlib.Core.Bool.{Bool, true, false, cond, _&&_, false≢true}
 use mathlib.Core.List.{List, [], _∷_}
+use native.Mathlib.Nat.{le-trans}
 use native.Mathlib.Omega.{arith}
 use lib.Dec.{eqb}
 use lib.ListN.{getD, set}
@@ -17,14 +18,14 @@ use Rattle.book.specs.Book.{isJoined, isMarked, settingOf, figureOf, indexOf, s
 use Rattle.calls.specs.Call.{Entry, operatorOf}
 use Rattle.ledger.specs.Calls.{withJoined, withMarks, withSettings, withFigures, withRates, withIndices, entered, enterAll, changed}
 use Rattle.calls.specs.Masks.{remasked}
-use Rattle.history.specs.History.{History, total, at1, at2, summed, summedAll, enteredIn, recorded}
+use Rattle.history.specs.History.{History, total, at1, at2, summedAll, enteredIn, recorded}
 use Rattle.history.specs.Demand.{Holds}
 use Rattle.calls.proofs.Flags.{and-true-right, and-false-right}
 use Rattle.calls.proofs.MaskLaws.{including-has, excluding-has}
 use Rattle.history.proofs.SlotLaws.{stored, setting-slot-lt, figure-slot-lt, same-setting-slot, same-figure-slot}
 use Rattle.calls.proofs.RangeLaws.{Ranges}
 use Rattle.history.proofs.EntryLaws.{All, Within, here, at-place, summed-here, summed-elsewhere, entries-within}
-use Rattle.history.proofs.HistoryLaws.{Ranged}
+use Rattle.history.proofs.HistoryLaws.{AllCovered, summed-grows}
 use Rattle.history.proofs.ShapeLaws.{Shaped, entered-shaped}
 
 module _ (b : Book) (h : History) (shape : Shaped b) (held : Holds b h) where
@@ -138,7 +139,7 @@ moved t operator list h =
 
 -- to file needs no more withdrawn than filed
 abbrev Backed : Bool → History → Type 0
-Backed t h = t ≡ true → (k y f : ℕ) → h .withdrawn k y f ≤ h .filed k y f
+Backed t h = t ≡ true → AllCovered h
 
 module _ (operator sign : ℕ) (lo : operator < operators) where
   -- a figure after an entry
@@ -192,12 +193,8 @@ module _ (operator sign : ℕ) (lo : operator < operators) where
         }
 
     entry-backed : (t : Bool) → Backed t h → Backed t (moved t operator (entry ∷ []) h)
-    unfolding summedAll summed
-    entry-backed true backed e k y f = go (here operator entry k y f)
-      where
-        go : (u : Bool) → h .withdrawn k y f ≤ cond u (h .filed k y f + entry .value) (h .filed k y f)
-        go true = omega (arith, backed refl k y f)
-        go false = backed refl k y f
+    unfolding summedAll
+    entry-backed true backed e k y f = le-trans (backed refl k y f) (summed-grows operator entry (h .filed) k y f)
     entry-backed false backed e k y f = absurd (false≢true e)
 
   entries-hold : (t : Bool) → eqb sign 0 ≡ t → (b : Book) (h : History) (list : List Entry) → All Within list → Shaped b → Backed t h → Holds b h
@@ -213,15 +210,15 @@ module _ (operator sign : ℕ) (lo : operator < operators) where
       (entry-holds b h entry shape held (within .0) false e backed)
 
 -- an accepted call
-pub changed-holds : (b : Book) (h : History) (call : Call) → Shaped b → Holds b h → Ranged h → operatorOf call < operators → Ranges call
+pub changed-holds : (b : Book) (h : History) (call : Call) → Shaped b → Holds b h → AllCovered h → operatorOf call < operators → Ranges call
     → Holds (changed b call) (recorded h call)
 unfolding changed recorded enteredIn operatorOf
-changed-holds b h (Join operator) shape held ranged lt r = join-holds b h shape held operator
-changed-holds b h (Setting operator which value) shape held ranged lt r = setting-holds b h shape held operator which value lt (r .0)
-changed-holds b h (Interruption operator sign level cause start end weight) shape held ranged lt r =
-    entries-hold operator sign lt _ refl b h _ (entries-within (Interruption operator sign level cause start end weight) r) shape (λ e. ranged .covered) held
-changed-holds b h (Amount operator year figure sign value) shape held ranged lt r =
-    entries-hold operator sign lt _ refl b h _ (entries-within (Amount operator year figure sign value) r) shape (λ e. ranged .covered) held
-changed-holds b h (Mark operator indicator mark) shape held ranged lt r = mark-holds b h shape held operator indicator mark (r .0)
-changed-holds b h (Rates pot cap) shape held ranged lt r = rates-holds b h shape held pot cap
-changed-holds b h (Index number value) shape held ranged lt r = index-holds b h shape held number value (r .0)
+changed-holds b h (Join operator) shape held covered lt r = join-holds b h shape held operator
+changed-holds b h (Setting operator which value) shape held covered lt r = setting-holds b h shape held operator which value lt (r .0)
+changed-holds b h (Interruption operator sign level cause start end weight) shape held covered lt r =
+    entries-hold operator sign lt _ refl b h _ (entries-within (Interruption operator sign level cause start end weight) r) shape (λ e. covered) held
+changed-holds b h (Amount operator year figure sign value) shape held covered lt r =
+    entries-hold operator sign lt _ refl b h _ (entries-within (Amount operator year figure sign value) r) shape (λ e. covered) held
+changed-holds b h (Mark operator indicator mark) shape held covered lt r = mark-holds b h shape held operator indicator mark (r .0)
+changed-holds b h (Rates pot cap) shape held covered lt r = rates-holds b h shape held pot cap
+changed-holds b h (Index number value) shape held covered lt r = index-holds b h shape held number value (r .0)

@@ -30,7 +30,7 @@ pub record Passed (joined : ℕ → Bool) (total : ℕ → ℕ → ℕ → ℕ) 
   pub above : fallsBelow total (operatorOf call) (signOf call) (entries call) ≡ false
 
 module _ (joined : ℕ → Bool) (total : ℕ → ℕ → ℕ → ℕ) (call : Call) where
-  abbrev Decided : Answer → Type 0
+  abbrev pub Decided : Answer → Type 0
   Decided answer = ((answer ≡ acceptance call) × Passed joined total call) ⊎ ((refusal : Refusal) × (answer ≡ Refused refusal))
 
   decide : (t u v w x y : Bool)

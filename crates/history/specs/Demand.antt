@@ -1,4 +1,5 @@
--- The first half of demand 3, over every list of filing calls from a fresh book. Proofs: proofs/Kept.antt.
+-- The first half of demand 3, over every list of filing calls from a fresh book; and that a call keeps a book in range. Proofs:
+-- proofs/Kept.antt, proofs/RangeKept.antt.
 -- Assumes nothing.
 use Prim.Native.Nat.{ℕ, _≤_, _<_}
 use mathlib.Core.Path.{_≡_}
@@ -9,8 +10,12 @@ use Rattle.book.specs.declared.Book.{Book}
 use Rattle.calls.specs.declared.Call.{Call}
 use Rattle.calls.specs.Limits.{operators, years, figures, settings, indicators, indexNumbers}
 use Rattle.book.specs.Book.{freshBook, isJoined, isMarked, settingOf, figureOf, indexOf, inRange}
-use Rattle.ledger.specs.Calls.{filedBook, filedAnswers}
+use Rattle.ledger.specs.Calls.{apply, filedBook, filedAnswers}
 use Rattle.history.specs.History.{History, plain, total, notedHistory, notedAnswers, Same}
+
+-- a call keeps any book in range, not only those that lists of calls leave
+abbrev pub StaysInRange : Book → Call → Type 0
+StaysInRange b call = inRange b ≡ true → inRange (apply b call .book) ≡ true
 
 -- the book that a list of calls leaves, and the history that it makes
 abbrev pub bookOf : List Call → Book

@@ -1,6 +1,8 @@
-// The seven calls on a book that is in range.
+// The calls on a book that is in range: which one a value names, and six of them.
 ghost use mathlib.Core.Path.{_≡_};
+ghost use mathlib.Core.Bool.{true};
 ghost use Prim.Native.Nat.{_≤_, _<_};
+ghost use Rattle.book.specs.Book.{inRange};
 ghost use Rattle.calls.specs.Call.{amountEntries};
 ghost use Rattle.ledger.specs.Calls.{apply as Calls·apply};
 ghost use Rattle.ledger.specs.Entering.{entering};
@@ -22,7 +24,10 @@ use calls::rates_in_range;
 use calls::remask;
 use calls::setting_in_range;
 
+// Asks for a book in range and does not test it: `file` has just tested it, and the reader of filings tests a book once and then
+// knows that each call keeps it in range. Nobody can apply a call to a book that would get 5.
 pub fn apply(b: Book, filing_call: Call) -> Filed
+    requires { ⌜ inRange b ≡ true ⌝ }
     ensures { λ r. ⌜ r ≡ Calls·apply b «filing_call» ⌝ }
 {
     match filing_call {

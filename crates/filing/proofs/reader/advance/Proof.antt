@@ -8,7 +8,7 @@ use Rattle.filing.proofs.reader.advance.Statement.{statement}
 use Rattle.filing.proofs.reader.advance.Tie as tie
 
 apply-requires : tie.Need-apply-requires
-apply-requires c κs = search needs
+apply-requires c κs = c .pre .1
 
 is-refused-requires : tie.Need-is-refused-requires
 is-refused-requires c κs = search needs

@@ -1,16 +1,16 @@
--- `filing::reader::read` meets its contract. The loop's invariant: the offset is inside the filing, and what the reading comes to
--- in the end is what it came to at the start.
+-- `filing::reader::read` meets its contract. The loop's invariant: the offset is inside the filing, the book is in range, since each call
+-- keeps it there, and what the reading comes to in the end is what it came to at the start.
 -- Assumes nothing.
 use mathlib.Core.Path.{_≡_, refl, _∙_}
 use borrow.Author.Needs.{needs}
 use Rattle.calls.proofs.Flags.{denied, granted}
 use Rattle.filing.specs.Reader.{fieldsOf, reading, read}
-use Rattle.filing.proofs.WalkLaws.{Inside, completed, remaining, step-completed, step-follows}
+use Rattle.filing.proofs.WalkLaws.{Ready, completed, remaining, step-completed, step-follows}
 use Rattle.filing.proofs.reader.read.Statement.{statement}
 use Rattle.filing.proofs.reader.read.Tie as tie
 
 abbrev Inv-loop : tie.InvT-loop
-Inv-loop bytes walk₀ walk = Inside bytes (walk .reading) × (completed bytes walk ≡ completed bytes walk₀)
+Inv-loop bytes walk₀ walk = Ready bytes (walk .reading) × (completed bytes walk ≡ completed bytes walk₀)
 
 abbrev μ-loop : tie.MeasureT-loop
 μ-loop bytes walk₀ walk = remaining bytes walk
@@ -23,7 +23,7 @@ unfolding read reading
 returns c = rw (denied (c .before .in-range .ensures) (c .if1 .taken)) refl
 
 loop-holds : tie.Need-loop-holds Inv-loop μ-loop
-loop-holds c = ((search needs, search needs), refl)
+loop-holds c = ((search needs, search needs, granted (c .before .in-range .ensures) (c .if1 .left)), refl)
 
 step-requires : tie.Need-step-requires Inv-loop μ-loop
 step-requires c κs = c .before .loop .inv .0
@@ -39,7 +39,7 @@ unfolding completed
 loop-again c =
     let at-loop = c .before .before in
     rw (c .step .ensures) (
-      step-follows _ (at-loop .loop .walk .reading) (at-loop .loop .inv .0) .inside,
+      step-follows _ (at-loop .loop .walk .reading) (at-loop .loop .inv .0) .ready,
       step-completed _ (at-loop .loop .walk .reading) ∙ (rw (c .before .loop-test .taken) at (at-loop .loop .inv .1)),
     )
 

@@ -20,7 +20,7 @@ advance-requires c κs =
     let start = read .before .before in
     let filing = sym (read .field-at .ensures) ∙ c .before .filing-call .given .1 in
     let placed = rw filing at (stands (start .args .bytes .now) (start .args .reached .offset)) in
-    omega (arith, placed .0)
+    (omega (arith, placed .0), start .pre .2)
 
 enum-told : tie.Need-enum-told
 enum-told c = search needs

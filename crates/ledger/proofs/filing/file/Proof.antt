@@ -17,7 +17,7 @@ unfolding file
 returns c = rw (denied (c .before .before .in-range .ensures) (c .before .if1 .taken)) (c .refused .ensures)
 
 apply-requires : tie.Need-apply-requires
-apply-requires c κs = search needs
+apply-requires c κs = granted (c .before .in-range .ensures) (c .if1 .left)
 
 returns-2 : tie.Need-returns-2
 unfolding file
