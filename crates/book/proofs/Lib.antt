@@ -1,3 +1,4 @@
 -- The laws that the proofs of `book`, and of the crates above it, use.
 pub mod EveryLaws
 pub mod FlatRange
+pub mod Bounds

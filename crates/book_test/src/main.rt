@@ -79,7 +79,7 @@ fn interruption(b: Book, at: usize) -> Book
     let cause = put_byte(byte(at + 3) % 16);
     let start = put_time(cell(at + 4));
     let end = put_time(cell(at + 5));
-    let weight = (put_number(cell(at + 6) % 4294967296) % 4294967296) as u32;
+    let weight = put_word(cell(at + 6));
     answered(ledger::interruption(b, operator, sign, level, cause, start, end, weight))
 }
 
@@ -106,8 +106,8 @@ fn mark(b: Book, at: usize) -> Book
 fn rates(b: Book, at: usize) -> Book
     requires { ⌜ at < 5017 ⌝ }
 {
-    let pot = put_word(at + 1);
-    let cap = put_word(at + 2);
+    let pot = put_word(cell(at + 1));
+    let cap = put_word(cell(at + 2));
     answered(ledger::rates(b, pot, cap))
 }
 
@@ -115,7 +115,7 @@ fn index(b: Book, at: usize) -> Book
     requires { ⌜ at < 5017 ⌝ }
 {
     let number = put_byte(byte(at + 1));
-    let value = put_word(at + 2);
+    let value = put_word(cell(at + 2));
     answered(ledger::index(b, number, value))
 }
 
@@ -130,42 +130,69 @@ fn answered(filed: Filed) -> Book {
 fn store(b: Book, at: usize) -> Book
     requires { ⌜ at < 5017 ⌝ }
 {
-    let mut next = b;
-    let place = cell(at + 2) % 384;
+    let place = cell(at + 2);
     let value = cell(at + 3);
-    match byte(at + 1) {
-        0 => {
-            put(b" joined");
-            next.joined = (put_number(value % 65536) % 65536) as u16;
-        }
-        1 => {
-            put(b" marks");
-            let indicator = (put_number(place % 6) % 6) as usize;
-            next.marks[indicator] = (put_number(value % 65536) % 65536) as u16;
-        }
-        2 => {
-            let slot = (put_setting(place % 48) % 48) as usize;
-            next.settings[slot] = put_number(value);
-        }
-        3 => {
-            let slot = (put_figure(place) % 384) as usize;
-            next.figures[slot] = put_number(value);
-        }
-        4 => {
-            put(b" pot");
-            next.pot = put_word(at + 3);
-        }
-        5 => {
-            put(b" cap");
-            next.cap = put_word(at + 3);
-        }
-        _ => {
-            put(b" index");
-            let number = (put_number(place % 4) % 4) as usize;
-            next.indices[number] = put_word(at + 3);
-        }
-    }
+    let next = match byte(at + 1) {
+        0 => store_joined(b, value),
+        1 => store_marks(b, place, value),
+        2 => store_setting(b, place, value),
+        3 => store_figure(b, place, value),
+        4 => store_pot(b, value),
+        5 => store_cap(b, value),
+        _ => store_index(b, place, value),
+    };
     put(b" = stored\n");
+    next
+}
+
+fn store_joined(b: Book, value: u64) -> Book {
+    let mut next = b;
+    put(b" joined");
+    next.joined = put_half(value);
+    next
+}
+
+fn store_marks(b: Book, place: u64, value: u64) -> Book {
+    let mut next = b;
+    put(b" marks");
+    let indicator = (put_number(place % 6) % 6) as usize;
+    next.marks[indicator] = put_half(value);
+    next
+}
+
+fn store_setting(b: Book, place: u64, value: u64) -> Book {
+    let mut next = b;
+    let slot = (put_setting(place % 48) % 48) as usize;
+    next.settings[slot] = put_number(value);
+    next
+}
+
+fn store_figure(b: Book, place: u64, value: u64) -> Book {
+    let mut next = b;
+    let slot = (put_figure(place % 384) % 384) as usize;
+    next.figures[slot] = put_number(value);
+    next
+}
+
+fn store_pot(b: Book, value: u64) -> Book {
+    let mut next = b;
+    put(b" pot");
+    next.pot = put_word(value);
+    next
+}
+
+fn store_cap(b: Book, value: u64) -> Book {
+    let mut next = b;
+    put(b" cap");
+    next.cap = put_word(value);
+    next
+}
+
+fn store_index(b: Book, place: u64, value: u64) -> Book {
+    let mut next = b;
+    put(b" index");
+    let number = (put_number(place % 4) % 4) as usize;
+    next.indices[number] = put_word(value);
     next
 }
 
@@ -181,8 +208,10 @@ fn byte(at: usize) -> u8
     (cell(at) % 256) as u8
 }
 
-fn put_word(at: usize) -> u32
-    requires { ⌜ at < 5024 ⌝ }
-{
-    (put_number(cell(at) % 4294967296) % 4294967296) as u32
+fn put_word(n: u64) -> u32 {
+    (put_number(n % 4294967296) % 4294967296) as u32
+}
+
+fn put_half(n: u64) -> u16 {
+    (put_number(n % 65536) % 65536) as u16
 }

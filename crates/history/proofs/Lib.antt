@@ -1,5 +1,4 @@
 -- The laws that the proofs of `history`, and of the crates above it, use.
-pub mod Bounds
 pub mod SlotLaws
 pub mod EntryLaws
 pub mod TableLaws

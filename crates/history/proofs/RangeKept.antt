@@ -24,7 +24,7 @@ use Rattle.ledger.specs.Table.{lacksOperator, answerTo}
 use Rattle.ledger.specs.Calls.{withJoined, withMarks, withSettings, withFigures, withRates, withIndices, entered, enterAll, changed, refusedCall, answered, apply, file, filedBook}
 use Rattle.history.specs.Demand.{StaysInRange}
 use Rattle.calls.proofs.MaskLaws.{including-has, including-other, excluding-other}
-use Rattle.history.proofs.Bounds.{Bounds, bounded, in-range}
+use Rattle.book.proofs.Bounds.{Bounds, bounded, in-range}
 use Rattle.history.proofs.SlotLaws.{store-holds}
 use Rattle.history.proofs.EntryLaws.{All, Within, Distinct, entries-within, entries-distinct}
 use Rattle.history.proofs.TableLaws.{Passed, Decided, Fits, all-fit, decided}

@@ -29,7 +29,7 @@ use Rattle.indicators.proofs.OnesLaws.{some-one}
 use Rattle.indicators.proofs.PointLaws.{points-made-up, points-length, points-reliable, reliable-joined, reliable-small, pool-above}
 use Rattle.settlement.specs.Money.{accessPoints, pot, contributions, returnWeights, returns, limits, bonuses, maluses, balanced, adjustments}
 use Rattle.settlement.specs.Settlement.{networkMissing, allMarked, settlementBy, refusing, settledBy, settled}
-use Rattle.settlement.specs.Laws.{sumℤ, Worth, Settles, Balanced, SettleAlike, BalancedIfSettles}
+use Rattle.settlement.specs.Laws.{sumℤ, Worth, Settles, SettleAlike, BalancedIfSettles}
 use Rattle.settlement.proofs.DifferenceLaws.{none-left, difference-most, differences-sum, table-of}
 use Rattle.settlement.proofs.BalanceLaws.{capped-length, capped-most, balanced-length, balanced-sum, balanced-within}
 

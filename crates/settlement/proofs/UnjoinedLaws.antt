@@ -2,21 +2,17 @@
 -- Assumes nothing.
 use Prim.Native.Nat.{ℕ, _≤_, _<_}
 use mathlib.Core.Path.{_≡_, refl, sym, ap, _∙_}
-use mathlib.Core.Bool.{Bool, true, false, cond, false≢true}
+use mathlib.Core.Bool.{Bool, true, false, false≢true}
 use mathlib.Core.List.{List}
 use native.Mathlib.Nat.{mul-zero, zero-mul, zero-div}
 use native.Mathlib.Omega.{arith}
-use lib.Dec.{leb}
 use lib.IntN.{ℤ, pos, negsuc, natAbs}
 use lib.ListN.{getD}
-use borrow.Author.Tests.{leb-true}
 use Rattle.apportion.specs.Share.{share}
 use Rattle.apportion.proofs.Shared.{shared}
 use Rattle.book.specs.declared.Book.{Book}
-use Rattle.book.specs.Book.{isJoined, settingOf, most, settingsInRange, inRange}
-use Rattle.book.proofs.EveryLaws.{each-of-every}
-use Rattle.calls.specs.Limits.{operators, settings, settingLimit}
-use Rattle.calls.proofs.Flags.{and-left}
+use Rattle.book.specs.Book.{isJoined, settingOf, most, inRange}
+use Rattle.book.proofs.Bounds.{bounded}
 use Rattle.values.specs.Operators.{each}
 use Rattle.values.specs.Indicator.{Indicator, isReliable}
 use Rattle.indicators.specs.Points.{points}
@@ -37,13 +33,10 @@ no-size (negsuc n) none = absurd (omega arith)
 
 module _ (b : Book) (ranged : inRange b ≡ true) (operator : ℕ) (lt : operator < 16) (apart : isJoined b operator ≡ false) where
   setting-none : (which : ℕ) → which < 3 → settingOf b operator which ≡ 0
-  unfolding inRange settingsInRange most
+  unfolding most
   setting-none which small =
-      let all : settingsInRange b ≡ true = and-left _ _ (and-left _ _ (and-left _ _ (and-left _ _ ranged))) in
-      let test : leb (settingOf b operator which) (cond (isJoined b operator) (settingLimit which) 0) ≡ true =
-      each-of-every settings _ (each-of-every operators _ all operator lt) which small in
-      let none : leb (settingOf b operator which) 0 ≡ true = rw apart at test in
-      omega (arith, leb-true (settingOf b operator which) 0 none)
+      let none : settingOf b operator which ≤ 0 = rw apart at (bounded b ranged .setting operator which lt small) in
+      omega (arith, none)
 
   points-unjoined : (indicator : Indicator) → getD (points b indicator) operator 0 ≡ 0
   points-unjoined indicator = points-none b indicator operator lt (go (isReliable b indicator operator) refl)
