@@ -66,4 +66,4 @@ output-m = rw (read-m, settles-m) printed-m
 pub all-hold : All marked
 unfolding sum floors remainders precedes earlier foremost incremented award leftOver share next weightOf has including every freshBook figureSlot settingSlot isJoined isMarked settingOf figureOf indexOf most settingsInRange figuresInRange marksInRange indicesInRange ratesInRange inRange timesInRange weightInRange detailsInRange secondsOf yearOf outcome isCounted countedEntries amountEntries entries operatorOf signOf valuesInRange acceptance joinsAgain lacksOperator some firstOf passesLimit fallsBelow linesFor answerTo withJoined withFigures entered enterAll changed refusedCall answered apply file filedBook filedAnswers withSettings withRates table each count electricity over yearlyValue threeYears reliableMask isReliable joinedCount reliableCount pool largest scoreOf scores normalised exponentWeight isBetter betterWeight levelled levelledWeight linearWeight isLevelled weightOfOne weights points allPoints accessPoints incomes pot contributions returnWeights returns limits capped balanced bonuses maluses adjustments networkMissing allMarked pointsOfAll settlementBy nothing refusing settledBy settled sumℤ bigEndian unsigned twosComplement signed tags isKnown tagged fieldAt followed fieldsFrom fieldsOf isRefused reading run read bytesOf digits decimal signedDecimal line header pointsOfOperator operatorLine operatorLines lastLine printed textOf longestFiling refusedBy refusedField refusedSettlement unless settlementText readingText outputOf ones onesIn
 all-hold =
-    (refl, (refl, (refl, (refl, (refl, (refl, (refl, (refl, (refl, (refl, (refl, (refl, (refl, (refl, (refl, (output-m, (filings-refused, (refl, (refl, tt)))))))))))))))))))
+    (refl, (refl, (refl, (refl, (refl, (refl, (refl, (refl, (refl, (refl, (output-m, (refl, (filings-refused, (refl, (refl, tt)))))))))))))))
