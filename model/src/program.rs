@@ -57,12 +57,12 @@ mod tests {
 
     #[test]
     fn marked_case_m() {
-        prints(&encoded(&case_m::CALLS), case_m::PRINTED);
+        prints(&encoded(&case_m::calls()), case_m::PRINTED);
     }
 
     #[test]
     fn marked_case_m_with_cap_rate_50() {
-        let mut filing = encoded(&case_m::CALLS);
+        let mut filing = encoded(&case_m::calls());
         filing.extend(encoded(&["rates 5000 50"]));
         let expected = "operator points out in adjustment\n\
             0 65036 375000 386463 5000\n\
@@ -114,7 +114,7 @@ mod tests {
 
     #[test]
     fn refused_field_prints_nothing_of_the_book() {
-        let mut filing = encoded(&case_m::CALLS);
+        let mut filing = encoded(&case_m::calls());
         let length = filing.len();
         filing.push(1);
         prints(&filing, &format!("refused 1 at {length}\n"));
@@ -124,7 +124,7 @@ mod tests {
 
     /// Case M followed by its rates once more, up to a length of that form.
     fn filled(length: usize) -> Vec<u8> {
-        let mut filing = encoded(&case_m::CALLS);
+        let mut filing = encoded(&case_m::calls());
         let rates = encoded(&["rates 5000 10000"]);
         let index = encoded(&["index 1 10000"]);
         while filing.len() < length {

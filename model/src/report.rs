@@ -55,7 +55,7 @@ mod tests {
 
     fn case_m() -> Book {
         let mut book = Book::fresh();
-        for command in case_m::CALLS {
+        for command in case_m::calls() {
             assert_eq!(script::answer(&mut book, command), Ok("yes".to_string()));
         }
         book

@@ -4,8 +4,8 @@
 use crate::book::{Book, FIGURES, INDICATORS, INDICES, OPERATORS, YEARS};
 use crate::calls::{Answer, Interruption, Reason};
 use crate::filing::{self, Field};
+use crate::numbers::{number, signed_number};
 use crate::settlement::{self, Settlement};
-use std::str::FromStr;
 
 /// Answer to one command; filing calls, `fresh` and `store` alter the book.
 pub fn answer(book: &mut Book, line: &str) -> Result<String, String> {
@@ -239,29 +239,6 @@ fn expect(words: &[&str], count: usize) -> Result<(), String> {
     Ok(())
 }
 
-/// A decimal number without a sign that fits its type.
-fn number<T: FromStr>(word: &str) -> Result<T, String> {
-    if word.is_empty() || !word.bytes().all(|byte| byte.is_ascii_digit()) {
-        return Err(format!("not a decimal number: {word:?}"));
-    }
-    match word.parse() {
-        Ok(number) => Ok(number),
-        Err(_) => Err(format!("past the width of its place: {word}")),
-    }
-}
-
-/// A decimal number of 64 bits that may have a minus sign.
-fn signed_number(word: &str) -> Result<i64, String> {
-    let digits = word.strip_prefix('-').unwrap_or(word);
-    if digits.is_empty() || !digits.bytes().all(|byte| byte.is_ascii_digit()) {
-        return Err(format!("not a decimal number: {word:?}"));
-    }
-    match word.parse() {
-        Ok(number) => Ok(number),
-        Err(_) => Err(format!("past the width of its place: {word}")),
-    }
-}
-
 /// A place in the book, below `count`.
 fn place(word: &str, count: usize) -> Result<usize, String> {
     let place = number(word)?;
@@ -274,6 +251,7 @@ fn place(word: &str, count: usize) -> Result<usize, String> {
 #[cfg(test)]
 mod tests {
     use super::*;
+    use crate::case_m;
 
     const FRESH: &str = "joined 0 marks 0 0 0 0 0 0 rates 0 0 indices 10000 10000 10000 10000";
 
@@ -401,24 +379,9 @@ mod tests {
         ]);
     }
 
-    /// Case M without its rates.
-    const CASE_M: [(&str, &str); 10] = [
-        ("join 0", "yes"),
-        ("join 1", "yes"),
-        ("setting 0 0 100", "yes"),
-        ("setting 1 0 100", "yes"),
-        ("setting 0 1 1000", "yes"),
-        ("setting 1 1 3000", "yes"),
-        ("setting 0 2 100000000", "yes"),
-        ("setting 1 2 200000000", "yes"),
-        ("amount 1 0 4 0 50000", "yes"),
-        ("amount 1 0 5 0 100", "yes"),
-    ];
-
     #[test]
     fn settled_book() {
-        let mut commands = CASE_M.to_vec();
-        commands.push(("rates 5000 10000", "yes"));
+        let mut commands: Vec<_> = case_m::calls().iter().map(|&call| (call, "yes")).collect();
         let book = run(&commands);
         commands.push((
             "settle",

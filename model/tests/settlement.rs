@@ -1,10 +1,15 @@
 //! Whole settlements: the cases printed in 01, refusals, the ends of the ranges,
 //! and the sums over many books.
 
+#[path = "../src/case_m.rs"]
+mod case_m;
+
 use model::book::{Book, Operator, INDICATORS, OPERATORS};
 use model::calls::{self, Answer};
 use model::indicators::{indicators, points, value_sum, Kind};
 use model::money::{money, passes_limit};
+use model::report::lines;
+use model::script;
 use model::settlement::{settle, Settlement};
 
 const MOST: u128 = 100_000_000_000;
@@ -138,20 +143,8 @@ fn operator(cabins: u128, access_points: u128, income: u128) -> Operator {
 /// Case M, made by filing calls.
 fn case_m() -> Book {
     let mut book = Book::fresh();
-    for answer in [
-        calls::join(&mut book, 0),
-        calls::join(&mut book, 1),
-        calls::setting(&mut book, 0, 0, 100),
-        calls::setting(&mut book, 1, 0, 100),
-        calls::setting(&mut book, 0, 1, 1000),
-        calls::setting(&mut book, 1, 1, 3000),
-        calls::setting(&mut book, 0, 2, 100_000_000),
-        calls::setting(&mut book, 1, 2, 200_000_000),
-        calls::amount(&mut book, 1, 0, 4, 0, 50_000),
-        calls::amount(&mut book, 1, 0, 5, 0, 100),
-        calls::rates(&mut book, 5000, 10_000),
-    ] {
-        assert_eq!(answer, Answer::Yes);
+    for call in case_m::calls() {
+        assert_eq!(script::answer(&mut book, call), Ok("yes".to_string()));
     }
     book
 }
@@ -164,6 +157,7 @@ fn marked_case_m() {
     let settlement = settled(&book);
     let totals = settlement.points.totals();
     let money = &settlement.money;
+    assert_eq!(lines(&book, &settlement), case_m::PRINTED);
     assert_eq!(totals[..2], [65_036, 62_464]);
     assert_eq!(money.contributions[..2], [375_000, 1_125_000]);
     assert_eq!(money.returns[..2], [386_463, 1_113_537]);
