@@ -205,6 +205,7 @@ mod tests {
     #[test]
     fn unknown_subcommands_are_refused() {
         let mut output = Vec::new();
+        let refused = Err(SUBCOMMANDS.to_string());
         for words in [
             &[] as &[&str],
             &["shares"],
@@ -216,8 +217,7 @@ mod tests {
             &["compare", "program", "folder", "1", "2"],
             &["compare", "program", "folder", "1", "2", "3", "4"],
         ] {
-            let expected = Err(SUBCOMMANDS.to_string());
-            assert_eq!(dispatch(words, &mut output), expected, "{words:?}");
+            assert_eq!(dispatch(words, &mut output), refused, "{words:?}");
         }
         assert!(output.is_empty());
     }
