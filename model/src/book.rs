@@ -57,7 +57,7 @@ impl Operator {
         !self.joined
             && self.settings() == [0; SETTINGS]
             && !self.marks.contains(&true)
-            && self.figures.iter().flatten().all(|&figure| figure == 0)
+            && self.figures == [[0; FIGURES]; YEARS]
     }
 
     /// Every value is in its range, and without a join every value is fresh.
@@ -65,14 +65,11 @@ impl Operator {
         if !self.joined {
             return self.is_fresh();
         }
+        let year_in_range = |year: &Vec<u128>| year.iter().all(|&figure| figure <= MOST_FIGURE);
         self.cabins <= MOST_CABINS
             && self.access_points <= MOST_ACCESS_POINTS
             && self.income <= MOST_INCOME
-            && self
-                .figures
-                .iter()
-                .flatten()
-                .all(|&figure| figure <= MOST_FIGURE)
+            && self.figures.iter().all(year_in_range)
     }
 }
 

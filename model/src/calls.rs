@@ -2,20 +2,20 @@
 //! Every call first judges the book, then its own values, then alters the book.
 
 use crate::book::{
-    Book, FIGURES, INDICATORS, INDICES, LEAST_INDEX, MOST_ACCESS_POINTS, MOST_CABINS, MOST_FIGURE,
-    MOST_INCOME, MOST_INDEX, MOST_RATE, OPERATORS, YEARS,
+    Book, FIGURES, INDICATORS, INDICES, LEAST_INDEX, MOST_FIGURE, MOST_INDEX, MOST_RATE,
+    MOST_SETTINGS, OPERATORS, YEARS,
 };
 
 /// The seconds of one year.
-pub const YEAR_SECONDS: i128 = 31_536_000;
+pub const YEAR_SECONDS: i64 = 31_536_000;
 /// Seconds from the start of 2017.
-pub const EARLIEST_START: i128 = -31_536_000;
-pub const LATEST_END: i128 = 94_607_999;
+pub const EARLIEST_START: i64 = -31_536_000;
+pub const LATEST_END: i64 = 94_607_999;
 /// The longest interruption that is left out as short, in seconds.
 #[cfg(not(feature = "slip"))]
-pub const LONGEST_SHORT: i128 = 180;
+const LONGEST_SHORT: i64 = 180;
 #[cfg(feature = "slip")]
-pub const LONGEST_SHORT: i128 = 179;
+const LONGEST_SHORT: i64 = 179;
 /// The greatest weight of one MV interruption.
 pub const MOST_WEIGHT: u32 = 100_000;
 
@@ -58,17 +58,8 @@ pub struct Interruption {
 /// Adds an operator to the joined ones.
 /// Follows 01: "join of one already joined" gives 6.
 pub fn join(book: &mut Book, operator: u8) -> Answer {
-    if !book.in_range() {
-        return Answer::Refused(5);
-    }
-    let mut refusals = Vec::new();
-    if above_15(operator) {
-        refusals.push(4);
-    }
-    if is_joined(book, operator) {
-        refusals.push(6);
-    }
-    if let Some(number) = lowest(&refusals) {
+    let already = is_joined(book, operator);
+    if let Some(number) = refusal(book, &[(4, above_15(operator)), (6, already)]) {
         return Answer::Refused(number);
     }
     book.operators[usize::from(operator)].joined = true;
@@ -78,27 +69,10 @@ pub fn join(book: &mut Book, operator: u8) -> Answer {
 /// Sets cabins (`which` 0), active access points (1) or income (2).
 /// Follows 01: "the latest accepted value stands".
 pub fn setting(book: &mut Book, operator: u8, which: u8, value: u64) -> Answer {
-    if !book.in_range() {
-        return Answer::Refused(5);
-    }
     let value = u128::from(value);
-    let value_in_range = match which {
-        0 => value <= MOST_CABINS,
-        1 => value <= MOST_ACCESS_POINTS,
-        2 => value <= MOST_INCOME,
-        _ => false,
-    };
-    let mut refusals = Vec::new();
-    if above_15(operator) {
-        refusals.push(4);
-    }
-    if !value_in_range {
-        refusals.push(5);
-    }
-    if !is_joined(book, operator) {
-        refusals.push(7);
-    }
-    if let Some(number) = lowest(&refusals) {
+    let most = MOST_SETTINGS.get(usize::from(which));
+    let in_range = most.is_some_and(|&most| value <= most);
+    if let Some(number) = operator_refusal(book, operator, in_range) {
         return Answer::Refused(number);
     }
     let operator = &mut book.operators[usize::from(operator)];
@@ -111,105 +85,72 @@ pub fn setting(book: &mut Book, operator: u8, which: u8, value: u64) -> Answer {
 }
 
 /// Files or withdraws an interruption.
+pub fn interruption(book: &mut Book, filed: &Interruption) -> Answer {
+    let in_range = interruption_in_range(filed);
+    if let Some(number) = operator_refusal(book, filed.operator, in_range) {
+        return Answer::Refused(number);
+    }
+    match left_out(filed) {
+        Some(reason) => Answer::LeftOut(reason),
+        None => count(book, filed),
+    }
+}
+
+/// Why an interruption in range is left out, if it is.
 /// Follows 01: "An interruption of 180 seconds or less is left out as short;
 /// else cause 1, 2 or 3 is left out under that cause; else it counts."
-pub fn interruption(book: &mut Book, filed: &Interruption) -> Answer {
-    if !book.in_range() {
-        return Answer::Refused(5);
-    }
-    let mut refusals = Vec::new();
-    if above_15(filed.operator) {
-        refusals.push(4);
-    }
-    if !interruption_in_range(filed) {
-        refusals.push(5);
-    }
-    if !is_joined(book, filed.operator) {
-        refusals.push(7);
-    }
-    if let Some(number) = lowest(&refusals) {
-        return Answer::Refused(number);
-    }
-
-    let start = i128::from(filed.start);
-    let end = i128::from(filed.end);
-    let seconds = end - start;
-    if seconds <= LONGEST_SHORT {
-        return Answer::LeftOut(Reason::Short);
+fn left_out(filed: &Interruption) -> Option<Reason> {
+    if filed.end - filed.start <= LONGEST_SHORT {
+        return Some(Reason::Short);
     }
     match filed.cause {
-        1 => return Answer::LeftOut(Reason::Planned),
-        2 => return Answer::LeftOut(Reason::Coupled),
-        3 => return Answer::LeftOut(Reason::Exceptional),
-        _ => {}
+        1 => Some(Reason::Planned),
+        2 => Some(Reason::Coupled),
+        3 => Some(Reason::Exceptional),
+        _ => None,
     }
+}
 
-    // Follows 01: "The year is that of the end; each has 31,536,000 seconds."
-    let year = (end / YEAR_SECONDS) as usize;
+/// Brings an interruption that counts into the figures.
+/// Follows 01: "The year is that of the end; each has 31,536,000 seconds." and
+/// "Counted: weight, and weight times seconds, are added or subtracted."
+fn count(book: &mut Book, filed: &Interruption) -> Answer {
+    let year = (filed.end / YEAR_SECONDS) as usize;
     let weight_figure = if filed.level == 0 { 0 } else { 2 };
-    let seconds_figure = weight_figure + 1;
     let weight = i128::from(filed.weight);
+    let seconds = i128::from(filed.end - filed.start);
+    let values = [
+        (weight_figure, weight),
+        (weight_figure + 1, weight * seconds),
+    ];
     let figures = &mut book.operators[usize::from(filed.operator)].figures[year];
-    let new_weight = changed(figures[weight_figure], filed.sign, weight);
-    let new_seconds = changed(figures[seconds_figure], filed.sign, weight * seconds);
-    let mut refusals = figure_refusals(new_weight);
-    refusals.extend(figure_refusals(new_seconds));
-    if let Some(number) = lowest(&refusals) {
-        return Answer::Refused(number);
+    match change(figures, filed.sign, &values) {
+        Some(number) => Answer::Refused(number),
+        None => Answer::Counted { year },
     }
-    figures[weight_figure] = new_weight as u128;
-    figures[seconds_figure] = new_seconds as u128;
-    Answer::Counted { year }
 }
 
 /// Adds an amount to a figure, or with sign 1 subtracts it.
 /// Follows 01: "Tag 4's u64 may be any number; 8 and 9 judge it."
 pub fn amount(book: &mut Book, operator: u8, year: u8, figure: u8, sign: u8, value: u64) -> Answer {
-    if !book.in_range() {
-        return Answer::Refused(5);
-    }
     let year = usize::from(year);
     let figure = usize::from(figure);
-    let mut refusals = Vec::new();
-    if above_15(operator) {
-        refusals.push(4);
-    }
-    if year >= YEARS || figure >= FIGURES || sign > 1 {
-        refusals.push(5);
-    }
-    if !is_joined(book, operator) {
-        refusals.push(7);
-    }
-    if let Some(number) = lowest(&refusals) {
+    let in_range = year < YEARS && figure < FIGURES && sign <= 1;
+    if let Some(number) = operator_refusal(book, operator, in_range) {
         return Answer::Refused(number);
     }
-
     let figures = &mut book.operators[usize::from(operator)].figures[year];
-    let new_figure = changed(figures[figure], sign, i128::from(value));
-    if let Some(number) = lowest(&figure_refusals(new_figure)) {
-        return Answer::Refused(number);
+    match change(figures, sign, &[(figure, i128::from(value))]) {
+        Some(number) => Answer::Refused(number),
+        None => Answer::Yes,
     }
-    figures[figure] = new_figure as u128;
-    Answer::Yes
 }
 
 /// Sets the mark of an operator at an indicator, 1 = unreliable.
 pub fn mark(book: &mut Book, operator: u8, indicator: u8, mark: u8) -> Answer {
-    if !book.in_range() {
-        return Answer::Refused(5);
-    }
     let indicator = usize::from(indicator);
-    let mut refusals = Vec::new();
-    if above_15(operator) {
-        refusals.push(4);
-    }
-    if indicator >= INDICATORS || mark > 1 {
-        refusals.push(5);
-    }
-    if !is_joined(book, operator) {
-        refusals.push(7);
-    }
-    if let Some(number) = lowest(&refusals) {
+    let in_range = indicator < INDICATORS && mark <= 1;
+    if let Some(number) = operator_refusal(book, operator, in_range) {
         return Answer::Refused(number);
     }
     book.operators[usize::from(operator)].marks[indicator] = mark == 1;
@@ -218,13 +159,11 @@ pub fn mark(book: &mut Book, operator: u8, indicator: u8, mark: u8) -> Answer {
 
 /// Sets pot rate and cap rate, in millionths.
 pub fn rates(book: &mut Book, pot: u32, cap: u32) -> Answer {
-    if !book.in_range() {
-        return Answer::Refused(5);
-    }
     let pot = u128::from(pot);
     let cap = u128::from(cap);
-    if pot > MOST_RATE || cap > MOST_RATE {
-        return Answer::Refused(5);
+    let in_range = pot <= MOST_RATE && cap <= MOST_RATE;
+    if let Some(number) = refusal(book, &[(5, !in_range)]) {
+        return Answer::Refused(number);
     }
     book.pot_rate = pot;
     book.cap_rate = cap;
@@ -233,16 +172,44 @@ pub fn rates(book: &mut Book, pot: u32, cap: u32) -> Answer {
 
 /// Sets an index, in hundredths.
 pub fn index(book: &mut Book, number: u8, value: u32) -> Answer {
-    if !book.in_range() {
-        return Answer::Refused(5);
-    }
-    let number = usize::from(number);
+    let place = usize::from(number);
     let value = u128::from(value);
-    if number >= INDICES || !(LEAST_INDEX..=MOST_INDEX).contains(&value) {
-        return Answer::Refused(5);
+    let in_range = place < INDICES && (LEAST_INDEX..=MOST_INDEX).contains(&value);
+    if let Some(number) = refusal(book, &[(5, !in_range)]) {
+        return Answer::Refused(number);
     }
-    book.indices[number] = value;
+    book.indices[place] = value;
     Answer::Yes
+}
+
+/// The refusal of a call: 5 for a book out of range "before any other check",
+/// else by the conditions.
+fn refusal(book: &Book, conditions: &[(u8, bool)]) -> Option<u8> {
+    if !book.in_range() {
+        return Some(5);
+    }
+    lowest(conditions)
+}
+
+/// The refusal of a call of a joined operator, all other values of which are in
+/// range or not.
+fn operator_refusal(book: &Book, operator: u8, in_range: bool) -> Option<u8> {
+    let conditions = [
+        (4, above_15(operator)),
+        (5, !in_range),
+        (7, !is_joined(book, operator)),
+    ];
+    refusal(book, &conditions)
+}
+
+/// Follows 01: "The lowest number that applies is given." Each number comes with
+/// whether it applies.
+pub fn lowest(conditions: &[(u8, bool)]) -> Option<u8> {
+    conditions
+        .iter()
+        .filter(|(_, applies)| *applies)
+        .map(|(number, _)| *number)
+        .min()
 }
 
 fn above_15(operator: u8) -> bool {
@@ -258,41 +225,39 @@ fn is_joined(book: &Book, operator: u8) -> bool {
 /// Follows 01: "End is 0 to 94,607,999, start at least -31,536,000 and at most
 /// end." and "Weight is the number of cabins, 1 to 100,000, for MV and 1 for LV."
 fn interruption_in_range(filed: &Interruption) -> bool {
-    let start = i128::from(filed.start);
-    let end = i128::from(filed.end);
-    let times = (0..=LATEST_END).contains(&end) && (EARLIEST_START..=end).contains(&start);
-    let level_and_weight = match filed.level {
+    let end_in_range = (0..=LATEST_END).contains(&filed.end);
+    let start_in_range = (EARLIEST_START..=filed.end).contains(&filed.start);
+    let level_and_weight_in_range = match filed.level {
         0 => (1..=MOST_WEIGHT).contains(&filed.weight),
         1 => filed.weight == 1,
         _ => false,
     };
-    times && level_and_weight && filed.sign <= 1 && filed.cause <= 4
+    end_in_range
+        && start_in_range
+        && level_and_weight_in_range
+        && filed.sign <= 1
+        && filed.cause <= 4
 }
 
-/// The figure with the value added (sign 0) or subtracted (sign 1).
-fn changed(figure: u128, sign: u8, value: i128) -> i128 {
-    if sign == 0 {
-        figure as i128 + value
-    } else {
-        figure as i128 - value
+/// Adds each value to the figure beside it (sign 0) or subtracts it (sign 1).
+/// If a figure would leave its range all stay, and the refusal is answered.
+fn change(figures: &mut [u128], sign: u8, values: &[(usize, i128)]) -> Option<u8> {
+    let factor = if sign == 0 { 1 } else { -1 };
+    let changed: Vec<(usize, i128)> = values
+        .iter()
+        .map(|&(figure, value)| (figure, figures[figure] as i128 + factor * value))
+        .collect();
+    let any = |is_out: fn(i128) -> bool| changed.iter().any(|&(_, total)| is_out(total));
+    let refusal = lowest(&[
+        (8, any(|total| total > MOST_FIGURE as i128)),
+        (9, any(|total| total < 0)),
+    ]);
+    if refusal.is_none() {
+        for (figure, total) in changed {
+            figures[figure] = total as u128;
+        }
     }
-}
-
-/// The refusal numbers that apply to what a figure would become.
-fn figure_refusals(new_figure: i128) -> Vec<u8> {
-    let mut refusals = Vec::new();
-    if new_figure > MOST_FIGURE as i128 {
-        refusals.push(8);
-    }
-    if new_figure < 0 {
-        refusals.push(9);
-    }
-    refusals
-}
-
-/// Follows 01: "The lowest number that applies is given."
-pub fn lowest(refusals: &[u8]) -> Option<u8> {
-    refusals.iter().copied().min()
+    refusal
 }
 
 #[cfg(test)]

@@ -4,11 +4,9 @@
 /// Follows 01: "The weight of k stands in a table of 1001 numbers: the first is
 /// 1,000,000,000, each next is 999/1000 of the one before, rounded down."
 pub fn table() -> Vec<u128> {
-    let mut weights = Vec::new();
-    let mut weight: u128 = 1_000_000_000;
-    for _k in 0..=1000 {
-        weights.push(weight);
-        weight = weight * 999 / 1000;
+    let mut weights = vec![1_000_000_000];
+    for k in 0..1000 {
+        weights.push(weights[k] * 999 / 1000);
     }
     weights
 }

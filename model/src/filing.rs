@@ -58,39 +58,33 @@ pub struct Reading {
 /// the refused tag (the filing's length if none)." A field whose interruption
 /// is left out is applied as well.
 pub fn read(book: &mut Book, filing: &[u8]) -> Reading {
-    let mut applied = 0;
-    let mut offset = 0;
+    let mut reading = Reading {
+        applied: 0,
+        offset: 0,
+        refusal: None,
+    };
     // Before any other check, so also for an empty filing.
     if !book.in_range() {
-        return Reading {
-            applied,
-            offset,
-            refusal: Some(5),
-        };
+        reading.refusal = Some(5);
     }
-    while offset < filing.len() {
-        let refusal = match field_at(filing, offset) {
-            Err(number) => Some(number),
-            Ok(field) => match apply(book, &field) {
-                Answer::Refused(number) => Some(number),
-                Answer::Yes | Answer::Counted { .. } | Answer::LeftOut(_) => None,
-            },
-        };
-        if refusal.is_some() {
-            return Reading {
-                applied,
-                offset,
-                refusal,
-            };
-        }
-        applied += 1;
-        offset += HEAD + length_at(filing, offset);
+    while reading.refusal.is_none() && reading.offset < filing.len() {
+        read_field(book, filing, &mut reading);
     }
-    Reading {
-        applied,
-        offset,
-        refusal: None,
+    reading
+}
+
+/// Applies the field at the offset, or notes its refusal.
+fn read_field(book: &mut Book, filing: &[u8], reading: &mut Reading) {
+    let answer = match field_at(filing, reading.offset) {
+        Ok(field) => apply(book, &field),
+        Err(number) => Answer::Refused(number),
+    };
+    if let Answer::Refused(number) = answer {
+        reading.refusal = Some(number);
+        return;
     }
+    reading.applied += 1;
+    reading.offset += HEAD + length_at(filing, reading.offset);
 }
 
 /// The field whose tag is at the offset, or the refusal 1, 2 or 3.
@@ -103,19 +97,13 @@ pub fn field_at(filing: &[u8], offset: usize) -> Result<Field, u8> {
     }
     let tag = filing[offset];
     let length = length_at(filing, offset);
-    let mut refusals = Vec::new();
-    if length > left - HEAD {
-        refusals.push(1);
-    }
-    match content_length(tag) {
-        None => refusals.push(2),
-        Some(right) => {
-            if length != right {
-                refusals.push(3);
-            }
-        }
-    }
-    if let Some(number) = lowest(&refusals) {
+    let right = content_length(tag);
+    let refusal = lowest(&[
+        (1, length > left - HEAD),
+        (2, right.is_none()),
+        (3, right.is_some_and(|right| length != right)),
+    ]);
+    if let Some(number) = refusal {
         return Err(number);
     }
     let start = offset + HEAD;
@@ -152,15 +140,7 @@ fn decode(tag: u8, content: &[u8]) -> Field {
             which: content[1],
             value: unsigned(&content[2..10]) as u64,
         },
-        3 => Field::Interruption(Interruption {
-            operator: content[0],
-            sign: content[1],
-            level: content[2],
-            cause: content[3],
-            start: signed(&content[4..12]),
-            end: signed(&content[12..20]),
-            weight: unsigned(&content[20..24]) as u32,
-        }),
+        3 => Field::Interruption(decode_interruption(content)),
         4 => Field::Amount {
             operator: content[0],
             year: content[1],
@@ -185,13 +165,23 @@ fn decode(tag: u8, content: &[u8]) -> Field {
     }
 }
 
+fn decode_interruption(content: &[u8]) -> Interruption {
+    Interruption {
+        operator: content[0],
+        sign: content[1],
+        level: content[2],
+        cause: content[3],
+        start: signed(&content[4..12]),
+        end: signed(&content[12..20]),
+        weight: unsigned(&content[20..24]) as u32,
+    }
+}
+
 /// Follows 01: "Numbers are big-endian".
 fn unsigned(bytes: &[u8]) -> u128 {
-    let mut number = 0;
-    for &byte in bytes {
-        number = number * 256 + u128::from(byte);
-    }
-    number
+    bytes
+        .iter()
+        .fold(0, |number, &byte| number * 256 + u128::from(byte))
 }
 
 /// Eight bytes in two's complement.
@@ -234,62 +224,57 @@ pub fn apply(book: &mut Book, field: &Field) -> Answer {
 
 /// The bytes of a field: tag, length, content.
 pub fn encode(field: &Field) -> Vec<u8> {
-    let mut content = Vec::new();
-    let tag = match *field {
-        Field::Join { operator } => {
-            content.push(operator);
-            1
-        }
+    let content = content(field);
+    let length = content.len() as u16;
+    [&[tag(field)][..], &length.to_be_bytes(), &content].concat()
+}
+
+fn tag(field: &Field) -> u8 {
+    match field {
+        Field::Join { .. } => 1,
+        Field::Setting { .. } => 2,
+        Field::Interruption(_) => 3,
+        Field::Amount { .. } => 4,
+        Field::Mark { .. } => 5,
+        Field::Rates { .. } => 6,
+        Field::Index { .. } => 7,
+    }
+}
+
+fn content(field: &Field) -> Vec<u8> {
+    match *field {
+        Field::Join { operator } => vec![operator],
         Field::Setting {
             operator,
             which,
             value,
-        } => {
-            content.extend([operator, which]);
-            content.extend(value.to_be_bytes());
-            2
-        }
-        Field::Interruption(filed) => {
-            content.extend([filed.operator, filed.sign, filed.level, filed.cause]);
-            content.extend(filed.start.to_be_bytes());
-            content.extend(filed.end.to_be_bytes());
-            content.extend(filed.weight.to_be_bytes());
-            3
-        }
+        } => [&[operator, which][..], &value.to_be_bytes()].concat(),
+        Field::Interruption(filed) => interruption_content(&filed),
         Field::Amount {
             operator,
             year,
             figure,
             sign,
             value,
-        } => {
-            content.extend([operator, year, figure, sign]);
-            content.extend(value.to_be_bytes());
-            4
-        }
+        } => [&[operator, year, figure, sign][..], &value.to_be_bytes()].concat(),
         Field::Mark {
             operator,
             indicator,
             mark,
-        } => {
-            content.extend([operator, indicator, mark]);
-            5
-        }
-        Field::Rates { pot, cap } => {
-            content.extend(pot.to_be_bytes());
-            content.extend(cap.to_be_bytes());
-            6
-        }
-        Field::Index { number, value } => {
-            content.push(number);
-            content.extend(value.to_be_bytes());
-            7
-        }
-    };
-    let mut bytes = vec![tag];
-    bytes.extend((content.len() as u16).to_be_bytes());
-    bytes.extend(content);
-    bytes
+        } => vec![operator, indicator, mark],
+        Field::Rates { pot, cap } => [pot.to_be_bytes(), cap.to_be_bytes()].concat(),
+        Field::Index { number, value } => [&[number][..], &value.to_be_bytes()].concat(),
+    }
+}
+
+fn interruption_content(filed: &Interruption) -> Vec<u8> {
+    [
+        &[filed.operator, filed.sign, filed.level, filed.cause][..],
+        &filed.start.to_be_bytes(),
+        &filed.end.to_be_bytes(),
+        &filed.weight.to_be_bytes(),
+    ]
+    .concat()
 }
 
 #[cfg(test)]

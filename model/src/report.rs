@@ -1,6 +1,6 @@
 //! The report: the printed lines of a settled book, put into a lent buffer.
 
-use crate::book::Book;
+use crate::book::{joined, Book};
 use crate::calls::Answer;
 use crate::settlement::{settle, Settlement};
 use crate::writer::put;
@@ -23,26 +23,22 @@ pub fn report(book: &Book, buffer: &mut [u8]) -> Result<usize, u8> {
 pub fn lines(book: &Book, settlement: &Settlement) -> String {
     let points = settlement.points.totals();
     let money = &settlement.money;
-    let mut text = "operator points out in adjustment\n".to_string();
-    let mut all_points = 0;
-    let mut all_out = 0;
-    let mut all_in = 0;
-    let mut all_adjustments = 0;
-    for (k, operator) in book.operators.iter().enumerate() {
-        if !operator.joined {
-            continue;
-        }
+    let row = |k: usize| {
         let out = money.contributions[k];
         let back = money.returns[k];
         let adjustment = money.adjustments[k];
-        text += &format!("{k} {} {out} {back} {adjustment}\n", points[k]);
-        all_points += points[k];
-        all_out += out;
-        all_in += back;
-        all_adjustments += adjustment;
-    }
-    text += &format!("all {all_points} {all_out} {all_in} {all_adjustments}\n");
-    text
+        format!("{k} {} {out} {back} {adjustment}\n", points[k])
+    };
+    let rows: String = joined(&book.operators).into_iter().map(row).collect();
+    // Those not joined have 0 everywhere.
+    let all_points: u128 = points.iter().sum();
+    let all_out: u128 = money.contributions.iter().sum();
+    let all_in: u128 = money.returns.iter().sum();
+    let all_adjustments: i128 = money.adjustments.iter().sum();
+    format!(
+        "operator points out in adjustment\n{rows}\
+         all {all_points} {all_out} {all_in} {all_adjustments}\n"
+    )
 }
 
 #[cfg(test)]

@@ -1,63 +1,43 @@
 //! Sharing an amount by weights: apportionment by largest remainders.
 
 use crate::product::divide_product;
+use std::cmp::Reverse;
 
 /// The shares of `t` by `weights`, in the order of the weights (rising operators).
 /// Follows 01: "Sharing T by weights: each gets T × weight / (sum of weights)
 /// rounded down; the units left over go one each to the largest remainders,
 /// ties to the lower operator. All weights 0: all get 0."
 pub fn share(t: u64, weights: &[u64]) -> Vec<u128> {
-    let mut sum: u128 = 0;
-    for &weight in weights {
-        sum += u128::from(weight);
-    }
+    let sum: u128 = weights.iter().map(|&weight| u128::from(weight)).sum();
     if sum == 0 {
         return vec![0; weights.len()];
     }
-
-    let mut shares = Vec::new();
-    let mut remainders = Vec::new();
-    let mut left_over = u128::from(t);
-    for &weight in weights {
-        let (floor, remainder) = divide_product(t, weight, sum);
-        shares.push(floor);
-        remainders.push(remainder);
-        left_over -= floor;
-    }
-
-    // One unit at a time, to the largest remainder among the places that have
-    // had no unit yet; the strict comparison keeps the lower place on a tie.
-    let mut served = vec![false; weights.len()];
-    while left_over > 0 {
-        let mut chosen: Option<usize> = None;
-        for place in 0..weights.len() {
-            if served[place] {
-                continue;
-            }
-            match chosen {
-                None => chosen = Some(place),
-                Some(best) => {
-                    if remainders[place] > remainders[best] {
-                        chosen = Some(place);
-                    }
-                }
-            }
-        }
-        // The units left over are fewer than the places.
-        let place = chosen.expect("more units left over than places");
-        served[place] = true;
+    let (mut shares, remainders): (Vec<u128>, Vec<u128>) = weights
+        .iter()
+        .map(|&weight| divide_product(t, weight, sum))
+        .unzip();
+    // The units left over are fewer than the places.
+    let left_over = u128::from(t) - shares.iter().sum::<u128>();
+    for &place in &by_remainder(&remainders)[..left_over as usize] {
         shares[place] += 1;
-        left_over -= 1;
     }
     shares
 }
 
+/// The places by falling remainders.
+fn by_remainder(remainders: &[u128]) -> Vec<usize> {
+    let mut places: Vec<usize> = (0..remainders.len()).collect();
+    // Of equal remainders the lower place stays first: the sort is stable.
+    places.sort_by_key(|&place| Reverse(remainders[place]));
+    places
+}
+
 /// The same sharing of whole numbers that are held wider; each is below 2^64.
 pub fn share_wide(t: u128, weights: &[u128]) -> Vec<u128> {
-    let mut narrow = Vec::new();
-    for &weight in weights {
-        narrow.push(u64::try_from(weight).expect("a weight past 64 bits"));
-    }
+    let narrow: Vec<u64> = weights
+        .iter()
+        .map(|&weight| u64::try_from(weight).expect("a weight past 64 bits"))
+        .collect();
     share(u64::try_from(t).expect("an amount past 64 bits"), &narrow)
 }
 

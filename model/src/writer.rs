@@ -1,10 +1,9 @@
 //! The writer: a book as a filing, put into a lent buffer.
 
-use crate::book::{Book, FIGURES, FRESH_INDEX, INDICATORS, INDICES, OPERATORS, YEARS};
+use crate::book::{
+    figure_places, Book, Operator, FRESH_INDEX, INDICATORS, INDICES, OPERATORS, SETTINGS,
+};
 use crate::filing::{encode, Field};
-
-/// Follows 01: "at most 7,067 bytes".
-pub const MOST_BYTES: usize = 7067;
 
 /// Writes the book into the buffer; answers the number of bytes written, or the
 /// number of the refusal, which leaves the buffer.
@@ -17,11 +16,7 @@ pub fn write(book: &Book, buffer: &mut [u8]) -> Result<usize, u8> {
 
 /// The written filing of a book that is in range.
 pub fn written(book: &Book) -> Vec<u8> {
-    let mut bytes = Vec::new();
-    for field in fields(book) {
-        bytes.extend(encode(&field));
-    }
-    bytes
+    fields(book).iter().flat_map(encode).collect()
 }
 
 /// The fields of a book that is in range, in the order of the writer.
@@ -30,68 +25,90 @@ pub fn written(book: &Book) -> Vec<u8> {
 /// indices, rates (one field if either isn't 0); amounts with sign 0". All joins
 /// come before all settings, these before all amounts, and so on.
 pub fn fields(book: &Book) -> Vec<Field> {
-    let mut fields = Vec::new();
-    for k in 0..OPERATORS {
-        if book.operators[k].joined {
-            fields.push(Field::Join { operator: k as u8 });
-        }
+    [
+        by_operator(book, joins),
+        by_operator(book, settings),
+        by_operator(book, amounts),
+        by_operator(book, marks),
+        indices(book),
+        rates(book),
+    ]
+    .concat()
+}
+
+/// The fields of one sort, by operator.
+fn by_operator(book: &Book, fields: fn(u8, &Operator) -> Vec<Field>) -> Vec<Field> {
+    (0..OPERATORS)
+        .flat_map(|k| fields(k as u8, &book.operators[k]))
+        .collect()
+}
+
+fn joins(operator: u8, kept: &Operator) -> Vec<Field> {
+    if kept.joined {
+        vec![Field::Join { operator }]
+    } else {
+        Vec::new()
     }
-    for k in 0..OPERATORS {
-        let operator = &book.operators[k];
-        let settings = [operator.cabins, operator.access_points, operator.income];
-        for (which, setting) in settings.into_iter().enumerate() {
-            if setting != 0 {
-                fields.push(Field::Setting {
-                    operator: k as u8,
-                    which: which as u8,
-                    value: setting as u64,
-                });
-            }
-        }
+}
+
+fn settings(operator: u8, kept: &Operator) -> Vec<Field> {
+    let settings = kept.settings();
+    let field = |which: usize| Field::Setting {
+        operator,
+        which: which as u8,
+        value: settings[which] as u64,
+    };
+    (0..SETTINGS)
+        .filter(|&which| settings[which] != 0)
+        .map(field)
+        .collect()
+}
+
+fn amounts(operator: u8, kept: &Operator) -> Vec<Field> {
+    let field = |(year, figure): (usize, usize)| Field::Amount {
+        operator,
+        year: year as u8,
+        figure: figure as u8,
+        sign: 0,
+        value: kept.figures[year][figure] as u64,
+    };
+    figure_places()
+        .filter(|&(year, figure)| kept.figures[year][figure] != 0)
+        .map(field)
+        .collect()
+}
+
+fn marks(operator: u8, kept: &Operator) -> Vec<Field> {
+    let field = |indicator: usize| Field::Mark {
+        operator,
+        indicator: indicator as u8,
+        mark: 1,
+    };
+    (0..INDICATORS)
+        .filter(|&indicator| kept.marks[indicator])
+        .map(field)
+        .collect()
+}
+
+fn indices(book: &Book) -> Vec<Field> {
+    let field = |number: usize| Field::Index {
+        number: number as u8,
+        value: book.indices[number] as u32,
+    };
+    (0..INDICES)
+        .filter(|&number| book.indices[number] != FRESH_INDEX)
+        .map(field)
+        .collect()
+}
+
+fn rates(book: &Book) -> Vec<Field> {
+    if book.pot_rate == 0 && book.cap_rate == 0 {
+        return Vec::new();
     }
-    for k in 0..OPERATORS {
-        for year in 0..YEARS {
-            for figure in 0..FIGURES {
-                let total = book.operators[k].figures[year][figure];
-                if total != 0 {
-                    fields.push(Field::Amount {
-                        operator: k as u8,
-                        year: year as u8,
-                        figure: figure as u8,
-                        sign: 0,
-                        value: total as u64,
-                    });
-                }
-            }
-        }
-    }
-    for k in 0..OPERATORS {
-        for indicator in 0..INDICATORS {
-            if book.operators[k].marks[indicator] {
-                fields.push(Field::Mark {
-                    operator: k as u8,
-                    indicator: indicator as u8,
-                    mark: 1,
-                });
-            }
-        }
-    }
-    for number in 0..INDICES {
-        let index = book.indices[number];
-        if index != FRESH_INDEX {
-            fields.push(Field::Index {
-                number: number as u8,
-                value: index as u32,
-            });
-        }
-    }
-    if book.pot_rate != 0 || book.cap_rate != 0 {
-        fields.push(Field::Rates {
-            pot: book.pot_rate as u32,
-            cap: book.cap_rate as u32,
-        });
-    }
-    fields
+    vec![Field::Rates {
+        pot: book.pot_rate as u32,
+        cap: book.cap_rate as u32,
+    }]
 }
 
 /// Puts the output at the start of a lent buffer, unless it is too short.
@@ -158,7 +175,8 @@ mod tests {
     /// Reading the written filing gives the book back, which is written the same.
     fn round_trip(book: &Book) {
         let filing = written(book);
-        assert!(filing.len() <= MOST_BYTES);
+        // Follows 01: "at most 7,067 bytes".
+        assert!(filing.len() <= 7067);
         let mut again = Book::fresh();
         let reading = read(&mut again, &filing);
         assert_eq!(reading.refusal, None);

@@ -7,7 +7,7 @@ mod case_m;
 use model::book::{Book, Operator, INDICATORS, OPERATORS};
 use model::calls::{self, Answer};
 use model::indicators::{indicators, points, value_sum, Kind};
-use model::money::{money, passes_limit};
+use model::money::money;
 use model::report::lines;
 use model::script;
 use model::settlement::{settle, Settlement};
@@ -96,7 +96,7 @@ fn check_sums(book: &Book, settlement: &Settlement) {
         assert_eq!(limit, book.cap_rate * book.operators[k].income / 1_000_000);
         let difference = money.returns[k] as i128 - money.contributions[k] as i128;
         let adjustment = money.adjustments[k];
-        assert!(!passes_limit(adjustment, limit));
+        assert!(adjustment.unsigned_abs() <= limit);
         // On the side of the difference, and not beyond it.
         assert!(adjustment * difference >= 0);
         assert!(adjustment.abs() <= difference.abs());
