@@ -15,6 +15,7 @@ pub mod money;
 pub mod numbers;
 pub mod product;
 pub mod program;
+pub mod random;
 pub mod report;
 pub mod script;
 pub mod settlement;
