@@ -106,15 +106,19 @@ fn a_later_mismatch_is_noticed_and_can_be_repeated() {
     assert_eq!(given(&words), (1, told.clone(), String::new()));
 }
 
+/// The program cannot be run, which is told and is no mismatch.
+fn cannot_be_run(name: &str, program: &str) {
+    let folder = folder(name);
+    let path = folder.to_str().unwrap();
+    let (status, output, message) = given(&["compare", program, path, "1", "0", "5"]);
+    assert_eq!((status, output), (2, String::new()));
+    assert!(message.contains(program), "{message}");
+    assert!(kept(&folder).is_empty());
+}
+
 #[test]
 fn a_program_that_cannot_be_run_is_no_mismatch() {
-    let folder = folder("not_run");
-    let path = folder.to_str().unwrap();
+    cannot_be_run("no_program", "/missing/program");
     let not_executable = concat!(env!("CARGO_MANIFEST_DIR"), "/Cargo.toml");
-    for program in ["/missing/program", not_executable] {
-        let (status, output, message) = given(&["compare", program, path, "1", "0", "5"]);
-        assert_eq!((status, output), (2, String::new()));
-        assert!(message.contains(program), "{message}");
-    }
-    assert!(kept(&folder).is_empty());
+    cannot_be_run("not_executable", not_executable);
 }
