@@ -42,20 +42,17 @@ mod tests {
     #[test]
     fn each_next_is_rounded_down() {
         // next is the floor: 1000 * next <= 999 * before < 1000 * (next + 1)
-        let weights = table();
-        for k in 1..weights.len() {
-            let exact = 999 * weights[k - 1];
-            assert!(1000 * weights[k] <= exact);
-            assert!(exact < 1000 * (weights[k] + 1));
-        }
+        let is_floor = |pair: &[u128]| {
+            let exact = 999 * pair[0];
+            (1000 * pair[1]..1000 * (pair[1] + 1)).contains(&exact)
+        };
+        assert!(table().windows(2).all(is_floor));
     }
 
     #[test]
     fn weights_fall_and_stay_above_zero() {
         let weights = table();
-        for k in 1..weights.len() {
-            assert!(weights[k] < weights[k - 1]);
-            assert!(weights[k] > 0);
-        }
+        assert!(weights.windows(2).all(|pair| pair[1] < pair[0]));
+        assert!(weights[1000] > 0);
     }
 }

@@ -254,14 +254,17 @@ mod tests {
     fn one_set_of_points_at_many_rates() {
         let operators = operators(&[(1000, 100_000_000), (3000, 200_000_000)]);
         let points = totals(&[65_036, 62_464]);
+        let adjusted = |pot_rate: u128, cap_rate: u128| {
+            let money = money(&operators, &points, pot_rate, cap_rate);
+            money.adjustments[..2].to_vec()
+        };
         for (pot_rate, cap_rate, first) in [
             (5000, 10_000, 11_463),
             (5000, 50, 5000),
             (5000, 0, 0),
             (0, 10_000, 0),
         ] {
-            let adjustments = money(&operators, &points, pot_rate, cap_rate).adjustments;
-            assert_eq!(adjustments[..2], [first, -first]);
+            assert_eq!(adjusted(pot_rate, cap_rate), [first, -first]);
         }
     }
 }

@@ -122,20 +122,16 @@ mod tests {
         prints(&filing, &format!("refused 6 at {length}\n"));
     }
 
-    /// Case M followed by its rates once more, up to a length of that form.
+    /// Case M, then an index and its rates again and again up to that length.
     fn filled(length: usize) -> Vec<u8> {
         let mut filing = encoded(&case_m::calls());
         let rates = encoded(&["rates 5000 10000"]);
         let index = encoded(&["index 1 10000"]);
-        while filing.len() < length {
-            let left = length - filing.len();
-            if left.is_multiple_of(11) {
-                filing.extend(&rates);
-            } else {
-                filing.extend(&index);
-            }
+        while !(length - filing.len()).is_multiple_of(rates.len()) {
+            filing.extend(&index);
         }
-        assert_eq!(filing.len(), length);
+        let times = (length - filing.len()) / rates.len();
+        filing.extend(rates.repeat(times));
         filing
     }
 

@@ -56,45 +56,49 @@ mod tests {
 
     const MAX: u64 = u64::MAX;
 
-    fn total(shares: &[u128]) -> u128 {
-        shares.iter().sum()
+    /// One place of a sharing.
+    struct Place {
+        number: usize,
+        floor: u128,
+        remainder: u128,
+        share: u128,
     }
 
-    /// Checks a sharing against the words of 01, without making it again.
-    fn check(t: u64, weights: &[u64]) {
+    /// The places of a sharing, worked out by the words of 01.
+    fn places(t: u64, weights: &[u64]) -> Vec<Place> {
+        let sum: u128 = weights.iter().map(|&weight| u128::from(weight)).sum();
         let shares = share(t, weights);
         assert_eq!(shares.len(), weights.len());
-        let sum: u128 = weights.iter().map(|&w| u128::from(w)).sum();
-        if sum == 0 {
-            assert!(shares.iter().all(|&s| s == 0));
-            return;
-        }
-        assert_eq!(total(&shares), u128::from(t), "{t} by {weights:?}");
-
-        let mut remainders = Vec::new();
-        let mut extra = Vec::new();
-        for place in 0..weights.len() {
-            let product = u128::from(t) * u128::from(weights[place]);
-            let floor = product / sum;
-            assert!(
-                shares[place] == floor || shares[place] == floor + 1,
-                "{t} by {weights:?}"
-            );
-            remainders.push(product % sum);
-            extra.push(shares[place] > floor);
-        }
-        // A place with a spare unit comes before every place without one.
-        for with in 0..weights.len() {
-            for without in 0..weights.len() {
-                if extra[with] && !extra[without] {
-                    assert!(
-                        remainders[with] > remainders[without]
-                            || (remainders[with] == remainders[without] && with < without),
-                        "{t} by {weights:?}"
-                    );
-                }
+        let place = |number: usize| {
+            let product = u128::from(t) * u128::from(weights[number]);
+            Place {
+                number,
+                floor: product / sum,
+                remainder: product % sum,
+                share: shares[number],
             }
-        }
+        };
+        (0..weights.len()).map(place).collect()
+    }
+
+    /// A place with a spare unit comes before every place without one.
+    fn comes_before(with: &Place, without: &Place) -> bool {
+        with.remainder > without.remainder
+            || (with.remainder == without.remainder && with.number < without.number)
+    }
+
+    /// Checks a sharing by weights that are not all 0, without making it again.
+    fn check(t: u64, weights: &[u64]) {
+        let places = places(t, weights);
+        let total: u128 = places.iter().map(|place| place.share).sum();
+        assert_eq!(total, u128::from(t), "{t} by {weights:?}");
+        let (with, without): (Vec<Place>, Vec<Place>) = places
+            .into_iter()
+            .partition(|place| place.share > place.floor);
+        assert!(with.iter().all(|place| place.share == place.floor + 1));
+        assert!(without.iter().all(|place| place.share == place.floor));
+        let before_all = |with: &Place| without.iter().all(|other| comes_before(with, other));
+        assert!(with.iter().all(before_all), "{t} by {weights:?}");
     }
 
     #[test]
@@ -158,14 +162,9 @@ mod tests {
 
     #[test]
     fn every_small_case() {
-        for t in 0..=12 {
-            for a in 0..=4 {
-                for b in 0..=4 {
-                    for c in 0..=4 {
-                        check(t, &[a, b, c]);
-                    }
-                }
-            }
+        // An amount of 0 to 12 and three weights of 0 to 4, not all 0.
+        for case in (0..13 * 125).filter(|case| case % 125 != 0) {
+            check(case / 125, &[case / 25 % 5, case / 5 % 5, case % 5]);
         }
     }
 

@@ -106,6 +106,12 @@ fn leaves_out(book: &Book, reason: Reason, filed: Interruption) {
     assert_eq!(after, *book);
 }
 
+/// The same for the interruption filed and withdrawn.
+fn leaves_out_both(book: &Book, reason: Reason, filed: Interruption) {
+    leaves_out(book, reason, filed);
+    leaves_out(book, reason, filed.withdrawn());
+}
+
 /// Files the interruption and checks that it counts, in that year only and in
 /// those two figures only.
 fn counts(book: &Book, year: usize, figure: usize, by: (i128, i128), filed: Interruption) {
@@ -258,14 +264,9 @@ fn has_causes(filed: Interruption) {
     let figure = 2 * usize::from(filed.level);
     counts(&book, 0, figure, (1, 181), filed.cause(0));
     counts(&book, 0, figure, (1, 181), filed.cause(4));
-    for (cause, reason) in [
-        (1, Reason::Planned),
-        (2, Reason::Coupled),
-        (3, Reason::Exceptional),
-    ] {
-        leaves_out(&book, reason, filed.cause(cause));
-        leaves_out(&book, reason, filed.cause(cause).withdrawn());
-    }
+    leaves_out_both(&book, Reason::Planned, filed.cause(1));
+    leaves_out_both(&book, Reason::Coupled, filed.cause(2));
+    leaves_out_both(&book, Reason::Exceptional, filed.cause(3));
     refuses_each(&book, 5, 5..=255, |book, cause| {
         interruption(book, &filed.cause(cause))
     });
@@ -282,9 +283,7 @@ fn short_comes_before_the_cause() {
     let book = with(&[0]);
     let lengths = [0, 1, 179, 180];
     for (cause, seconds) in (0..5).flat_map(|cause| lengths.map(|seconds| (cause, seconds))) {
-        let filed = mv(5000, 5000 + seconds).cause(cause);
-        leaves_out(&book, Reason::Short, filed);
-        leaves_out(&book, Reason::Short, filed.withdrawn());
+        leaves_out_both(&book, Reason::Short, mv(5000, 5000 + seconds).cause(cause));
     }
     // A value out of its range comes before being short.
     refuses_filed(&book, 5, mv(0, 180).cause(5));
@@ -480,10 +479,12 @@ fn amounts_add_and_subtract() {
 fn amounts_of_any_size_are_judged_by_8_and_9() {
     let filed = |sign: u8, value: u64| move |book: &mut Book| amount(book, 0, 0, 0, sign, value);
     let book = with(&[0]);
-    for value in [MOST + 1, 1 << 63, u64::MAX] {
-        refuses(&book, 8, filed(0, value));
-        refuses(&book, 9, filed(1, value));
-    }
+    refuses(&book, 8, filed(0, MOST + 1));
+    refuses(&book, 9, filed(1, MOST + 1));
+    refuses(&book, 8, filed(0, 1 << 63));
+    refuses(&book, 9, filed(1, 1 << 63));
+    refuses(&book, 8, filed(0, u64::MAX));
+    refuses(&book, 9, filed(1, u64::MAX));
     let book = with_amounts(&[(0, 0, 1)]);
     refuses(&book, 8, filed(0, MOST));
     refuses(&book, 8, filed(0, u64::MAX));
@@ -615,9 +616,10 @@ fn refused_by_every_call_of(book: &Book, operator: u8) {
         amount(book, operator, 0, 0, sign, 1)
     });
     refuses_each(book, 5, 0..=1, |book, value| mark(book, operator, 0, value));
-    for filed in [mv(0, 1000).of(operator), mv(0, 100).of(operator)] {
+    let counted = mv(0, 1000).of(operator);
+    let short = mv(0, 100).of(operator);
+    for filed in [counted, counted.withdrawn(), short, short.withdrawn()] {
         refuses_filed(book, 5, filed);
-        refuses_filed(book, 5, filed.withdrawn());
     }
 }
 

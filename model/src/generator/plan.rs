@@ -355,17 +355,17 @@ impl Draft {
     fn fill_up(&mut self, length: usize) {
         let operator = self.joined_operator();
         while self.bytes.len() < length {
-            let field = self.filler(operator, length - self.bytes.len());
-            self.file(field);
+            self.file_filler(operator, length - self.bytes.len());
         }
     }
 
-    fn filler(&mut self, operator: u8, left: usize) -> Field {
-        if left.is_multiple_of(6) {
+    fn file_filler(&mut self, operator: u8, left: usize) {
+        let field = if left.is_multiple_of(6) {
             mark(operator, 0, 0)
         } else {
             self.rates()
-        }
+        };
+        self.file(field);
     }
 
     // Books that don't settle.

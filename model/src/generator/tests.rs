@@ -131,9 +131,9 @@ fn kinds_by_turns() {
 fn sound_kinds_are_read_whole() {
     let is_sound =
         |&number: &u64| !matches!(kind(number), Kind::Damaged | Kind::Refused | Kind::Long);
+    let refusal = |number: u64| read(&mut Book::fresh(), &filing(3, number)).refusal;
     for number in (0..500).filter(is_sound) {
-        let refusal = read(&mut Book::fresh(), &filing(3, number)).refusal;
-        assert_eq!(refusal, None, "{number}");
+        assert_eq!(refusal(number), None, "{number}");
     }
 }
 
