@@ -8,16 +8,16 @@ pub struct Random {
 impl Random {
     /// The generator with that number among those of a seed.
     pub fn new(seed: u64, number: u64) -> Random {
-        let scrambled = Random { state: seed }.next();
+        let scrambled = Random { state: seed }.any();
         let state = Random {
             state: scrambled.wrapping_add(number),
         }
-        .next();
+        .any();
         Random { state }
     }
 
     /// Any number of 64 bits.
-    pub fn next(&mut self) -> u64 {
+    pub fn any(&mut self) -> u64 {
         self.state = self.state.wrapping_add(0x9e37_79b9_7f4a_7c15);
         let mut number = self.state;
         number = (number ^ (number >> 30)).wrapping_mul(0xbf58_476d_1ce4_e5b9);
@@ -27,7 +27,7 @@ impl Random {
 
     /// From 0 to `most`.
     pub fn up_to(&mut self, most: u64) -> u64 {
-        (u128::from(self.next()) % (u128::from(most) + 1)) as u64
+        (u128::from(self.any()) % (u128::from(most) + 1)) as u64
     }
 
     /// From `least` to `most`.

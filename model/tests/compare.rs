@@ -50,7 +50,7 @@ fn is_noticed(name: &str, behaviour: &str, number: u64, failure: &str, printed: 
     let filing = generator::filing(SEED, number);
     let file = format!("mismatch-{SEED}-{number}.q");
     assert_eq!(fs::read(folder.join(&file)).unwrap(), filing);
-    assert_eq!(kept(&folder), [file.clone()]);
+    assert_eq!(kept(&folder), [&file[..]]);
     let path = folder.display();
     let expected = String::from_utf8(program::printed(Some(&filing))).unwrap();
     let told = format!(

@@ -226,7 +226,7 @@ impl Draft {
     /// An interruption of a joined operator, all of its values in range.
     pub fn interruption(&mut self) -> Interruption {
         let end = self.end();
-        let seconds = self.seconds(end - EARLIEST_START, end);
+        let seconds = self.seconds(end);
         let level = self.random.place(2) as u8;
         let weight = match self.random.up_to(5) {
             _ if level == 1 => 1,
@@ -258,16 +258,17 @@ impl Draft {
         }
     }
 
-    /// The length of an interruption, often near the longest short one; at most
-    /// `most`, or a little fixed number that may be cut to it.
-    fn seconds(&mut self, most: i64, since_2017: i64) -> i64 {
+    /// The length of an interruption with that end, often near the longest short
+    /// one.
+    fn seconds(&mut self, end: i64) -> i64 {
+        let most = end - EARLIEST_START;
         match self.random.up_to(9) {
             0 => self.random.between(0, 3),
             1 => 180,
             2 => 181,
             3 | 4 => self.random.between(170, 190),
             5 => self.random.between(0, most),
-            6 => self.random.pick(&[1_000_000, since_2017, most]),
+            6 => self.random.pick(&[1_000_000, end, most]),
             _ => self.random.between(181, 259_200),
         }
     }

@@ -92,7 +92,7 @@ impl Draft {
             1 => self.interruption_of(operator),
             2 => {
                 let value = match self.random.up_to(5) {
-                    0 => self.random.next(),
+                    0 => self.random.any(),
                     1 => self.random.edge(MOST, u64::MAX),
                     _ => self.value(Style::Digits, 0, MOST),
                 };
