@@ -52,6 +52,13 @@ mod tests {
     }
 
     #[test]
+    fn a_word_without_digits_is_no_number() {
+        let refused = |word: &str| format!("not a decimal number: {word:?}");
+        assert_eq!(number::<u8>(""), Err(refused("")));
+        assert_eq!(signed_number("-"), Err(refused("-")));
+    }
+
+    #[test]
     fn numbers_fit_their_type() {
         assert_eq!(number("255"), Ok(255_u8));
         assert!(number::<u8>("256").is_err());

@@ -34,7 +34,7 @@ fn given(words: &[&str]) -> (i32, String, String) {
     (status, text(output), text(message))
 }
 
-/// The numbers of the filings kept in a folder.
+/// The names of the filings kept in a folder.
 fn kept(folder: &PathBuf) -> Vec<String> {
     fs::read_dir(folder)
         .unwrap()
