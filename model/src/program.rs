@@ -64,11 +64,7 @@ mod tests {
     fn marked_case_m_with_cap_rate_50() {
         let mut filing = encoded(&case_m::calls());
         filing.extend(encoded(&["rates 5000 50"]));
-        let expected = "operator points out in adjustment\n\
-            0 65036 375000 386463 5000\n\
-            1 62464 1125000 1113537 -5000\n\
-            all 127500 1500000 1500000 0\n";
-        prints(&filing, expected);
+        prints(&filing, &case_m::PRINTED.replace("11463", "5000"));
     }
 
     #[test]

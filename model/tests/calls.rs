@@ -1,13 +1,11 @@
 //! The subcommand `calls` as a program: its output, its messages and its exit status.
 
-#[path = "common/command.rs"]
-mod command;
+#[path = "common/text.rs"]
+mod text;
 
 /// Exit status, standard output and standard error of `model calls`.
 fn run(input: &str) -> (i32, String, String) {
-    let (status, output, message) = command::run(&["calls"], input.as_bytes());
-    let text = |bytes| String::from_utf8(bytes).unwrap();
-    (status, text(output), text(message))
+    text::run(&["calls"], input)
 }
 
 #[test]

@@ -1,16 +1,16 @@
 //! The subcommand `compare` as a program, with small scripts as the program
 //! under test.
 
-#[path = "common/command.rs"]
-mod command;
 #[path = "common/folder.rs"]
 mod folder;
+#[path = "common/text.rs"]
+mod text;
 
-use command::run;
 use folder::folder;
 use model::{generator, program};
 use std::fs;
 use std::path::PathBuf;
+use text::run;
 
 const SEED: u64 = 1;
 const PROGRAM: &str = concat!(env!("CARGO_MANIFEST_DIR"), "/tests/common/program.sh");
@@ -23,15 +23,8 @@ fn compared(name: &str, behaviour: &str) -> ((i32, String, String), PathBuf) {
     let folder = folder(name);
     fs::write(folder.join("behaviour.sh"), behaviour).unwrap();
     let path = folder.to_str().unwrap();
-    let given = given(&["compare", PROGRAM, path, "1", "0", "5"]);
+    let given = run(&["compare", PROGRAM, path, "1", "0", "5"], "");
     (given, folder)
-}
-
-/// Exit status, standard output and standard error of `model` as text.
-fn given(words: &[&str]) -> (i32, String, String) {
-    let (status, output, message) = run(words, b"");
-    let text = |bytes| String::from_utf8(bytes).unwrap();
-    (status, text(output), text(message))
 }
 
 /// The names of the filings kept in a folder.
@@ -103,14 +96,14 @@ fn a_later_mismatch_is_noticed_and_can_be_repeated() {
     let ((_, told, _), _) = compared("repeated", &later);
     let repeat = told.lines().nth(1).unwrap();
     let words: Vec<&str> = repeat.split(' ').skip(3).collect();
-    assert_eq!(given(&words), (1, told.clone(), String::new()));
+    assert_eq!(run(&words, ""), (1, told.clone(), String::new()));
 }
 
 /// The program cannot be run, which is told and is no mismatch.
 fn cannot_be_run(name: &str, program: &str) {
     let folder = folder(name);
     let path = folder.to_str().unwrap();
-    let (status, output, message) = given(&["compare", program, path, "1", "0", "5"]);
+    let (status, output, message) = run(&["compare", program, path, "1", "0", "5"], "");
     assert_eq!((status, output), (2, String::new()));
     assert!(message.contains(program), "{message}");
     assert!(kept(&folder).is_empty());
