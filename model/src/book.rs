@@ -2,6 +2,7 @@
 //! the range of every value.
 
 pub const OPERATORS: usize = 16;
+pub const SETTINGS: usize = 3;
 pub const INDICATORS: usize = 6;
 pub const YEARS: usize = 3;
 pub const FIGURES: usize = 8;
@@ -10,6 +11,8 @@ pub const INDICES: usize = 4;
 pub const MOST_CABINS: u128 = 100_000;
 pub const MOST_ACCESS_POINTS: u128 = 4_000_000;
 pub const MOST_INCOME: u128 = 100_000_000_000;
+/// The most of each setting, in the order of the filing's `which`.
+pub const MOST_SETTINGS: [u128; SETTINGS] = [MOST_CABINS, MOST_ACCESS_POINTS, MOST_INCOME];
 pub const MOST_FIGURE: u128 = 100_000_000_000;
 pub const MOST_RATE: u128 = 20_000;
 pub const LEAST_INDEX: u128 = 1;
@@ -44,24 +47,17 @@ impl Operator {
         }
     }
 
+    /// Cabins, access points and income, in the order of the filing's `which`.
+    pub fn settings(&self) -> [u128; SETTINGS] {
+        [self.cabins, self.access_points, self.income]
+    }
+
     /// Not joined, and every value is the fresh one.
     pub fn is_fresh(&self) -> bool {
-        if self.joined || self.cabins != 0 || self.access_points != 0 || self.income != 0 {
-            return false;
-        }
-        for &mark in &self.marks {
-            if mark {
-                return false;
-            }
-        }
-        for year in &self.figures {
-            for &figure in year {
-                if figure != 0 {
-                    return false;
-                }
-            }
-        }
-        true
+        !self.joined
+            && self.settings() == [0; SETTINGS]
+            && !self.marks.contains(&true)
+            && self.figures == [[0; FIGURES]; YEARS]
     }
 
     /// Every value is in its range, and without a join every value is fresh.
@@ -69,24 +65,29 @@ impl Operator {
         if !self.joined {
             return self.is_fresh();
         }
-        if self.cabins > MOST_CABINS {
-            return false;
-        }
-        if self.access_points > MOST_ACCESS_POINTS {
-            return false;
-        }
-        if self.income > MOST_INCOME {
-            return false;
-        }
-        for year in &self.figures {
-            for &figure in year {
-                if figure > MOST_FIGURE {
-                    return false;
-                }
-            }
-        }
-        true
+        let year_in_range = |year: &Vec<u128>| year.iter().all(|&figure| figure <= MOST_FIGURE);
+        self.cabins <= MOST_CABINS
+            && self.access_points <= MOST_ACCESS_POINTS
+            && self.income <= MOST_INCOME
+            && self.figures.iter().all(year_in_range)
     }
+}
+
+/// Every year and figure: by year, then figure.
+pub fn figure_places() -> impl Iterator<Item = (usize, usize)> {
+    (0..YEARS).flat_map(|year| (0..FIGURES).map(move |figure| (year, figure)))
+}
+
+/// The numbers of the joined operators, rising.
+pub fn joined(operators: &[Operator]) -> Vec<usize> {
+    (0..operators.len())
+        .filter(|&k| operators[k].joined)
+        .collect()
+}
+
+/// One number of so many bits: bit k is the one at place k.
+fn mask(bits: impl Iterator<Item = bool>) -> u128 {
+    bits.enumerate().map(|(k, bit)| u128::from(bit) << k).sum()
 }
 
 #[derive(Clone, Debug, PartialEq, Eq)]
@@ -115,42 +116,27 @@ impl Book {
     /// False for 01's "book with a value outside its range, or with anything
     /// but fresh values for an operator not joined".
     pub fn in_range(&self) -> bool {
-        for operator in &self.operators {
-            if !operator.in_range() {
-                return false;
-            }
-        }
-        if self.pot_rate > MOST_RATE || self.cap_rate > MOST_RATE {
-            return false;
-        }
-        for &index in &self.indices {
-            if !(LEAST_INDEX..=MOST_INDEX).contains(&index) {
-                return false;
-            }
-        }
-        true
+        self.operators.iter().all(Operator::in_range)
+            && self.pot_rate <= MOST_RATE
+            && self.cap_rate <= MOST_RATE
+            && self
+                .indices
+                .iter()
+                .all(|index| (LEAST_INDEX..=MOST_INDEX).contains(index))
     }
 
     /// The joined operators as one number: bit k stands for operator k.
     pub fn joined_mask(&self) -> u128 {
-        let mut mask = 0;
-        for k in 0..OPERATORS {
-            if self.operators[k].joined {
-                mask += 1 << k;
-            }
-        }
-        mask
+        mask(self.operators.iter().map(|operator| operator.joined))
     }
 
     /// The operators marked at an indicator as one number: bit k for operator k.
     pub fn mark_mask(&self, indicator: usize) -> u128 {
-        let mut mask = 0;
-        for k in 0..OPERATORS {
-            if self.operators[k].marks[indicator] {
-                mask += 1 << k;
-            }
-        }
-        mask
+        mask(
+            self.operators
+                .iter()
+                .map(|operator| operator.marks[indicator]),
+        )
     }
 
     /// Joins the operators whose bits are 1 and no others, without any check.
@@ -191,22 +177,45 @@ mod tests {
         book
     }
 
+    /// The book is out of range once any one of its operators is altered so.
+    fn out_of_range_with(book: &Book, alter: impl Fn(&mut Operator)) {
+        for k in 0..16 {
+            out_of_range(book, |other| alter(&mut other.operators[k]));
+        }
+    }
+
+    /// The book is out of range once it is altered so.
+    fn out_of_range(book: &Book, alter: impl Fn(&mut Book)) {
+        let mut other = book.clone();
+        alter(&mut other);
+        assert!(!other.in_range(), "{other:?}");
+    }
+
     #[test]
     fn fresh_book() {
+        let fresh = Operator {
+            joined: false,
+            marks: vec![false; 6],
+            cabins: 0,
+            access_points: 0,
+            income: 0,
+            figures: vec![vec![0; 8]; 3],
+        };
+        assert!(fresh.is_fresh());
         let book = Book::fresh();
-        assert_eq!(book.operators.len(), 16);
-        for operator in &book.operators {
-            assert!(operator.is_fresh());
-            assert!(!operator.joined);
-            assert_eq!(operator.marks, vec![false; 6]);
-            assert_eq!(operator.cabins, 0);
-            assert_eq!(operator.access_points, 0);
-            assert_eq!(operator.income, 0);
-            assert_eq!(operator.figures, vec![vec![0; 8]; 3]);
-        }
+        assert_eq!(book.operators, vec![fresh; 16]);
         assert_eq!((book.pot_rate, book.cap_rate), (0, 0));
         assert_eq!(book.indices, vec![10_000; 4]);
         assert!(book.in_range());
+    }
+
+    #[test]
+    fn places_of_the_figures() {
+        let places: Vec<(usize, usize)> = figure_places().collect();
+        assert_eq!(places.len(), 24);
+        assert_eq!(places[..2], [(0, 0), (0, 1)]);
+        assert_eq!(places[7..9], [(0, 7), (1, 0)]);
+        assert_eq!(places[23], (2, 7));
     }
 
     #[test]
@@ -215,98 +224,78 @@ mod tests {
         let mut book = Book::fresh();
         book.indices = vec![1; 4];
         assert!(book.in_range());
-        for k in 0..16 {
-            let mut book = Book::fresh();
-            book.operators[k].joined = true;
-            assert!(book.in_range());
-        }
+        book.put_joined_mask(0x8001);
+        assert!(book.in_range());
     }
 
     #[test]
     fn one_past_a_range() {
-        for k in 0..16 {
-            let mut book = full();
-            book.operators[k].cabins += 1;
-            assert!(!book.in_range());
-            let mut book = full();
-            book.operators[k].access_points += 1;
-            assert!(!book.in_range());
-            let mut book = full();
-            book.operators[k].income += 1;
-            assert!(!book.in_range());
-            for year in 0..3 {
-                for figure in 0..8 {
-                    let mut book = full();
-                    book.operators[k].figures[year][figure] += 1;
-                    assert!(!book.in_range());
-                }
-            }
+        let full = full();
+        out_of_range_with(&full, |operator| operator.cabins += 1);
+        out_of_range_with(&full, |operator| operator.access_points += 1);
+        out_of_range_with(&full, |operator| operator.income += 1);
+        for (year, figure) in figure_places() {
+            out_of_range_with(&full, |operator| operator.figures[year][figure] += 1);
         }
-        let mut book = full();
-        book.pot_rate += 1;
-        assert!(!book.in_range());
-        let mut book = full();
-        book.cap_rate += 1;
-        assert!(!book.in_range());
-        for number in 0..4 {
-            let mut book = full();
-            book.indices[number] += 1;
-            assert!(!book.in_range());
-            book.indices[number] = 0;
-            assert!(!book.in_range());
+        out_of_range(&full, |book| book.pot_rate += 1);
+        out_of_range(&full, |book| book.cap_rate += 1);
+    }
+
+    #[test]
+    fn indices_out_of_range() {
+        for (number, value) in (0..4).flat_map(|number| [(number, 0), (number, 100_001)]) {
+            out_of_range(&full(), |book| book.indices[number] = value);
         }
     }
 
     #[test]
-    fn values_of_an_operator_not_joined() {
-        for k in 0..16 {
-            let mut book = Book::fresh();
-            book.operators[k].cabins = 1;
-            assert!(!book.in_range());
-            let mut book = Book::fresh();
-            book.operators[k].access_points = 1;
-            assert!(!book.in_range());
-            let mut book = Book::fresh();
-            book.operators[k].income = 1;
-            assert!(!book.in_range());
-            for indicator in 0..6 {
-                let mut book = Book::fresh();
-                book.operators[k].marks[indicator] = true;
-                assert!(!book.in_range());
-            }
-            for year in 0..3 {
-                for figure in 0..8 {
-                    let mut book = Book::fresh();
-                    book.operators[k].figures[year][figure] = 1;
-                    assert!(!book.in_range());
-                }
-            }
+    fn figures_of_an_operator_not_joined() {
+        let fresh = Book::fresh();
+        for (year, figure) in figure_places() {
+            out_of_range_with(&fresh, |operator| operator.figures[year][figure] = 1);
         }
     }
 
     #[test]
-    fn masks() {
+    fn other_values_of_an_operator_not_joined() {
+        let fresh = Book::fresh();
+        out_of_range_with(&fresh, |operator| operator.cabins = 1);
+        out_of_range_with(&fresh, |operator| operator.access_points = 1);
+        out_of_range_with(&fresh, |operator| operator.income = 1);
+        for indicator in 0..6 {
+            out_of_range_with(&fresh, |operator| operator.marks[indicator] = true);
+        }
+    }
+
+    #[test]
+    fn joined_masks() {
         let mut book = Book::fresh();
         assert_eq!(book.joined_mask(), 0);
         book.put_joined_mask(0x8005);
         assert_eq!(book.joined_mask(), 0x8005);
-        for k in 0..16 {
-            assert_eq!(book.operators[k].joined, k == 0 || k == 2 || k == 15);
-        }
+        assert_eq!(joined(&book.operators), [0, 2, 15]);
         book.put_joined_mask(2);
         assert_eq!(book.joined_mask(), 2);
         book.put_joined_mask(u16::MAX);
         assert_eq!(book.joined_mask(), 65_535);
-        for indicator in 0..6 {
-            let mut book = Book::fresh();
-            book.put_mark_mask(indicator, 0x8001);
-            for other in 0..6 {
-                let expected = if other == indicator { 0x8001 } else { 0 };
-                assert_eq!(book.mark_mask(other), expected);
-            }
-            assert!(book.operators[15].marks[indicator]);
-            book.put_mark_mask(indicator, 0);
-            assert_eq!(book, Book::fresh());
-        }
+    }
+
+    /// The marks at one indicator are put and taken, the others stay.
+    fn mask_is_put(indicator: usize) {
+        let mut book = Book::fresh();
+        book.put_mark_mask(indicator, 0x8001);
+        let mut expected = Book::fresh();
+        expected.operators[0].marks[indicator] = true;
+        expected.operators[15].marks[indicator] = true;
+        assert_eq!(book, expected);
+        assert_eq!(book.mark_mask(indicator), 0x8001);
+        assert_eq!(book.mark_mask((indicator + 1) % 6), 0);
+        book.put_mark_mask(indicator, 0);
+        assert_eq!(book, Book::fresh());
+    }
+
+    #[test]
+    fn mark_masks() {
+        (0..6).for_each(mask_is_put);
     }
 }

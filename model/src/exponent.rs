@@ -4,11 +4,9 @@
 /// Follows 01: "The weight of k stands in a table of 1001 numbers: the first is
 /// 1,000,000,000, each next is 999/1000 of the one before, rounded down."
 pub fn table() -> Vec<u128> {
-    let mut weights = Vec::new();
-    let mut weight: u128 = 1_000_000_000;
-    for _k in 0..=1000 {
-        weights.push(weight);
-        weight = weight * 999 / 1000;
+    let mut weights = vec![1_000_000_000];
+    for k in 0..1000 {
+        weights.push(weights[k] * 999 / 1000);
     }
     weights
 }
@@ -44,20 +42,17 @@ mod tests {
     #[test]
     fn each_next_is_rounded_down() {
         // next is the floor: 1000 * next <= 999 * before < 1000 * (next + 1)
-        let weights = table();
-        for k in 1..weights.len() {
-            let exact = 999 * weights[k - 1];
-            assert!(1000 * weights[k] <= exact);
-            assert!(exact < 1000 * (weights[k] + 1));
-        }
+        let is_floor = |pair: &[u128]| {
+            let exact = 999 * pair[0];
+            (1000 * pair[1]..1000 * (pair[1] + 1)).contains(&exact)
+        };
+        assert!(table().windows(2).all(is_floor));
     }
 
     #[test]
     fn weights_fall_and_stay_above_zero() {
         let weights = table();
-        for k in 1..weights.len() {
-            assert!(weights[k] < weights[k - 1]);
-            assert!(weights[k] > 0);
-        }
+        assert!(weights.windows(2).all(|pair| pair[1] < pair[0]));
+        assert!(weights[1000] > 0);
     }
 }

@@ -58,39 +58,33 @@ pub struct Reading {
 /// the refused tag (the filing's length if none)." A field whose interruption
 /// is left out is applied as well.
 pub fn read(book: &mut Book, filing: &[u8]) -> Reading {
-    let mut applied = 0;
-    let mut offset = 0;
+    let mut reading = Reading {
+        applied: 0,
+        offset: 0,
+        refusal: None,
+    };
     // Before any other check, so also for an empty filing.
     if !book.in_range() {
-        return Reading {
-            applied,
-            offset,
-            refusal: Some(5),
-        };
+        reading.refusal = Some(5);
     }
-    while offset < filing.len() {
-        let refusal = match field_at(filing, offset) {
-            Err(number) => Some(number),
-            Ok(field) => match apply(book, &field) {
-                Answer::Refused(number) => Some(number),
-                Answer::Yes | Answer::Counted { .. } | Answer::LeftOut(_) => None,
-            },
-        };
-        if refusal.is_some() {
-            return Reading {
-                applied,
-                offset,
-                refusal,
-            };
-        }
-        applied += 1;
-        offset += HEAD + length_at(filing, offset);
+    while reading.refusal.is_none() && reading.offset < filing.len() {
+        read_field(book, filing, &mut reading);
     }
-    Reading {
-        applied,
-        offset,
-        refusal: None,
+    reading
+}
+
+/// Applies the field at the offset, or notes its refusal.
+fn read_field(book: &mut Book, filing: &[u8], reading: &mut Reading) {
+    let answer = match field_at(filing, reading.offset) {
+        Ok(field) => apply(book, &field),
+        Err(number) => Answer::Refused(number),
+    };
+    if let Answer::Refused(number) = answer {
+        reading.refusal = Some(number);
+        return;
     }
+    reading.applied += 1;
+    reading.offset += HEAD + length_at(filing, reading.offset);
 }
 
 /// The field whose tag is at the offset, or the refusal 1, 2 or 3.
@@ -103,19 +97,13 @@ pub fn field_at(filing: &[u8], offset: usize) -> Result<Field, u8> {
     }
     let tag = filing[offset];
     let length = length_at(filing, offset);
-    let mut refusals = Vec::new();
-    if length > left - HEAD {
-        refusals.push(1);
-    }
-    match content_length(tag) {
-        None => refusals.push(2),
-        Some(right) => {
-            if length != right {
-                refusals.push(3);
-            }
-        }
-    }
-    if let Some(number) = lowest(&refusals) {
+    let right = content_length(tag);
+    let refusal = lowest(&[
+        (1, length > left - HEAD),
+        (2, right.is_none()),
+        (3, right.is_some_and(|right| length != right)),
+    ]);
+    if let Some(number) = refusal {
         return Err(number);
     }
     let start = offset + HEAD;
@@ -152,15 +140,7 @@ fn decode(tag: u8, content: &[u8]) -> Field {
             which: content[1],
             value: unsigned(&content[2..10]) as u64,
         },
-        3 => Field::Interruption(Interruption {
-            operator: content[0],
-            sign: content[1],
-            level: content[2],
-            cause: content[3],
-            start: signed(&content[4..12]),
-            end: signed(&content[12..20]),
-            weight: unsigned(&content[20..24]) as u32,
-        }),
+        3 => Field::Interruption(decode_interruption(content)),
         4 => Field::Amount {
             operator: content[0],
             year: content[1],
@@ -185,13 +165,23 @@ fn decode(tag: u8, content: &[u8]) -> Field {
     }
 }
 
+fn decode_interruption(content: &[u8]) -> Interruption {
+    Interruption {
+        operator: content[0],
+        sign: content[1],
+        level: content[2],
+        cause: content[3],
+        start: signed(&content[4..12]),
+        end: signed(&content[12..20]),
+        weight: unsigned(&content[20..24]) as u32,
+    }
+}
+
 /// Follows 01: "Numbers are big-endian".
 fn unsigned(bytes: &[u8]) -> u128 {
-    let mut number = 0;
-    for &byte in bytes {
-        number = number * 256 + u128::from(byte);
-    }
-    number
+    bytes
+        .iter()
+        .fold(0, |number, &byte| number * 256 + u128::from(byte))
 }
 
 /// Eight bytes in two's complement.
@@ -234,68 +224,62 @@ pub fn apply(book: &mut Book, field: &Field) -> Answer {
 
 /// The bytes of a field: tag, length, content.
 pub fn encode(field: &Field) -> Vec<u8> {
-    let mut content = Vec::new();
-    let tag = match *field {
-        Field::Join { operator } => {
-            content.push(operator);
-            1
-        }
+    let content = content(field);
+    let length = content.len() as u16;
+    [&[tag(field)][..], &length.to_be_bytes(), &content].concat()
+}
+
+fn tag(field: &Field) -> u8 {
+    match field {
+        Field::Join { .. } => 1,
+        Field::Setting { .. } => 2,
+        Field::Interruption(_) => 3,
+        Field::Amount { .. } => 4,
+        Field::Mark { .. } => 5,
+        Field::Rates { .. } => 6,
+        Field::Index { .. } => 7,
+    }
+}
+
+fn content(field: &Field) -> Vec<u8> {
+    match *field {
+        Field::Join { operator } => vec![operator],
         Field::Setting {
             operator,
             which,
             value,
-        } => {
-            content.extend([operator, which]);
-            content.extend(value.to_be_bytes());
-            2
-        }
-        Field::Interruption(filed) => {
-            content.extend([filed.operator, filed.sign, filed.level, filed.cause]);
-            content.extend(filed.start.to_be_bytes());
-            content.extend(filed.end.to_be_bytes());
-            content.extend(filed.weight.to_be_bytes());
-            3
-        }
+        } => [&[operator, which][..], &value.to_be_bytes()].concat(),
+        Field::Interruption(filed) => interruption_content(&filed),
         Field::Amount {
             operator,
             year,
             figure,
             sign,
             value,
-        } => {
-            content.extend([operator, year, figure, sign]);
-            content.extend(value.to_be_bytes());
-            4
-        }
+        } => [&[operator, year, figure, sign][..], &value.to_be_bytes()].concat(),
         Field::Mark {
             operator,
             indicator,
             mark,
-        } => {
-            content.extend([operator, indicator, mark]);
-            5
-        }
-        Field::Rates { pot, cap } => {
-            content.extend(pot.to_be_bytes());
-            content.extend(cap.to_be_bytes());
-            6
-        }
-        Field::Index { number, value } => {
-            content.push(number);
-            content.extend(value.to_be_bytes());
-            7
-        }
-    };
-    let mut bytes = vec![tag];
-    bytes.extend((content.len() as u16).to_be_bytes());
-    bytes.extend(content);
-    bytes
+        } => vec![operator, indicator, mark],
+        Field::Rates { pot, cap } => [pot.to_be_bytes(), cap.to_be_bytes()].concat(),
+        Field::Index { number, value } => [&[number][..], &value.to_be_bytes()].concat(),
+    }
+}
+
+fn interruption_content(filed: &Interruption) -> Vec<u8> {
+    [
+        &[filed.operator, filed.sign, filed.level, filed.cause][..],
+        &filed.start.to_be_bytes(),
+        &filed.end.to_be_bytes(),
+        &filed.weight.to_be_bytes(),
+    ]
+    .concat()
 }
 
 #[cfg(test)]
 mod tests {
     use super::*;
-    use crate::book::Operator;
 
     const JOIN_0: [u8; 4] = [1, 0, 1, 0];
     const JOIN_1: [u8; 4] = [1, 0, 1, 1];
@@ -373,101 +357,117 @@ mod tests {
         refused(&joined(&[&JOIN_1, &mark]), 7, 4, 1);
     }
 
+    /// The filing is refused by that number, alone and after a join.
+    fn refused_anywhere(filing: &[u8], number: u8) {
+        refused(filing, number, 0, 0);
+        refused(&joined(&[&JOIN_0, filing]), number, 4, 1);
+    }
+
+    /// A field with that tag and length, and so many bytes after them.
+    fn field(tag: u8, length: usize, present: usize) -> Vec<u8> {
+        let [high, low] = (length as u16).to_be_bytes();
+        let mut field = vec![tag, high, low];
+        // Operators above 15 and values out of range: the lower number counts.
+        field.resize(3 + present, 255);
+        field
+    }
+
+    fn has_too_few_bytes(tag: u8) {
+        refused_anywhere(&[tag], 1);
+        refused_anywhere(&[tag, 0], 1);
+        refused_anywhere(&[tag, 255], 1);
+    }
+
     #[test]
     fn one_or_two_bytes_left() {
-        for tag in 0..=255 {
-            refused(&[tag], 1, 0, 0);
-            refused(&[tag, 0], 1, 0, 0);
-            refused(&[tag, 255], 1, 0, 0);
-            refused(&joined(&[&JOIN_0, &[tag]]), 1, 4, 1);
-            refused(&joined(&[&JOIN_0, &[tag, 0]]), 1, 4, 1);
+        (0..=255).for_each(has_too_few_bytes);
+    }
+
+    /// 1 for a right and a wrong length.
+    fn passes_the_end(tag: u8) {
+        for length in [1, 2, 3, 5, 8, 10, 12, 24, 256, 65_535] {
+            refused_anywhere(&field(tag, length, length - 1), 1);
         }
     }
 
     #[test]
     fn length_past_the_end() {
-        // 1 for every tag, known or not, and for a right and a wrong length.
-        for tag in 0..=255 {
-            for length in [1_u16, 2, 3, 5, 8, 10, 12, 24, 256, 65_535] {
-                let [high, low] = length.to_be_bytes();
-                let mut filing = vec![tag, high, low];
-                filing.resize(3 + usize::from(length) - 1, 0);
-                refused(&filing, 1, 0, 0);
-                refused(&joined(&[&JOIN_0, &filing]), 1, 4, 1);
-            }
-        }
+        // For every tag, known or not.
+        (0..=255).for_each(passes_the_end);
         // The second byte of a length is the lower one.
         refused(&[1, 1, 0, 0], 1, 0, 0);
     }
 
+    /// The field is refused by that number, with or without another after it.
+    fn refused_before_any(field: &[u8], number: u8) {
+        refused_anywhere(field, number);
+        refused_anywhere(&joined(&[field, &JOIN_1]), number);
+    }
+
+    fn is_unknown(tag: u8) {
+        assert_eq!(content_length(tag), None);
+        for length in [0, 1, 3, 24, 256] {
+            refused_before_any(&field(tag, length, length), 2);
+        }
+    }
+
     #[test]
     fn unknown_tags() {
-        for tag in 0..=255 {
-            if (1..=7).contains(&tag) {
-                continue;
-            }
-            for length in [0_u16, 1, 3, 24, 256] {
-                let [high, low] = length.to_be_bytes();
-                let mut filing = vec![tag, high, low];
-                filing.resize(3 + usize::from(length), 0);
-                refused(&filing, 2, 0, 0);
-                refused(&joined(&[&filing, &JOIN_0]), 2, 0, 0);
-                refused(&joined(&[&JOIN_0, &filing, &JOIN_1]), 2, 4, 1);
-            }
+        let known = 1..=7;
+        (0..=255)
+            .filter(|tag| !known.contains(tag))
+            .for_each(is_unknown);
+    }
+
+    fn has_length(tag: u8, right: usize) {
+        assert_eq!(content_length(tag), Some(right));
+        let lengths = (0..300).chain([right + 256, right + 512, 65_535]);
+        for length in lengths.filter(|&length| length != right) {
+            refused_before_any(&field(tag, length, length), 3);
         }
     }
 
     #[test]
     fn wrong_lengths() {
-        let rights = [1, 10, 24, 12, 3, 8, 5];
-        for tag in 1..=7_u8 {
-            let right = rights[usize::from(tag) - 1];
-            assert_eq!(content_length(tag), Some(right));
-            for length in (0..300_usize).chain([right + 256, right + 512, 65_535]) {
-                if length == right {
-                    continue;
-                }
-                let [high, low] = (length as u16).to_be_bytes();
-                let mut filing = vec![tag, high, low];
-                // An operator above 15 and values out of range: 3 all the same.
-                filing.resize(3 + length, 255);
-                refused(&filing, 3, 0, 0);
-                filing.extend(JOIN_0);
-                refused(&filing, 3, 0, 0);
-            }
+        for (tag, right) in (1..=7).zip([1, 10, 24, 12, 3, 8, 5]) {
+            has_length(tag, right);
         }
-        for tag in [0, 8, 9, 99, 255] {
-            assert_eq!(content_length(tag), None);
-        }
+    }
+
+    /// Operator 15 with its settings and an interruption from -31,536,000 to 0
+    /// of weight 258.
+    fn joined_and_set() -> Vec<u8> {
+        joined(&[
+            &[1, 0, 1, 15],
+            &[2, 0, 10, 15, 0, 0, 0, 0, 0, 0, 1, 134, 160],
+            &[2, 0, 10, 15, 1, 0, 0, 0, 0, 0, 61, 9, 0],
+            &[2, 0, 10, 15, 2, 0, 0, 0, 23, 72, 118, 232, 0],
+            &[3, 0, 24, 15, 0, 0, 4],
+            &[255, 255, 255, 255, 254, 30, 204, 128],
+            &[0, 0, 0, 0, 0, 0, 0, 0],
+            &[0, 0, 1, 2],
+        ])
+    }
+
+    #[test]
+    fn amount_of_eight_bytes() {
+        let start = joined_and_set();
+        let past_most = [4, 0, 12, 15, 2, 7, 0, 1, 2, 3, 4, 5, 6, 7, 8];
+        refused(&joined(&[&start, &past_most]), 8, start.len(), 5);
     }
 
     #[test]
     fn every_field_from_bytes() {
         let filing = joined(&[
-            &[1, 0, 1, 15],
-            &[2, 0, 10, 15, 0, 0, 0, 0, 0, 0, 1, 134, 160],
-            &[2, 0, 10, 15, 1, 0, 0, 0, 0, 0, 61, 9, 0],
-            &[2, 0, 10, 15, 2, 0, 0, 0, 23, 72, 118, 232, 0],
-            // From -31,536,000 to 0, weight 258.
-            &[3, 0, 24, 15, 0, 0, 4],
-            &[255, 255, 255, 255, 254, 30, 204, 128],
-            &[0, 0, 0, 0, 0, 0, 0, 0],
-            &[0, 0, 1, 2],
-            &[4, 0, 12, 15, 2, 7, 0, 1, 2, 3, 4, 5, 6, 7, 8],
-        ]);
-        // The last number is past 10^11.
-        refused(&filing, 8, filing.len() - 15, 5);
-        let filing = joined(&[
-            &filing[..filing.len() - 15],
+            &joined_and_set(),
             &[4, 0, 12, 15, 2, 7, 0, 0, 0, 0, 4, 5, 6, 7, 8],
             &[4, 0, 12, 15, 2, 7, 1, 0, 0, 0, 0, 0, 0, 0, 8],
             &[5, 0, 3, 15, 5, 1],
             &[6, 0, 8, 0, 0, 19, 136, 0, 0, 39, 16],
             &[7, 0, 5, 3, 0, 1, 134, 160],
         ]);
-        let book = taken(&filing, 10);
         let mut expected = Book::fresh();
-        let mut operator = Operator::fresh();
+        let operator = &mut expected.operators[15];
         operator.joined = true;
         operator.cabins = 100_000;
         operator.access_points = 4_000_000;
@@ -476,11 +476,10 @@ mod tests {
         operator.figures[0][1] = 258 * 31_536_000;
         operator.figures[2][7] = 0x04_0506_0700;
         operator.marks[5] = true;
-        expected.operators[15] = operator;
         expected.pot_rate = 5000;
         expected.cap_rate = 10_000;
         expected.indices[3] = 100_000;
-        assert_eq!(book, expected);
+        assert_eq!(taken(&filing, 10), expected);
     }
 
     #[test]
@@ -513,22 +512,28 @@ mod tests {
         assert_eq!(signed(&zero), 0);
     }
 
+    /// A filing with an interruption that is left out, between two joins.
+    fn is_left_out(cause: u8, seconds: u8) {
+        let filing = joined(&[
+            &JOIN_0,
+            &[3, 0, 24, 0, 0, 1, cause],
+            &[0; 8],
+            &[0, 0, 0, 0, 0, 0, 0, seconds],
+            &[0, 0, 0, 1],
+            &JOIN_1,
+        ]);
+        let mut expected = Book::fresh();
+        expected.put_joined_mask(3);
+        assert_eq!(taken(&filing, 3), expected);
+    }
+
     #[test]
     fn interruptions_left_out_are_applied() {
-        for (cause, seconds) in [(0, 180), (1, 181), (2, 181), (3, 181), (4, 0)] {
-            let filing = joined(&[
-                &JOIN_0,
-                &[3, 0, 24, 0, 0, 1, cause],
-                &[0; 8],
-                &[0, 0, 0, 0, 0, 0, 0, seconds],
-                &[0, 0, 0, 1],
-                &JOIN_1,
-            ]);
-            let mut expected = Book::fresh();
-            expected.operators[0].joined = true;
-            expected.operators[1].joined = true;
-            assert_eq!(taken(&filing, 3), expected);
-        }
+        is_left_out(0, 180);
+        is_left_out(1, 181);
+        is_left_out(2, 181);
+        is_left_out(3, 181);
+        is_left_out(4, 0);
     }
 
     #[test]
@@ -557,39 +562,76 @@ mod tests {
         assert_eq!(book.joined_mask(), 3);
     }
 
-    #[test]
-    fn book_out_of_range() {
-        let mut past = Book::fresh();
-        past.pot_rate = 20_001;
-        let mut not_joined = Book::fresh();
-        not_joined.operators[4].marks[0] = true;
+    /// The book takes nothing of the filing once it is altered so.
+    fn reads_nothing(filing: &[u8], alter: fn(&mut Book)) {
         let expected = Reading {
             applied: 0,
             offset: 0,
             refusal: Some(5),
         };
-        for book in [past, not_joined] {
-            for filing in [
-                &[] as &[u8],
-                &[1],
-                &[1, 0],
-                &[99, 0, 0],
-                &[1, 0, 0],
-                &[1, 0, 1, 16],
-                &JOIN_0,
-                &[1, 0, 1, 0, 1, 0, 1, 4],
-                // Rates that would bring the book back into range.
-                &[6, 0, 8, 0, 0, 0, 0, 0, 0, 0, 0],
-            ] {
-                let mut after = book.clone();
-                assert_eq!(read(&mut after, filing), expected);
-                assert_eq!(after, book);
-            }
-        }
+        let mut book = Book::fresh();
+        alter(&mut book);
+        let kept = book.clone();
+        assert_eq!(read(&mut book, filing), expected);
+        assert_eq!(book, kept);
     }
 
     #[test]
-    fn fields_are_encoded_and_decoded() {
+    fn book_out_of_range() {
+        let filings: [&[u8]; 9] = [
+            &[],
+            &[1],
+            &[1, 0],
+            &[99, 0, 0],
+            &[1, 0, 0],
+            &[1, 0, 1, 16],
+            &JOIN_0,
+            &[1, 0, 1, 0, 1, 0, 1, 4],
+            // Rates that would bring the book back into range.
+            &[6, 0, 8, 0, 0, 0, 0, 0, 0, 0, 0],
+        ];
+        let alterations: [fn(&mut Book); 2] = [
+            |book| book.pot_rate = 20_001,
+            |book| book.operators[4].marks[0] = true,
+        ];
+        let pairs = filings.map(|filing| alterations.map(|alter| (filing, alter)));
+        for &(filing, alter) in pairs.as_flattened() {
+            reads_nothing(filing, alter);
+        }
+    }
+    /// The field is encoded as these bytes, and decoded from them.
+    fn is_encoded(field: Field, bytes: &[u8]) {
+        assert_eq!(encode(&field), bytes);
+        assert_eq!(field_at(bytes, 0), Ok(field));
+    }
+
+    #[test]
+    fn fields_of_an_operator_as_bytes() {
+        is_encoded(Field::Join { operator: 16 }, &[1, 0, 1, 16]);
+        let setting = Field::Setting {
+            operator: 1,
+            which: 2,
+            value: 0x0304_0506_0708_090a,
+        };
+        is_encoded(setting, &[2, 0, 10, 1, 2, 3, 4, 5, 6, 7, 8, 9, 10]);
+        let amount = Field::Amount {
+            operator: 1,
+            year: 2,
+            figure: 3,
+            sign: 4,
+            value: 0x0506_0708_090a_0bff,
+        };
+        is_encoded(amount, &[4, 0, 12, 1, 2, 3, 4, 5, 6, 7, 8, 9, 10, 11, 255]);
+        let mark = Field::Mark {
+            operator: 1,
+            indicator: 2,
+            mark: 3,
+        };
+        is_encoded(mark, &[5, 0, 3, 1, 2, 3]);
+    }
+
+    #[test]
+    fn interruption_as_bytes() {
         let interruption = Interruption {
             operator: 1,
             sign: 2,
@@ -599,59 +641,26 @@ mod tests {
             end: i64::MAX,
             weight: 0x0102_0304,
         };
-        let cases: [(Field, &[u8]); 7] = [
-            (Field::Join { operator: 16 }, &[1, 0, 1, 16]),
-            (
-                Field::Setting {
-                    operator: 1,
-                    which: 2,
-                    value: 0x0304_0506_0708_090a,
-                },
-                &[2, 0, 10, 1, 2, 3, 4, 5, 6, 7, 8, 9, 10],
-            ),
-            (
-                Field::Interruption(interruption),
-                &[
-                    3, 0, 24, 1, 2, 3, 4, 255, 255, 255, 255, 255, 255, 255, 254, 127, 255, 255,
-                    255, 255, 255, 255, 255, 1, 2, 3, 4,
-                ],
-            ),
-            (
-                Field::Amount {
-                    operator: 1,
-                    year: 2,
-                    figure: 3,
-                    sign: 4,
-                    value: u64::MAX - 1,
-                },
-                &[4, 0, 12, 1, 2, 3, 4, 255, 255, 255, 255, 255, 255, 255, 254],
-            ),
-            (
-                Field::Mark {
-                    operator: 1,
-                    indicator: 2,
-                    mark: 3,
-                },
-                &[5, 0, 3, 1, 2, 3],
-            ),
-            (
-                Field::Rates {
-                    pot: 0x0102_0304,
-                    cap: 0x0506_0708,
-                },
-                &[6, 0, 8, 1, 2, 3, 4, 5, 6, 7, 8],
-            ),
-            (
-                Field::Index {
-                    number: 1,
-                    value: 0x0203_0405,
-                },
-                &[7, 0, 5, 1, 2, 3, 4, 5],
-            ),
-        ];
-        for (field, bytes) in cases {
-            assert_eq!(encode(&field), bytes);
-            assert_eq!(field_at(bytes, 0), Ok(field));
-        }
+        let bytes = joined(&[
+            &[3, 0, 24, 1, 2, 3, 4],
+            &[255, 255, 255, 255, 255, 255, 255, 254],
+            &[127, 255, 255, 255, 255, 255, 255, 255],
+            &[1, 2, 3, 4],
+        ]);
+        is_encoded(Field::Interruption(interruption), &bytes);
+    }
+
+    #[test]
+    fn rates_and_index_as_bytes() {
+        let rates = Field::Rates {
+            pot: 0x0102_0304,
+            cap: 0x0506_0708,
+        };
+        is_encoded(rates, &[6, 0, 8, 1, 2, 3, 4, 5, 6, 7, 8]);
+        let index = Field::Index {
+            number: 1,
+            value: 0x0203_0405,
+        };
+        is_encoded(index, &[7, 0, 5, 1, 2, 3, 4, 5]);
     }
 }

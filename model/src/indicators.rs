@@ -1,7 +1,7 @@
 //! The indicators: yearly values, pools and the points of every operator.
 //! Nothing here knows of money, so one set of points can be settled at many rates.
 
-use crate::book::{Book, Operator, OPERATORS, YEARS};
+use crate::book::{joined, Book, Operator, OPERATORS, YEARS};
 use crate::exponent;
 use crate::sharing::share_wide;
 
@@ -29,7 +29,6 @@ pub enum Divisor {
 /// One indicator; its number is its place in the list.
 #[derive(Clone, Copy, Debug, PartialEq, Eq)]
 pub struct Indicator {
-    pub code: &'static str,
     /// Points per year.
     pub points: u128,
     pub kind: Kind,
@@ -58,11 +57,10 @@ impl Points {
 
     /// The points of each operator over all indicators.
     pub fn totals(&self) -> Vec<u128> {
-        let mut totals = Vec::new();
-        for points in &self.points {
-            totals.push(points.iter().sum());
-        }
-        totals
+        self.points
+            .iter()
+            .map(|points| points.iter().sum())
+            .collect()
     }
 }
 
@@ -71,55 +69,33 @@ impl Points {
 /// A4 54, D1 20, D2 5" and the three lines of yearly values below it.
 pub fn indicators() -> Vec<Indicator> {
     vec![
-        Indicator {
-            code: "A1",
-            points: 154,
-            kind: Kind::Interruptions,
-            factor: 1_000_000,
-            figure: 0,
-            divisor: Divisor::Cabins,
-        },
-        Indicator {
-            code: "A2",
-            points: 126,
-            kind: Kind::Interruptions,
-            factor: 1000,
-            figure: 1,
-            divisor: Divisor::Figure(0),
-        },
-        Indicator {
-            code: "A3",
-            points: 66,
-            kind: Kind::Interruptions,
-            factor: 1_000_000,
-            figure: 2,
-            divisor: Divisor::AccessPoints,
-        },
-        Indicator {
-            code: "A4",
-            points: 54,
-            kind: Kind::Interruptions,
-            factor: 1000,
-            figure: 3,
-            divisor: Divisor::Figure(2),
-        },
-        Indicator {
-            code: "D1",
-            points: 20,
-            kind: Kind::Fees,
-            factor: 10,
-            figure: 4,
-            divisor: Divisor::Figure(5),
-        },
-        Indicator {
-            code: "D2",
-            points: 5,
-            kind: Kind::Fees,
-            factor: 10,
-            figure: 6,
-            divisor: Divisor::Figure(7),
-        },
+        interruptions(154, 1_000_000, 0, Divisor::Cabins),
+        interruptions(126, 1000, 1, Divisor::Figure(0)),
+        interruptions(66, 1_000_000, 2, Divisor::AccessPoints),
+        interruptions(54, 1000, 3, Divisor::Figure(2)),
+        fees(20, 4, 5),
+        fees(5, 6, 7),
     ]
+}
+
+fn interruptions(points: u128, factor: u128, figure: usize, divisor: Divisor) -> Indicator {
+    Indicator {
+        points,
+        kind: Kind::Interruptions,
+        factor,
+        figure,
+        divisor,
+    }
+}
+
+fn fees(points: u128, figure: usize, divisor: usize) -> Indicator {
+    Indicator {
+        points,
+        kind: Kind::Fees,
+        factor: 10,
+        figure,
+        divisor: Divisor::Figure(divisor),
+    }
 }
 
 /// The value of one operator in one year.
@@ -150,11 +126,9 @@ pub fn yearly_value(
 
 /// Follows 01: "An operator's s is the sum of its three yearly values."
 pub fn value_sum(indicator: &Indicator, operator: &Operator, indices: &[u128]) -> u128 {
-    let mut sum = 0;
-    for year in 0..YEARS {
-        sum += yearly_value(indicator, operator, year, indices);
-    }
-    sum
+    (0..YEARS)
+        .map(|year| yearly_value(indicator, operator, year, indices))
+        .sum()
 }
 
 /// The pool for `joined` operators (above 0), `unmarked` of them without a mark.
@@ -167,35 +141,19 @@ pub fn pool(indicator: &Indicator, joined: u128, unmarked: u128) -> u128 {
 /// Follows 01: "k = 1000 × s / (largest s of the m), rounded down, or 0 if the
 /// largest is 0".
 pub fn parts_of_largest(parts: u128, sums: &[u128]) -> Vec<u128> {
-    let mut largest = 0;
-    for &sum in sums {
-        if sum > largest {
-            largest = sum;
-        }
-    }
+    let largest = sums.iter().copied().max().unwrap_or(0);
     if largest == 0 {
         return vec![0; sums.len()];
     }
-    let mut answers = Vec::new();
-    for &sum in sums {
-        answers.push(parts * sum / largest);
-    }
-    answers
+    sums.iter().map(|sum| parts * sum / largest).collect()
 }
 
 /// Which operators are better.
 /// Follows 01: "Better operators have m × s below the sum of all s."
 pub fn better(sums: &[u128]) -> Vec<bool> {
     let count = sums.len() as u128;
-    let mut total = 0;
-    for &sum in sums {
-        total += sum;
-    }
-    let mut answers = Vec::new();
-    for &sum in sums {
-        answers.push(count * sum < total);
-    }
-    answers
+    let total: u128 = sums.iter().sum();
+    sums.iter().map(|sum| count * sum < total).collect()
 }
 
 /// The weights after the better operators are levelled.
@@ -203,36 +161,29 @@ pub fn better(sums: &[u128]) -> Vec<bool> {
 /// of their weights and each other takes g times its own." With none the
 /// weights stay.
 pub fn levelled(weights: &[u128], better: &[bool]) -> Vec<u128> {
-    let mut count = 0;
-    let mut group_sum = 0;
-    for place in 0..weights.len() {
-        if better[place] {
-            count += 1;
-            group_sum += weights[place];
-        }
-    }
-    if count == 0 {
+    let places = || weights.iter().zip(better);
+    let group: Vec<u128> = places()
+        .filter(|(_, &better)| better)
+        .map(|(&weight, _)| weight)
+        .collect();
+    if group.is_empty() {
         return weights.to_vec();
     }
-    let mut answers = Vec::new();
-    for place in 0..weights.len() {
-        if better[place] {
-            answers.push(group_sum);
-        } else {
-            answers.push(count * weights[place]);
-        }
-    }
-    answers
+    let count = group.len() as u128;
+    let sum: u128 = group.iter().sum();
+    places()
+        .map(|(weight, &better)| if better { sum } else { count * weight })
+        .collect()
 }
 
 /// The weights of an A indicator from the sums of the unmarked operators.
 /// Follows 01: "The weight of k stands in a table of 1001 numbers".
 pub fn interruption_weights(sums: &[u128]) -> Vec<u128> {
     let table = exponent::table();
-    let mut weights = Vec::new();
-    for k in parts_of_largest(1000, sums) {
-        weights.push(table[k as usize]);
-    }
+    let weights: Vec<u128> = parts_of_largest(1000, sums)
+        .into_iter()
+        .map(|k| table[k as usize])
+        .collect();
     levelled(&weights, &better(sums))
 }
 
@@ -240,11 +191,25 @@ pub fn interruption_weights(sums: &[u128]) -> Vec<u128> {
 /// Follows 01: "e = 100,000 × s / (largest s), rounded down, or 0; the weight
 /// is 1,000,000 - 6 × e."
 pub fn fee_weights(sums: &[u128]) -> Vec<u128> {
-    let mut weights = Vec::new();
-    for e in parts_of_largest(100_000, sums) {
-        weights.push(1_000_000 - 6 * e);
-    }
-    weights
+    parts_of_largest(100_000, sums)
+        .into_iter()
+        .map(|e| 1_000_000 - 6 * e)
+        .collect()
+}
+
+/// The joined operators without a mark at an indicator, rising.
+pub fn unmarked(book: &Book, number: usize) -> Vec<usize> {
+    let mut operators = joined(&book.operators);
+    operators.retain(|&k| !book.operators[k].marks[number]);
+    operators
+}
+
+/// The s of each of these operators.
+pub fn value_sums(book: &Book, indicator: &Indicator, operators: &[usize]) -> Vec<u128> {
+    operators
+        .iter()
+        .map(|&k| value_sum(indicator, &book.operators[k], &book.indices))
+        .collect()
 }
 
 /// Pools and points of a book with at least one joined operator.
@@ -252,34 +217,25 @@ pub fn fee_weights(sums: &[u128]) -> Vec<u128> {
 pub fn points(book: &Book, indicators: &[Indicator]) -> Points {
     let mut answer = Points::zero(indicators.len());
     for (number, indicator) in indicators.iter().enumerate() {
-        // The lists are those of the unmarked operators, rising.
-        let mut joined = 0;
-        let mut unmarked = Vec::new();
-        let mut sums = Vec::new();
-        for k in 0..OPERATORS {
-            let operator = &book.operators[k];
-            if !operator.joined {
-                continue;
-            }
-            joined += 1;
-            if operator.marks[number] {
-                continue;
-            }
-            unmarked.push(k);
-            sums.push(value_sum(indicator, operator, &book.indices));
-        }
-        let weights = match indicator.kind {
-            Kind::Interruptions => interruption_weights(&sums),
-            Kind::Fees => fee_weights(&sums),
-        };
-        let pool = pool(indicator, joined, unmarked.len() as u128);
-        let shares = share_wide(pool, &weights);
-        answer.pools[number] = pool;
-        for place in 0..unmarked.len() {
-            answer.points[unmarked[place]][number] = shares[place];
-        }
+        put_points(&mut answer, book, number, indicator);
     }
     answer
+}
+
+/// Puts the pool of one indicator and the shares of the unmarked operators.
+fn put_points(answer: &mut Points, book: &Book, number: usize, indicator: &Indicator) {
+    let joined = joined(&book.operators);
+    let unmarked = unmarked(book, number);
+    let sums = value_sums(book, indicator, &unmarked);
+    let weights = match indicator.kind {
+        Kind::Interruptions => interruption_weights(&sums),
+        Kind::Fees => fee_weights(&sums),
+    };
+    let pool = pool(indicator, joined.len() as u128, unmarked.len() as u128);
+    answer.pools[number] = pool;
+    for (k, share) in unmarked.into_iter().zip(share_wide(pool, &weights)) {
+        answer.points[k][number] = share;
+    }
 }
 
 #[cfg(test)]
@@ -312,8 +268,6 @@ mod tests {
     fn six_indicators_with_their_points() {
         let list = indicators();
         assert_eq!(list.len(), INDICATORS);
-        let codes: Vec<&str> = list.iter().map(|indicator| indicator.code).collect();
-        assert_eq!(codes, ["A1", "A2", "A3", "A4", "D1", "D2"]);
         let points: Vec<u128> = list.iter().map(|indicator| indicator.points).collect();
         assert_eq!(points, [154, 126, 66, 54, 20, 5]);
     }
@@ -345,10 +299,7 @@ mod tests {
     #[test]
     fn every_year_has_its_figures_and_its_index() {
         let mut one = operator(10, 10, [0; 8]);
-        for year in 0..3 {
-            let value = 10 + year as u128;
-            one.figures[year] = vec![value; 8];
-        }
+        one.figures = vec![vec![10; 8], vec![11; 8], vec![12; 8]];
         let indices = [100, 200, 400, 1000];
         let list = indicators();
         let of = |number: usize| -> Vec<u128> {

@@ -2,16 +2,19 @@
 //! prints the answers, which the modules compute.
 
 use model::book::Book;
-use model::{compare, exponent, filing, generator, product, program, script, sharing, writer};
+use model::compare::Comparison;
+use model::files::of_file;
+use model::numbers::{number, numbers};
+use model::{exponent, filing, product, program, script, sharing, writer};
 use std::fs;
 use std::io::{self, BufRead, BufWriter, ErrorKind, Write};
-use std::path::Path;
+use std::ops::Range;
 use std::process::ExitCode;
 
 const SUBCOMMANDS: &str = "expected one of: share, product, table, calls, encode, \
-    program FILE, rewrite FILE, generate SEED FIRST COUNT DIR, \
-    answers SEED FIRST COUNT, compare PROGRAM DIR SEED FIRST COUNT";
+    program FILE, rewrite FILE, compare PROGRAM DIR SEED FIRST COUNT";
 
+const DONE: u8 = 0;
 /// The exit status of `rewrite` when a field is refused.
 const REFUSED: u8 = 1;
 /// The exit status of `compare` when the program and the model differ.
@@ -41,77 +44,62 @@ fn main() -> ExitCode {
 fn dispatch(words: &[&str], output: &mut impl Write) -> Result<u8, String> {
     let input = io::stdin().lock();
     match words {
-        ["share"] => answer_lines(input, output, on_numbers(sharing::answer))?,
-        ["product"] => answer_lines(input, output, on_numbers(product::answer))?,
-        ["table"] => {
-            for weight in exponent::table() {
-                print(output, format!("{weight}\n").as_bytes())?;
-            }
-        }
-        ["calls"] => {
-            let mut book = Book::fresh();
-            answer_lines(input, output, |line| script::answer(&mut book, line))?;
-        }
-        ["encode"] => for_lines(input, output, script::encode)?,
-        ["program", file] => {
-            let bytes = read_if_present(file)?;
-            print(output, &program::printed(bytes.as_deref()))?;
-        }
-        ["rewrite", file] => {
-            let bytes = fs::read(file).map_err(|error| format!("{file}: {error}"))?;
-            let mut book = Book::fresh();
-            if filing::read(&mut book, &bytes).refusal.is_some() {
-                return Ok(REFUSED);
-            }
-            print(output, &writer::written(&book))?;
-        }
-        ["generate", seed, first, count, folder] => {
-            let seed = read_number(seed)?;
-            fs::create_dir_all(folder).map_err(|error| format!("{folder}: {error}"))?;
-            for number in numbers_of(first, count)? {
-                let path = Path::new(folder).join(format!("{number}.q"));
-                fs::write(&path, generator::filing(seed, number))
-                    .map_err(|error| format!("{}: {error}", path.display()))?;
-            }
-        }
-        ["answers", seed, first, count] => {
-            let seed = read_number(seed)?;
-            for number in numbers_of(first, count)? {
-                let printed = program::printed(Some(&generator::filing(seed, number)));
-                print(output, format!("{number} {}\n", printed.len()).as_bytes())?;
-                print(output, &printed)?;
-            }
-        }
+        ["share"] => answer_lines(input, output, on_numbers(sharing::answer)),
+        ["product"] => answer_lines(input, output, on_numbers(product::answer)),
+        ["table"] => print_table(output),
+        ["calls"] => answer_calls(input, output),
+        ["encode"] => for_lines(input, output, script::encode),
+        ["program", file] => print_program(file, output),
+        ["rewrite", file] => rewrite(file, output),
         ["compare", program, folder, seed, first, count] => {
             let numbers = numbers_of(first, count)?;
-            let seed = read_number(seed)?;
-            let program =
-                fs::canonicalize(program).map_err(|error| format!("{program}: {error}"))?;
-            fs::create_dir_all(folder).map_err(|error| format!("{folder}: {error}"))?;
-            if let Some(mismatch) = compare::compare(&program, Path::new(folder), seed, numbers)? {
-                print(output, &described(&mismatch, &program, folder, seed))?;
-                return Ok(DIFFERENT);
-            }
+            let comparison = Comparison::new(program, folder, number(seed)?)?;
+            compare(&comparison, numbers, output)
         }
-        _ => return Err(SUBCOMMANDS.to_string()),
+        _ => Err(SUBCOMMANDS.to_string()),
     }
-    Ok(0)
 }
 
-/// What a mismatch was, and how to repeat it.
-fn described(mismatch: &compare::Mismatch, program: &Path, folder: &str, seed: u64) -> Vec<u8> {
-    let mut text = format!(
-        "filing {} of seed {seed} is kept as {}\nto repeat: model compare {} {folder} {seed} {} 1\nthe model prints:\n",
-        mismatch.number,
-        mismatch.kept.display(),
-        program.display(),
-        mismatch.number,
-    )
-    .into_bytes();
-    text.extend_from_slice(&mismatch.expected);
-    text.extend_from_slice(b"the program prints:\n");
-    text.extend_from_slice(&mismatch.printed);
-    text
+fn print_table(output: &mut impl Write) -> Result<u8, String> {
+    for weight in exponent::table() {
+        print(output, format!("{weight}\n").as_bytes())?;
+    }
+    Ok(DONE)
+}
+
+/// Answers text commands, which all work on one book.
+fn answer_calls(input: impl BufRead, output: &mut impl Write) -> Result<u8, String> {
+    let mut book = Book::fresh();
+    answer_lines(input, output, |line| script::answer(&mut book, line))
+}
+
+fn print_program(file: &str, output: &mut impl Write) -> Result<u8, String> {
+    let bytes = read_if_present(file)?;
+    print(output, &program::printed(bytes.as_deref()))?;
+    Ok(DONE)
+}
+
+/// Reads a filing into a fresh book and prints the written filing of that book.
+fn rewrite(file: &str, output: &mut impl Write) -> Result<u8, String> {
+    let bytes = fs::read(file).map_err(of_file(file))?;
+    let mut book = Book::fresh();
+    if filing::read(&mut book, &bytes).refusal.is_some() {
+        return Ok(REFUSED);
+    }
+    print(output, &writer::written(&book))?;
+    Ok(DONE)
+}
+
+fn compare(
+    comparison: &Comparison,
+    numbers: Range<u64>,
+    output: &mut impl Write,
+) -> Result<u8, String> {
+    let Some(mismatch) = comparison.first_mismatch(numbers)? else {
+        return Ok(DONE);
+    };
+    print(output, &comparison.described(&mismatch))?;
+    Ok(DIFFERENT)
 }
 
 /// The bytes of a file, or none if it is missing.
@@ -119,15 +107,14 @@ fn read_if_present(file: &str) -> Result<Option<Vec<u8>>, String> {
     match fs::read(file) {
         Ok(bytes) => Ok(Some(bytes)),
         Err(error) if error.kind() == ErrorKind::NotFound => Ok(None),
-        Err(error) => Err(format!("{file}: {error}")),
+        Err(error) => Err(of_file(file)(error)),
     }
 }
 
 /// The numbers of `count` filings from `first` on.
-fn numbers_of(first: &str, count: &str) -> Result<std::ops::Range<u64>, String> {
-    let first = read_number(first)?;
-    let count = read_number(count)?;
-    match first.checked_add(count) {
+fn numbers_of(first: &str, count: &str) -> Result<Range<u64>, String> {
+    let first: u64 = number(first)?;
+    match first.checked_add(number(count)?) {
         Some(end) => Ok(first..end),
         None => Err("the last number is past 64 bits".to_string()),
     }
@@ -138,28 +125,36 @@ fn answer_lines(
     input: impl BufRead,
     output: &mut impl Write,
     mut answer: impl FnMut(&str) -> Result<String, String>,
-) -> Result<(), String> {
+) -> Result<u8, String> {
     for_lines(input, output, |line| {
         Ok(format!("{}\n", answer(line)?).into_bytes())
     })
 }
 
-/// Answers each line by bytes; empty lines and lines starting with `#` are skipped.
+/// Answers each line by bytes.
 fn for_lines(
     input: impl BufRead,
     output: &mut impl Write,
     mut answer: impl FnMut(&str) -> Result<Vec<u8>, String>,
-) -> Result<(), String> {
+) -> Result<u8, String> {
     for (index, line) in input.lines().enumerate() {
-        let in_line = |message: String| format!("line {}: {message}", index + 1);
-        let line = line.map_err(|error| in_line(error.to_string()))?;
-        if line.is_empty() || line.starts_with('#') {
-            continue;
-        }
-        let answered = answer(&line).map_err(in_line)?;
-        print(output, &answered)?;
+        print(output, &answered(index, line, &mut answer)?)?;
     }
-    Ok(())
+    Ok(DONE)
+}
+
+/// The answer to one line: nothing if it is empty or starts with `#`.
+fn answered(
+    index: usize,
+    line: io::Result<String>,
+    mut answer: impl FnMut(&str) -> Result<Vec<u8>, String>,
+) -> Result<Vec<u8>, String> {
+    let in_line = |message: String| format!("line {}: {message}", index + 1);
+    let line = line.map_err(|error| in_line(error.to_string()))?;
+    if line.is_empty() || line.starts_with('#') {
+        return Ok(Vec::new());
+    }
+    answer(&line).map_err(in_line)
 }
 
 /// Turns an answer to numbers into an answer to a line of them.
@@ -167,29 +162,9 @@ fn on_numbers(
     answer: fn(&[u64]) -> Result<Vec<u128>, String>,
 ) -> impl Fn(&str) -> Result<String, String> {
     move |line| {
-        let answers = answer(&read_numbers(line)?)?;
+        let answers = answer(&numbers(line)?)?;
         let words: Vec<String> = answers.iter().map(|number| number.to_string()).collect();
         Ok(words.join(" "))
-    }
-}
-
-/// Decimal numbers below 2^64 with single spaces between them.
-fn read_numbers(line: &str) -> Result<Vec<u64>, String> {
-    let mut numbers = Vec::new();
-    for word in line.split(' ') {
-        numbers.push(read_number(word)?);
-    }
-    Ok(numbers)
-}
-
-/// One decimal number below 2^64.
-fn read_number(word: &str) -> Result<u64, String> {
-    if word.is_empty() || !word.bytes().all(|byte| byte.is_ascii_digit()) {
-        return Err(format!("not a decimal number: {word:?}"));
-    }
-    match word.parse() {
-        Ok(number) => Ok(number),
-        Err(_) => Err(format!("past 64 bits: {word}")),
     }
 }
 
@@ -204,7 +179,7 @@ mod tests {
     fn run(
         input: &str,
         answer: fn(&[u64]) -> Result<Vec<u128>, String>,
-    ) -> (String, Result<(), String>) {
+    ) -> (String, Result<u8, String>) {
         let mut output = Vec::new();
         let result = answer_lines(input.as_bytes(), &mut output, on_numbers(answer));
         (String::from_utf8(output).unwrap(), result)
@@ -214,10 +189,10 @@ mod tests {
     fn lines_are_answered_in_order() {
         let (output, result) = run("# amount, weights\n10 1 1 1\n\n5 0 0\n", sharing::answer);
         assert_eq!(output, "4 3 3\n0 0\n");
-        assert_eq!(result, Ok(()));
+        assert_eq!(result, Ok(DONE));
         let (output, result) = run("10 1 3\n18446744073709551615 2 3", product::answer);
         assert_eq!(output, "3 1\n12297829382473034410 0\n");
-        assert_eq!(result, Ok(()));
+        assert_eq!(result, Ok(DONE));
     }
 
     #[test]
@@ -228,28 +203,9 @@ mod tests {
     }
 
     #[test]
-    fn numbers_are_plain_decimals() {
-        assert_eq!(
-            read_numbers("0 7 18446744073709551615"),
-            Ok(vec![0, 7, u64::MAX])
-        );
-        for line in [
-            "18446744073709551616",
-            "-1",
-            "+1",
-            "1  2",
-            " 1",
-            "1 ",
-            "a",
-            "1\t2",
-        ] {
-            assert!(read_numbers(line).is_err(), "{line:?}");
-        }
-    }
-
-    #[test]
     fn unknown_subcommands_are_refused() {
         let mut output = Vec::new();
+        let refused = Err(SUBCOMMANDS.to_string());
         for words in [
             &[] as &[&str],
             &["shares"],
@@ -258,14 +214,29 @@ mod tests {
             &["program", "a", "b"],
             &["rewrite"],
             &["encode", "a"],
-            &["generate", "1", "2", "3"],
-            &["answers", "1", "2"],
-            &["answers", "1", "2", "x"],
-            &["answers", "1", "2", "-3"],
-            &["answers", "1", "18446744073709551615", "1"],
+            &["compare", "program", "folder", "1", "2"],
+            &["compare", "program", "folder", "1", "2", "3", "4"],
         ] {
-            assert!(dispatch(words, &mut output).is_err(), "{words:?}");
+            assert_eq!(dispatch(words, &mut output), refused, "{words:?}");
         }
         assert!(output.is_empty());
+    }
+
+    #[test]
+    fn ranges_of_filings() {
+        assert_eq!(numbers_of("2", "3"), Ok(2..5));
+        assert_eq!(numbers_of("2", "0"), Ok(2..2));
+        assert_eq!(
+            numbers_of("18446744073709551615", "0").map(|numbers| numbers.end),
+            Ok(u64::MAX)
+        );
+        for (first, count) in [
+            ("2", "x"),
+            ("2", "-3"),
+            ("", "1"),
+            ("18446744073709551615", "1"),
+        ] {
+            assert!(numbers_of(first, count).is_err(), "{first:?} {count:?}");
+        }
     }
 }

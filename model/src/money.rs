@@ -1,7 +1,7 @@
 //! The money of a settlement: pot, contributions, returns, limits and
 //! adjustments, for points already given and at any rates.
 
-use crate::book::{Operator, OPERATORS};
+use crate::book::{joined, Operator, OPERATORS};
 use crate::sharing::share_wide;
 
 const MILLIONTHS: u128 = 1_000_000;
@@ -36,43 +36,43 @@ impl Money {
 /// income / 1,000,000, rounded down."
 pub fn money(operators: &[Operator], points: &[u128], pot_rate: u128, cap_rate: u128) -> Money {
     // The lists are those of the joined operators, rising.
-    let mut joined = Vec::new();
-    let mut incomes: u128 = 0;
-    let mut access_points = Vec::new();
-    let mut return_weights = Vec::new();
-    let mut limits = Vec::new();
-    for k in 0..operators.len() {
-        let operator = &operators[k];
-        if !operator.joined {
-            continue;
-        }
-        joined.push(k);
-        incomes += operator.income;
-        access_points.push(operator.access_points);
-        return_weights.push(operator.access_points * points[k]);
-        limits.push(cap_rate * operator.income / MILLIONTHS);
-    }
+    let joined = joined(operators);
+    let listed =
+        |value: &dyn Fn(usize) -> u128| -> Vec<u128> { joined.iter().map(|&k| value(k)).collect() };
+    let incomes = listed(&|k| operators[k].income);
+    let access_points = listed(&|k| operators[k].access_points);
+    let return_weights = listed(&|k| operators[k].access_points * points[k]);
+    let limits = listed(&|k| cap_rate * operators[k].income / MILLIONTHS);
 
-    let pot = pot_rate * incomes / MILLIONTHS;
+    let pot = pot_rate * incomes.iter().sum::<u128>() / MILLIONTHS;
     let contributions = share_wide(pot, &access_points);
     let returns = share_wide(pot, &return_weights);
-    let mut differences = Vec::new();
-    for place in 0..joined.len() {
-        differences.push(returns[place] as i128 - contributions[place] as i128);
+    let adjustments = adjustments(&less(&returns, &contributions), &limits);
+    Money {
+        pot,
+        contributions: spread(&joined, &contributions),
+        returns: spread(&joined, &returns),
+        limits: spread(&joined, &limits),
+        adjustments: spread(&joined, &adjustments),
     }
-    let adjustments = adjustments(&differences, &limits);
+}
 
-    // Those not joined keep 0.
-    let mut answer = Money::zero();
-    answer.pot = pot;
-    for place in 0..joined.len() {
-        let k = joined[place];
-        answer.contributions[k] = contributions[place];
-        answer.returns[k] = returns[place];
-        answer.limits[k] = limits[place];
-        answer.adjustments[k] = adjustments[place];
+/// The values at the places of the joined operators, 0 at the others.
+fn spread<T: Copy + Default>(joined: &[usize], values: &[T]) -> Vec<T> {
+    let mut list = vec![T::default(); OPERATORS];
+    for (&k, &value) in joined.iter().zip(values) {
+        list[k] = value;
     }
-    answer
+    list
+}
+
+/// Each value of the first list less that of the second.
+fn less(first: &[u128], second: &[u128]) -> Vec<i128> {
+    first
+        .iter()
+        .zip(second)
+        .map(|(&first, &second)| first as i128 - second as i128)
+        .collect()
 }
 
 /// The adjustments that follow from the differences and their limits.
@@ -81,48 +81,29 @@ pub fn money(operators: &[Operator], points: &[u128], pot_rate: u128, cap_rate: 
 /// smaller sum, by its cut amounts." The sums are those of the cut amounts;
 /// with equal sums both sides stay.
 pub fn adjustments(differences: &[i128], limits: &[u128]) -> Vec<i128> {
-    let mut bonuses = Vec::new();
-    let mut maluses = Vec::new();
-    let mut bonus_sum: u128 = 0;
-    let mut malus_sum: u128 = 0;
-    for place in 0..differences.len() {
-        let cut = cut(differences[place], limits[place]);
-        // Each place has 0 on the side it is not on.
-        let bonus = if cut > 0 { cut.unsigned_abs() } else { 0 };
-        let malus = if cut < 0 { cut.unsigned_abs() } else { 0 };
-        bonuses.push(bonus);
-        maluses.push(malus);
-        bonus_sum += bonus;
-        malus_sum += malus;
-    }
+    let cuts: Vec<i128> = differences
+        .iter()
+        .zip(limits)
+        .map(|(&difference, &limit)| cut(difference, limit))
+        .collect();
+    // Each place has 0 on the side it is not on.
+    let mut bonuses: Vec<u128> = cuts.iter().map(|&cut| cut.max(0) as u128).collect();
+    let mut maluses: Vec<u128> = cuts.iter().map(|&cut| (-cut).max(0) as u128).collect();
+    let bonus_sum: u128 = bonuses.iter().sum();
+    let malus_sum: u128 = maluses.iter().sum();
     if bonus_sum > malus_sum {
         bonuses = share_wide(malus_sum, &bonuses);
     }
     if malus_sum > bonus_sum {
         maluses = share_wide(bonus_sum, &maluses);
     }
-    let mut answers = Vec::new();
-    for place in 0..differences.len() {
-        answers.push(bonuses[place] as i128 - maluses[place] as i128);
-    }
-    answers
+    less(&bonuses, &maluses)
 }
 
 /// The difference, not beyond its limit on either side.
 pub fn cut(difference: i128, limit: u128) -> i128 {
     let limit = limit as i128;
-    if difference > limit {
-        return limit;
-    }
-    if difference < -limit {
-        return -limit;
-    }
-    difference
-}
-
-/// Follows 01: "An adjustment passes its limit when, sign aside, it is the larger."
-pub fn passes_limit(adjustment: i128, limit: u128) -> bool {
-    adjustment.unsigned_abs() > limit
+    difference.clamp(-limit, limit)
 }
 
 #[cfg(test)]
@@ -130,14 +111,16 @@ mod tests {
     use super::*;
 
     /// Joined operators with those access points and incomes.
-    fn joined(settings: &[(u128, u128)]) -> Vec<Operator> {
-        let mut operators = vec![Operator::fresh(); OPERATORS];
-        for place in 0..settings.len() {
-            operators[place].joined = true;
-            operators[place].cabins = 1;
-            operators[place].access_points = settings[place].0;
-            operators[place].income = settings[place].1;
-        }
+    fn operators(settings: &[(u128, u128)]) -> Vec<Operator> {
+        let operator = |&(access_points, income): &(u128, u128)| Operator {
+            joined: true,
+            cabins: 1,
+            access_points,
+            income,
+            ..Operator::fresh()
+        };
+        let mut operators: Vec<Operator> = settings.iter().map(operator).collect();
+        operators.resize(OPERATORS, Operator::fresh());
         operators
     }
 
@@ -216,39 +199,36 @@ mod tests {
         assert_eq!(adjustments(&[30, -20, -10], &[50, 0, 50]), [10, 0, -10]);
     }
 
-    #[test]
-    fn limits_are_not_passed() {
-        for a in -6..=6 {
-            for b in -6..=6 {
-                let differences = [a, b, -a - b];
-                for limits in [[0, 1, 2], [3, 1, 4], [2, 2, 2], [5, 6, 7], [6, 0, 12]] {
-                    let answers = adjustments(&differences, &limits);
-                    assert_eq!(answers.iter().sum::<i128>(), 0);
-                    for place in 0..3 {
-                        let cut = cut(differences[place], limits[place]);
-                        assert!(!passes_limit(answers[place], limits[place]));
-                        // Between 0 and the cut amount.
-                        assert!(answers[place] * cut >= 0);
-                        assert!(answers[place].abs() <= cut.abs());
-                    }
-                }
-            }
+    /// The adjustments sum to 0, and each is between 0 and its cut amount, so
+    /// that it doesn't pass its limit.
+    fn within_the_cut_amounts(differences: &[i128], limits: &[u128]) {
+        let answers = adjustments(differences, limits);
+        assert_eq!(answers.iter().sum::<i128>(), 0);
+        let between = |place: usize| {
+            let cut = cut(differences[place], limits[place]);
+            (cut.min(0)..=cut.max(0)).contains(&answers[place])
+        };
+        assert!((0..answers.len()).all(between), "{differences:?}");
+    }
+
+    /// The same for three small differences of every kind.
+    fn all_within_the_cut_amounts(limits: [u128; 3]) {
+        for (a, b) in (-6..=6).flat_map(|a| (-6..=6).map(move |b| (a, b))) {
+            within_the_cut_amounts(&[a, b, -a - b], &limits);
         }
     }
 
     #[test]
-    fn passing_a_limit() {
-        assert!(!passes_limit(5, 5));
-        assert!(!passes_limit(-5, 5));
-        assert!(passes_limit(6, 5));
-        assert!(passes_limit(-6, 5));
-        assert!(!passes_limit(0, 0));
+    fn limits_are_not_passed() {
+        for limits in [[0, 1, 2], [3, 1, 4], [2, 2, 2], [5, 6, 7], [6, 0, 12]] {
+            all_within_the_cut_amounts(limits);
+        }
     }
 
     #[test]
     fn pot_and_limits_are_rounded_down() {
         // Incomes 999 and 1000: 1000 × 1999 / 1000000 is 1.999.
-        let operators = joined(&[(1, 999), (1, 1000)]);
+        let operators = operators(&[(1, 999), (1, 1000)]);
         let answer = money(&operators, &totals(&[1, 1]), 1000, 1000);
         assert_eq!(answer.pot, 1);
         assert_eq!(answer.contributions[..2], [1, 0]);
@@ -261,7 +241,7 @@ mod tests {
     fn shares_of_the_pot() {
         // Pot 20000 × 500 / 1000000 = 10; contributions by 1, 2, 2; returns by
         // 3 × 1, 1 × 2, 0 × 2.
-        let operators = joined(&[(1, 500), (2, 0), (2, 0)]);
+        let operators = operators(&[(1, 500), (2, 0), (2, 0)]);
         let answer = money(&operators, &totals(&[3, 1, 0]), 20_000, 20_000);
         assert_eq!(answer.pot, 10);
         assert_eq!(answer.contributions[..3], [2, 4, 4]);
@@ -272,16 +252,19 @@ mod tests {
 
     #[test]
     fn one_set_of_points_at_many_rates() {
-        let operators = joined(&[(1000, 100_000_000), (3000, 200_000_000)]);
+        let operators = operators(&[(1000, 100_000_000), (3000, 200_000_000)]);
         let points = totals(&[65_036, 62_464]);
+        let adjusted = |pot_rate: u128, cap_rate: u128| {
+            let money = money(&operators, &points, pot_rate, cap_rate);
+            money.adjustments[..2].to_vec()
+        };
         for (pot_rate, cap_rate, first) in [
             (5000, 10_000, 11_463),
             (5000, 50, 5000),
             (5000, 0, 0),
             (0, 10_000, 0),
         ] {
-            let answer = money(&operators, &points, pot_rate, cap_rate);
-            assert_eq!(answer.adjustments[..2], [first, -first]);
+            assert_eq!(adjusted(pot_rate, cap_rate), [first, -first]);
         }
     }
 }

@@ -36,16 +36,17 @@ mod tests {
         assert_eq!(divide_product(6, 7, 43), (0, 42));
     }
 
+    fn rebuilds_the_product(t: u64, w: u64, s: u128) {
+        let (quotient, remainder) = divide_product(t, w, s);
+        assert!(remainder < s);
+        assert_eq!(quotient * s + remainder, u128::from(t * w));
+    }
+
     #[test]
     fn quotient_and_remainder_rebuild_the_product() {
-        for t in 0..=20 {
-            for w in 0..=20 {
-                for s in 1..=25 {
-                    let (quotient, remainder) = divide_product(t, w, s);
-                    assert!(remainder < s);
-                    assert_eq!(quotient * s + remainder, u128::from(t * w));
-                }
-            }
+        // Factors of 0 to 20 and divisors of 1 to 25.
+        for case in 0..21 * 21 * 25 {
+            rebuilds_the_product(case / 525, case / 25 % 21, u128::from(case % 25 + 1));
         }
     }
 

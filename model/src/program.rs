@@ -57,18 +57,14 @@ mod tests {
 
     #[test]
     fn marked_case_m() {
-        prints(&encoded(&case_m::CALLS), case_m::PRINTED);
+        prints(&encoded(&case_m::calls()), case_m::PRINTED);
     }
 
     #[test]
     fn marked_case_m_with_cap_rate_50() {
-        let mut filing = encoded(&case_m::CALLS);
+        let mut filing = encoded(&case_m::calls());
         filing.extend(encoded(&["rates 5000 50"]));
-        let expected = "operator points out in adjustment\n\
-            0 65036 375000 386463 5000\n\
-            1 62464 1125000 1113537 -5000\n\
-            all 127500 1500000 1500000 0\n";
-        prints(&filing, expected);
+        prints(&filing, &case_m::PRINTED.replace("11463", "5000"));
     }
 
     #[test]
@@ -114,7 +110,7 @@ mod tests {
 
     #[test]
     fn refused_field_prints_nothing_of_the_book() {
-        let mut filing = encoded(&case_m::CALLS);
+        let mut filing = encoded(&case_m::calls());
         let length = filing.len();
         filing.push(1);
         prints(&filing, &format!("refused 1 at {length}\n"));
@@ -122,20 +118,16 @@ mod tests {
         prints(&filing, &format!("refused 6 at {length}\n"));
     }
 
-    /// Case M followed by its rates once more, up to a length of that form.
+    /// Case M, then an index and its rates again and again up to that length.
     fn filled(length: usize) -> Vec<u8> {
-        let mut filing = encoded(&case_m::CALLS);
+        let mut filing = encoded(&case_m::calls());
         let rates = encoded(&["rates 5000 10000"]);
         let index = encoded(&["index 1 10000"]);
-        while filing.len() < length {
-            let left = length - filing.len();
-            if left.is_multiple_of(11) {
-                filing.extend(&rates);
-            } else {
-                filing.extend(&index);
-            }
+        while !(length - filing.len()).is_multiple_of(rates.len()) {
+            filing.extend(&index);
         }
-        assert_eq!(filing.len(), length);
+        let times = (length - filing.len()) / rates.len();
+        filing.extend(rates.repeat(times));
         filing
     }
 

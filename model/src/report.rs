@@ -1,6 +1,6 @@
 //! The report: the printed lines of a settled book, put into a lent buffer.
 
-use crate::book::Book;
+use crate::book::{joined, Book};
 use crate::calls::Answer;
 use crate::settlement::{settle, Settlement};
 use crate::writer::put;
@@ -23,39 +23,47 @@ pub fn report(book: &Book, buffer: &mut [u8]) -> Result<usize, u8> {
 pub fn lines(book: &Book, settlement: &Settlement) -> String {
     let points = settlement.points.totals();
     let money = &settlement.money;
-    let mut text = "operator points out in adjustment\n".to_string();
-    let mut all_points = 0;
-    let mut all_out = 0;
-    let mut all_in = 0;
-    let mut all_adjustments = 0;
-    for (k, operator) in book.operators.iter().enumerate() {
-        if !operator.joined {
-            continue;
-        }
+    let row = |k: usize| {
         let out = money.contributions[k];
         let back = money.returns[k];
         let adjustment = money.adjustments[k];
-        text += &format!("{k} {} {out} {back} {adjustment}\n", points[k]);
-        all_points += points[k];
-        all_out += out;
-        all_in += back;
-        all_adjustments += adjustment;
-    }
-    text += &format!("all {all_points} {all_out} {all_in} {all_adjustments}\n");
-    text
+        format!("{k} {} {out} {back} {adjustment}\n", points[k])
+    };
+    let rows: String = joined(&book.operators).into_iter().map(row).collect();
+    // Those not joined have 0 everywhere.
+    let all_points: u128 = points.iter().sum();
+    let all_out: u128 = money.contributions.iter().sum();
+    let all_in: u128 = money.returns.iter().sum();
+    let all_adjustments: i128 = money.adjustments.iter().sum();
+    format!(
+        "operator points out in adjustment\n{rows}\
+         all {all_points} {all_out} {all_in} {all_adjustments}\n"
+    )
 }
 
 #[cfg(test)]
 mod tests {
     use super::*;
+    use crate::book::Operator;
     use crate::case_m;
     use crate::filing::read;
     use crate::generator;
     use crate::script;
 
+    /// A joined operator with one cabin.
+    fn operator(access_points: u128, income: u128) -> Operator {
+        Operator {
+            joined: true,
+            cabins: 1,
+            access_points,
+            income,
+            ..Operator::fresh()
+        }
+    }
+
     fn case_m() -> Book {
         let mut book = Book::fresh();
-        for command in case_m::CALLS {
+        for command in case_m::calls() {
             assert_eq!(script::answer(&mut book, command), Ok("yes".to_string()));
         }
         book
@@ -70,15 +78,17 @@ mod tests {
         String::from_utf8(buffer).unwrap()
     }
 
-    /// Refused by that number, with the book and a buffer of any length left.
+    /// Refused by that number, with a buffer of any length left.
     fn refuses(book: &Book, number: u8) {
         for length in [0, 1, 33, 100, 1000] {
-            let kept = book.clone();
-            let mut buffer = vec![7; length];
-            assert_eq!(report(book, &mut buffer), Err(number));
-            assert_eq!(buffer, vec![7; length]);
-            assert_eq!(*book, kept);
+            leaves_buffer(book, length, number);
         }
+    }
+
+    fn leaves_buffer(book: &Book, length: usize, number: u8) {
+        let mut buffer = vec![7; length];
+        assert_eq!(report(book, &mut buffer), Err(number));
+        assert_eq!(buffer, vec![7; length]);
     }
 
     #[test]
@@ -90,11 +100,7 @@ mod tests {
     fn marked_case_m_with_cap_rate_50() {
         let mut book = case_m();
         book.cap_rate = 50;
-        let expected = "operator points out in adjustment\n\
-            0 65036 375000 386463 5000\n\
-            1 62464 1125000 1113537 -5000\n\
-            all 127500 1500000 1500000 0\n";
-        assert_eq!(reported(&book), expected);
+        assert_eq!(reported(&book), case_m::PRINTED.replace("11463", "5000"));
     }
 
     #[test]
@@ -110,9 +116,7 @@ mod tests {
         assert_eq!(buffer[..length], *case_m::PRINTED.as_bytes());
         assert_eq!(buffer[length..], [7; 3]);
         for short in 0..length {
-            let mut buffer = vec![7; short];
-            assert_eq!(report(&book, &mut buffer), Err(13));
-            assert_eq!(buffer, vec![7; short]);
+            leaves_buffer(&book, short, 13);
         }
     }
 
@@ -140,9 +144,7 @@ mod tests {
     fn operators_rise() {
         let mut book = Book::fresh();
         for k in [10, 2, 15] {
-            book.operators[k].joined = true;
-            book.operators[k].cabins = 1;
-            book.operators[k].access_points = 1;
+            book.operators[k] = operator(1, 0);
         }
         let expected = "operator points out in adjustment\n\
             2 42500 0 0 0\n10 42500 0 0 0\n15 42500 0 0 0\n\
@@ -163,15 +165,11 @@ mod tests {
     #[test]
     fn longest_report() {
         // 16 operators, the largest pot, one of them unmarked.
+        let mut marked = operator(4_000_000, 100_000_000_000);
+        marked.marks = vec![true; 6];
         let mut book = Book::fresh();
-        for k in 0..16 {
-            let operator = &mut book.operators[k];
-            operator.joined = true;
-            operator.cabins = 1;
-            operator.access_points = 4_000_000;
-            operator.income = 100_000_000_000;
-            operator.marks = vec![k != 0; 6];
-        }
+        book.operators.fill(marked);
+        book.operators[0].marks = vec![false; 6];
         book.pot_rate = 20_000;
         book.cap_rate = 20_000;
         let text = reported(&book);
@@ -181,37 +179,38 @@ mod tests {
         assert!(text.len() < 1000);
     }
 
+    /// The words of a line as numbers, but for the first word.
+    fn numbers(line: &str) -> Vec<i128> {
+        let words = line.split(' ').skip(1);
+        words.map(|word| word.parse().unwrap()).collect()
+    }
+
+    /// Each line but the first has a number in every column, and the last one
+    /// has their sums, of which contributions and returns are the same.
+    fn has_sums(text: &str, operators: u32) {
+        let rows: Vec<Vec<i128>> = text.lines().skip(1).map(numbers).collect();
+        assert_eq!(rows.len(), operators as usize + 1);
+        assert!(rows.iter().all(|row| row.len() == 4), "{text}");
+        let (last, rows) = rows.split_last().unwrap();
+        let sums: Vec<i128> = (0..4)
+            .map(|column| rows.iter().map(|row| row[column]).sum())
+            .collect();
+        assert_eq!(*last, sums, "{text}");
+        assert_eq!((last[1], last[3]), (last[2], 0), "{text}");
+        assert!(text.lines().last().unwrap().starts_with("all "), "{text}");
+    }
+
     #[test]
     fn last_lines_of_many_reports() {
-        let mut reports = 0;
-        for number in 0..1000 {
+        let book = |number: u64| {
             let mut book = Book::fresh();
-            let filing = generator::filing(2, number);
-            if read(&mut book, &filing).refusal.is_some() {
-                continue;
-            }
-            if settle(&book).0 != Answer::Yes {
-                continue;
-            }
-            reports += 1;
-            let text = reported(&book);
-            let rows: Vec<Vec<&str>> = text.lines().map(|row| row.split(' ').collect()).collect();
-            let operators = book.joined_mask().count_ones() as usize;
-            assert_eq!(rows.len(), operators + 2);
-            let last = &rows[operators + 1];
-            let mut sums = [0; 5];
-            for row in &rows[1..=operators] {
-                assert_eq!(row.len(), 5);
-                for column in 1..5 {
-                    sums[column] += row[column].parse::<i128>().unwrap();
-                }
-            }
-            let sums: Vec<String> = sums.iter().map(|sum| sum.to_string()).collect();
-            assert_eq!(last[0], "all");
-            assert_eq!(last[1..], sums[1..], "{text}");
-            assert_eq!(last[2], last[3]);
-            assert_eq!(last[4], "0");
+            let reading = read(&mut book, &generator::filing(2, number));
+            (reading.refusal.is_none() && settle(&book).0 == Answer::Yes).then_some(book)
+        };
+        let books: Vec<Book> = (0..1000).filter_map(book).collect();
+        assert!(books.len() > 600, "{}", books.len());
+        for book in &books {
+            has_sums(&reported(book), book.joined_mask().count_ones());
         }
-        assert!(reports > 600, "{reports}");
     }
 }

@@ -1,18 +1,19 @@
 //! The text commands of the subcommands `calls` and `encode`: filing calls, raw
 //! values put into the book, and the book or its settlement printed on one line.
 
-use crate::book::{Book, FIGURES, INDICATORS, INDICES, OPERATORS, YEARS};
+use crate::book::{joined, Book, Operator, FIGURES, INDICATORS, INDICES, OPERATORS, YEARS};
 use crate::calls::{Answer, Interruption, Reason};
 use crate::filing::{self, Field};
+use crate::numbers::{number, signed_number};
 use crate::settlement::{self, Settlement};
-use std::str::FromStr;
+use std::fmt::Display;
 
 /// Answer to one command; filing calls, `fresh` and `store` alter the book.
 pub fn answer(book: &mut Book, line: &str) -> Result<String, String> {
     let words: Vec<&str> = line.split(' ').collect();
     match words[0] {
         "fresh" => {
-            expect(&words, 0)?;
+            let [] = after(&words)?;
             *book = Book::fresh();
             Ok("fresh".to_string())
         }
@@ -21,15 +22,12 @@ pub fn answer(book: &mut Book, line: &str) -> Result<String, String> {
             Ok("stored".to_string())
         }
         "show" => {
-            expect(&words, 0)?;
+            let [] = after(&words)?;
             Ok(show(book))
         }
         "settle" => {
-            expect(&words, 0)?;
-            match settlement::settle(book) {
-                (Answer::Yes, settlement) => Ok(show_settlement(book, &settlement)),
-                (refused, _) => Ok(answer_words(refused)),
-            }
+            let [] = after(&words)?;
+            Ok(settle(book))
         }
         _ => Ok(answer_words(filing::apply(book, &field(&words)?))),
     }
@@ -41,178 +39,215 @@ pub fn encode(line: &str) -> Result<Vec<u8>, String> {
     Ok(filing::encode(&field(&words)?))
 }
 
+/// The words after the first, which must be just as many as are asked for.
+fn after<'a, const COUNT: usize>(words: &[&'a str]) -> Result<[&'a str; COUNT], String> {
+    <[&str; COUNT]>::try_from(&words[1..]).map_err(|_| {
+        format!(
+            "{}: expected {COUNT} words after it, found {}",
+            words[0],
+            words.len() - 1
+        )
+    })
+}
+
+// Filing calls.
+
 /// The field of the filing call that the words name.
 fn field(words: &[&str]) -> Result<Field, String> {
     match words[0] {
-        "join" => {
-            expect(words, 1)?;
-            Ok(Field::Join {
-                operator: number(words[1])?,
-            })
-        }
-        "setting" => {
-            expect(words, 3)?;
-            Ok(Field::Setting {
-                operator: number(words[1])?,
-                which: number(words[2])?,
-                value: number(words[3])?,
-            })
-        }
-        "interruption" => {
-            expect(words, 7)?;
-            Ok(Field::Interruption(Interruption {
-                operator: number(words[1])?,
-                sign: number(words[2])?,
-                level: number(words[3])?,
-                cause: number(words[4])?,
-                start: signed_number(words[5])?,
-                end: signed_number(words[6])?,
-                weight: number(words[7])?,
-            }))
-        }
-        "amount" => {
-            expect(words, 5)?;
-            Ok(Field::Amount {
-                operator: number(words[1])?,
-                year: number(words[2])?,
-                figure: number(words[3])?,
-                sign: number(words[4])?,
-                value: number(words[5])?,
-            })
-        }
-        "mark" => {
-            expect(words, 3)?;
-            Ok(Field::Mark {
-                operator: number(words[1])?,
-                indicator: number(words[2])?,
-                mark: number(words[3])?,
-            })
-        }
-        "rates" => {
-            expect(words, 2)?;
-            Ok(Field::Rates {
-                pot: number(words[1])?,
-                cap: number(words[2])?,
-            })
-        }
-        "index" => {
-            expect(words, 2)?;
-            Ok(Field::Index {
-                number: number(words[1])?,
-                value: number(words[2])?,
-            })
-        }
+        "join" => join(words),
+        "setting" => setting(words),
+        "interruption" => interruption(words),
+        "amount" => amount(words),
+        "mark" => mark(words),
+        "rates" => rates(words),
+        "index" => index(words),
         other => Err(format!("unknown command {other:?}")),
     }
 }
 
+fn join(words: &[&str]) -> Result<Field, String> {
+    let [operator] = after(words)?;
+    Ok(Field::Join {
+        operator: number(operator)?,
+    })
+}
+
+fn setting(words: &[&str]) -> Result<Field, String> {
+    let [operator, which, value] = after(words)?;
+    Ok(Field::Setting {
+        operator: number(operator)?,
+        which: number(which)?,
+        value: number(value)?,
+    })
+}
+
+fn interruption(words: &[&str]) -> Result<Field, String> {
+    let [operator, sign, level, cause, start, end, weight] = after(words)?;
+    Ok(Field::Interruption(Interruption {
+        operator: number(operator)?,
+        sign: number(sign)?,
+        level: number(level)?,
+        cause: number(cause)?,
+        start: signed_number(start)?,
+        end: signed_number(end)?,
+        weight: number(weight)?,
+    }))
+}
+
+fn amount(words: &[&str]) -> Result<Field, String> {
+    let [operator, year, figure, sign, value] = after(words)?;
+    Ok(Field::Amount {
+        operator: number(operator)?,
+        year: number(year)?,
+        figure: number(figure)?,
+        sign: number(sign)?,
+        value: number(value)?,
+    })
+}
+
+fn mark(words: &[&str]) -> Result<Field, String> {
+    let [operator, indicator, mark] = after(words)?;
+    Ok(Field::Mark {
+        operator: number(operator)?,
+        indicator: number(indicator)?,
+        mark: number(mark)?,
+    })
+}
+
+fn rates(words: &[&str]) -> Result<Field, String> {
+    let [pot, cap] = after(words)?;
+    Ok(Field::Rates {
+        pot: number(pot)?,
+        cap: number(cap)?,
+    })
+}
+
+fn index(words: &[&str]) -> Result<Field, String> {
+    let [which, value] = after(words)?;
+    Ok(Field::Index {
+        number: number(which)?,
+        value: number(value)?,
+    })
+}
+
+// Raw values.
+
 /// Puts a raw value into the book, whether in its range or not.
 fn store(book: &mut Book, words: &[&str]) -> Result<(), String> {
-    if words.len() < 2 {
-        return Err("store: expected what to store".to_string());
-    }
-    match words[1] {
-        "joined" => {
-            expect(words, 2)?;
-            book.put_joined_mask(number(words[2])?);
+    match words.get(1).copied() {
+        Some("joined") => {
+            let [_, mask] = after(words)?;
+            book.put_joined_mask(number(mask)?);
         }
-        "marks" => {
-            expect(words, 3)?;
-            let indicator = place(words[2], INDICATORS)?;
-            book.put_mark_mask(indicator, number(words[3])?);
+        Some("marks") => {
+            let [_, indicator, mask] = after(words)?;
+            book.put_mark_mask(place(indicator, INDICATORS)?, number(mask)?);
         }
-        "cabins" => {
-            expect(words, 3)?;
-            let operator = place(words[2], OPERATORS)?;
-            book.operators[operator].cabins = u128::from(number::<u64>(words[3])?);
+        Some("cabins" | "access" | "income") => store_setting(book, words)?,
+        Some("figure") => store_figure(book, words)?,
+        Some("pot") => {
+            let [_, rate] = after(words)?;
+            book.pot_rate = u128::from(number::<u32>(rate)?);
         }
-        "access" => {
-            expect(words, 3)?;
-            let operator = place(words[2], OPERATORS)?;
-            book.operators[operator].access_points = u128::from(number::<u64>(words[3])?);
+        Some("cap") => {
+            let [_, rate] = after(words)?;
+            book.cap_rate = u128::from(number::<u32>(rate)?);
         }
-        "income" => {
-            expect(words, 3)?;
-            let operator = place(words[2], OPERATORS)?;
-            book.operators[operator].income = u128::from(number::<u64>(words[3])?);
+        Some("index") => {
+            let [_, index, value] = after(words)?;
+            let index = &mut book.indices[place(index, INDICES)?];
+            *index = u128::from(number::<u32>(value)?);
         }
-        "figure" => {
-            expect(words, 5)?;
-            let operator = place(words[2], OPERATORS)?;
-            let year = place(words[3], YEARS)?;
-            let figure = place(words[4], FIGURES)?;
-            let value = u128::from(number::<u64>(words[5])?);
-            book.operators[operator].figures[year][figure] = value;
-        }
-        "pot" => {
-            expect(words, 2)?;
-            book.pot_rate = u128::from(number::<u32>(words[2])?);
-        }
-        "cap" => {
-            expect(words, 2)?;
-            book.cap_rate = u128::from(number::<u32>(words[2])?);
-        }
-        "index" => {
-            expect(words, 3)?;
-            let index = place(words[2], INDICES)?;
-            book.indices[index] = u128::from(number::<u32>(words[3])?);
-        }
-        other => return Err(format!("store: unknown value {other:?}")),
+        Some(other) => return Err(format!("store: unknown value {other:?}")),
+        None => return Err("store: expected what to store".to_string()),
     }
     Ok(())
 }
 
-/// The whole book on one line; operators with nothing but fresh values and not
-/// joined are passed over.
-fn show(book: &Book) -> String {
-    let mut line = format!("joined {} marks", book.joined_mask());
-    for indicator in 0..INDICATORS {
-        line += &format!(" {}", book.mark_mask(indicator));
-    }
-    line += &format!(" rates {} {} indices", book.pot_rate, book.cap_rate);
-    for index in &book.indices {
-        line += &format!(" {index}");
-    }
-    for k in 0..OPERATORS {
-        let operator = &book.operators[k];
-        if operator.is_fresh() {
-            continue;
-        }
-        line += &format!(
-            " | {k} {} {} {}",
-            operator.cabins, operator.access_points, operator.income
-        );
-        for year in &operator.figures {
-            for figure in year {
-                line += &format!(" {figure}");
-            }
-        }
-    }
-    line
+fn store_setting(book: &mut Book, words: &[&str]) -> Result<(), String> {
+    let [which, operator, value] = after(words)?;
+    let operator = &mut book.operators[place(operator, OPERATORS)?];
+    let setting = match which {
+        "cabins" => &mut operator.cabins,
+        "access" => &mut operator.access_points,
+        _ => &mut operator.income,
+    };
+    *setting = u128::from(number::<u64>(value)?);
+    Ok(())
 }
 
-/// The settlement of the joined operators on one line.
-fn show_settlement(book: &Book, settlement: &Settlement) -> String {
-    let points = &settlement.points;
+fn store_figure(book: &mut Book, words: &[&str]) -> Result<(), String> {
+    let [_, operator, year, figure, value] = after(words)?;
+    let operator = &mut book.operators[place(operator, OPERATORS)?];
+    let figure = &mut operator.figures[place(year, YEARS)?][place(figure, FIGURES)?];
+    *figure = u128::from(number::<u64>(value)?);
+    Ok(())
+}
+
+/// A place in the book, below `count`.
+fn place(word: &str, count: usize) -> Result<usize, String> {
+    let place = number(word)?;
+    if place >= count {
+        return Err(format!("no such place in the book: {word}"));
+    }
+    Ok(place)
+}
+
+// What is shown.
+
+/// The whole book on one line. Of an operator not joined only the marks are
+/// seen, as bits of their masks.
+fn show(book: &Book) -> String {
+    let operators: String = joined(&book.operators)
+        .into_iter()
+        .map(|k| show_operator(k, &book.operators[k]))
+        .collect();
+    format!(
+        "joined {} marks{} rates {} {} indices{}{operators}",
+        book.joined_mask(),
+        spaced((0..INDICATORS).map(|indicator| book.mark_mask(indicator))),
+        book.pot_rate,
+        book.cap_rate,
+        spaced(&book.indices)
+    )
+}
+
+fn show_operator(k: usize, operator: &Operator) -> String {
+    let settings = spaced(operator.settings());
+    let figures = spaced(operator.figures.iter().flatten());
+    format!(" | {k}{settings}{figures}")
+}
+
+/// The settlement of the joined operators on one line, or the refusal.
+fn settle(book: &Book) -> String {
+    let (answer, settlement) = settlement::settle(book);
+    if answer != Answer::Yes {
+        return answer_words(answer);
+    }
+    let operators: String = joined(&book.operators)
+        .into_iter()
+        .map(|k| show_settled(k, &settlement))
+        .collect();
+    let pools = spaced(&settlement.points.pools);
+    format!("pot {} pools{pools}{operators}", settlement.money.pot)
+}
+
+fn show_settled(k: usize, settlement: &Settlement) -> String {
+    let points = spaced(&settlement.points.points[k]);
     let money = &settlement.money;
-    let mut line = format!("pot {} pools", money.pot);
-    for pool in &points.pools {
-        line += &format!(" {pool}");
-    }
-    for k in 0..OPERATORS {
-        if !book.operators[k].joined {
-            continue;
-        }
-        line += &format!(" | {k} points");
-        for point in &points.points[k] {
-            line += &format!(" {point}");
-        }
-        line += &format!(
-            " out {} in {} limit {} adjustment {}",
-            money.contributions[k], money.returns[k], money.limits[k], money.adjustments[k]
-        );
-    }
-    line
+    format!(
+        " | {k} points{points} out {} in {} limit {} adjustment {}",
+        money.contributions[k], money.returns[k], money.limits[k], money.adjustments[k]
+    )
+}
+
+/// The numbers in a row, a space before each.
+fn spaced(numbers: impl IntoIterator<Item = impl Display>) -> String {
+    numbers
+        .into_iter()
+        .map(|number| format!(" {number}"))
+        .collect()
 }
 
 fn answer_words(answer: Answer) -> String {
@@ -227,53 +262,10 @@ fn answer_words(answer: Answer) -> String {
     }
 }
 
-/// Checks the number of words after the first.
-fn expect(words: &[&str], count: usize) -> Result<(), String> {
-    if words.len() != count + 1 {
-        return Err(format!(
-            "{}: expected {count} words after it, found {}",
-            words[0],
-            words.len() - 1
-        ));
-    }
-    Ok(())
-}
-
-/// A decimal number without a sign that fits its type.
-fn number<T: FromStr>(word: &str) -> Result<T, String> {
-    if word.is_empty() || !word.bytes().all(|byte| byte.is_ascii_digit()) {
-        return Err(format!("not a decimal number: {word:?}"));
-    }
-    match word.parse() {
-        Ok(number) => Ok(number),
-        Err(_) => Err(format!("past the width of its place: {word}")),
-    }
-}
-
-/// A decimal number of 64 bits that may have a minus sign.
-fn signed_number(word: &str) -> Result<i64, String> {
-    let digits = word.strip_prefix('-').unwrap_or(word);
-    if digits.is_empty() || !digits.bytes().all(|byte| byte.is_ascii_digit()) {
-        return Err(format!("not a decimal number: {word:?}"));
-    }
-    match word.parse() {
-        Ok(number) => Ok(number),
-        Err(_) => Err(format!("past the width of its place: {word}")),
-    }
-}
-
-/// A place in the book, below `count`.
-fn place(word: &str, count: usize) -> Result<usize, String> {
-    let place = number(word)?;
-    if place >= count {
-        return Err(format!("no such place in the book: {word}"));
-    }
-    Ok(place)
-}
-
 #[cfg(test)]
 mod tests {
     use super::*;
+    use crate::case_m;
 
     const FRESH: &str = "joined 0 marks 0 0 0 0 0 0 rates 0 0 indices 10000 10000 10000 10000";
 
@@ -384,41 +376,24 @@ mod tests {
     }
 
     #[test]
-    fn shown_operators() {
-        // Neither joined nor fresh: shown, also with a mark alone.
+    fn only_joined_operators_are_shown() {
         let zeros = " 0".repeat(24);
-        let shown = format!(
-            "joined 0 marks 0 0 0 8 0 0 rates 0 0 indices 10000 10000 10000 10000 \
-             | 1 5 0 0{zeros} | 3 0 0 0{zeros}"
-        );
+        let indices = "rates 0 0 indices 10000 10000 10000 10000";
+        let marked = format!("joined 0 marks 0 0 0 8 0 0 {indices}");
+        let one = format!("joined 2 marks 0 0 0 8 0 0 {indices} | 1 5 0 0{zeros}");
         run(&[
             ("store cabins 1 5", "stored"),
-            ("store marks 3 8", "stored"),
-            ("show", &shown),
-            ("store cabins 1 0", "stored"),
-            ("store marks 3 0", "stored"),
             ("show", FRESH),
+            ("store marks 3 8", "stored"),
+            ("show", &marked),
+            ("store joined 2", "stored"),
+            ("show", &one),
         ]);
     }
 
-    /// Case M without its rates.
-    const CASE_M: [(&str, &str); 10] = [
-        ("join 0", "yes"),
-        ("join 1", "yes"),
-        ("setting 0 0 100", "yes"),
-        ("setting 1 0 100", "yes"),
-        ("setting 0 1 1000", "yes"),
-        ("setting 1 1 3000", "yes"),
-        ("setting 0 2 100000000", "yes"),
-        ("setting 1 2 200000000", "yes"),
-        ("amount 1 0 4 0 50000", "yes"),
-        ("amount 1 0 5 0 100", "yes"),
-    ];
-
     #[test]
     fn settled_book() {
-        let mut commands = CASE_M.to_vec();
-        commands.push(("rates 5000 10000", "yes"));
+        let mut commands: Vec<_> = case_m::calls().iter().map(|&call| (call, "yes")).collect();
         let book = run(&commands);
         commands.push((
             "settle",
@@ -526,80 +501,88 @@ mod tests {
         ] {
             assert_eq!(encode(command), Ok(bytes), "{command}");
         }
-        // Only filing calls are fields.
+    }
+
+    #[test]
+    fn only_filing_calls_are_fields() {
         for command in ["fresh", "show", "settle", "store pot 1"] {
             assert!(encode(command).is_err(), "{command}");
         }
     }
 
+    const MALFORMED: &[&str] = &[
+        "",
+        " ",
+        "joins 0",
+        "Join 0",
+        "join",
+        "join ",
+        "join  0",
+        " join 0",
+        "join 0 ",
+        "join 0 0",
+        "join 256",
+        "join -1",
+        "join +1",
+        "join x",
+        "join\t0",
+        "fresh 0",
+        "show 0",
+        "settle 0",
+        "settle ",
+        "Settle",
+        "setting 0 0",
+        "setting 0 0 18446744073709551616",
+        "setting 0 256 0",
+        "setting 0 0 -1",
+        "interruption 0 0 0 0 0 0",
+        "interruption 0 0 0 0 0 0 1 1",
+        "interruption 0 0 0 0 0 0 4294967296",
+        "interruption 0 0 0 0 9223372036854775808 0 1",
+        "interruption 0 0 0 0 -9223372036854775809 0 1",
+        "interruption 0 0 0 0 - 0 1",
+        "interruption 0 0 0 0 --1 0 1",
+        "interruption 0 0 0 0 +1 0 1",
+        "interruption 0 0 0 0 0 0 -1",
+        "amount 0 0 0 0",
+        "amount 0 0 0 256 0",
+        "mark 0 0",
+        "mark 0 0 256",
+        "rates 0",
+        "rates 0 4294967296",
+        "index 0",
+        "index 0 4294967296",
+        "store",
+        "store joined",
+        "store joined 65536",
+        "store joined 0 0",
+        "store marks 6 0",
+        "store marks 0 65536",
+        "store cabins 16 0",
+        "store access 16 0",
+        "store income 16 0",
+        "store cabins 0 18446744073709551616",
+        "store figure 0 3 0 0",
+        "store figure 0 0 8 0",
+        "store figure 16 0 0 0",
+        "store figure 0 0 0",
+        "store pot 4294967296",
+        "store cap -1",
+        "store index 4 0",
+        "store index 0",
+        "store rates 0 0",
+    ];
+
+    /// Refused by both subcommands, with the book left.
+    fn is_malformed(command: &str) {
+        let mut book = Book::fresh();
+        assert!(answer(&mut book, command).is_err(), "{command:?}");
+        assert_eq!(book, Book::fresh(), "{command:?}");
+        assert!(encode(command).is_err(), "{command:?}");
+    }
+
     #[test]
     fn malformed_commands() {
-        for command in [
-            "",
-            " ",
-            "joins 0",
-            "Join 0",
-            "join",
-            "join ",
-            "join  0",
-            " join 0",
-            "join 0 ",
-            "join 0 0",
-            "join 256",
-            "join -1",
-            "join +1",
-            "join x",
-            "join\t0",
-            "fresh 0",
-            "show 0",
-            "settle 0",
-            "settle ",
-            "Settle",
-            "setting 0 0",
-            "setting 0 0 18446744073709551616",
-            "setting 0 256 0",
-            "setting 0 0 -1",
-            "interruption 0 0 0 0 0 0",
-            "interruption 0 0 0 0 0 0 1 1",
-            "interruption 0 0 0 0 0 0 4294967296",
-            "interruption 0 0 0 0 9223372036854775808 0 1",
-            "interruption 0 0 0 0 -9223372036854775809 0 1",
-            "interruption 0 0 0 0 - 0 1",
-            "interruption 0 0 0 0 --1 0 1",
-            "interruption 0 0 0 0 +1 0 1",
-            "interruption 0 0 0 0 0 0 -1",
-            "amount 0 0 0 0",
-            "amount 0 0 0 256 0",
-            "mark 0 0",
-            "mark 0 0 256",
-            "rates 0",
-            "rates 0 4294967296",
-            "index 0",
-            "index 0 4294967296",
-            "store",
-            "store joined",
-            "store joined 65536",
-            "store joined 0 0",
-            "store marks 6 0",
-            "store marks 0 65536",
-            "store cabins 16 0",
-            "store access 16 0",
-            "store income 16 0",
-            "store cabins 0 18446744073709551616",
-            "store figure 0 3 0 0",
-            "store figure 0 0 8 0",
-            "store figure 16 0 0 0",
-            "store figure 0 0 0",
-            "store pot 4294967296",
-            "store cap -1",
-            "store index 4 0",
-            "store index 0",
-            "store rates 0 0",
-        ] {
-            let mut book = Book::fresh();
-            assert!(answer(&mut book, command).is_err(), "{command:?}");
-            assert_eq!(book, Book::fresh(), "{command:?}");
-            assert!(encode(command).is_err(), "{command:?}");
-        }
+        MALFORMED.iter().for_each(|command| is_malformed(command));
     }
 }

@@ -1,6 +1,6 @@
 //! Settling a book: the refusals, then points, then money.
 
-use crate::book::{Book, INDICATORS};
+use crate::book::{Book, Operator, INDICATORS};
 use crate::calls::{lowest, Answer};
 use crate::indicators::{indicators, points, Points};
 use crate::money::{money, Money};
@@ -41,35 +41,17 @@ pub fn settle(book: &Book) -> (Answer, Settlement) {
 /// The number by which settling is refused, if any.
 /// Follows 01's table of answers, numbers 5, 10, 11 and 12.
 pub fn refusal(book: &Book) -> Option<u8> {
-    let mut any_joined = false;
-    let mut any_without_size = false;
-    let mut all_marked = true;
-    for operator in &book.operators {
-        if !operator.joined {
-            continue;
-        }
-        any_joined = true;
-        if operator.cabins == 0 || operator.access_points == 0 {
-            any_without_size = true;
-        }
-        for &mark in &operator.marks {
-            if !mark {
-                all_marked = false;
-            }
-        }
-    }
-    let mut refusals = Vec::new();
-    if !book.in_range() {
-        refusals.push(5);
-    }
-    if !any_joined {
-        refusals.push(10);
-    }
-    if any_without_size {
-        refusals.push(11);
-    }
-    if all_marked {
-        refusals.push(12);
-    }
-    lowest(&refusals)
+    let joined: Vec<&Operator> = book
+        .operators
+        .iter()
+        .filter(|operator| operator.joined)
+        .collect();
+    let without_size = |operator: &&Operator| operator.cabins == 0 || operator.access_points == 0;
+    let all_marked = |operator: &&Operator| !operator.marks.contains(&false);
+    lowest(&[
+        (5, !book.in_range()),
+        (10, joined.is_empty()),
+        (11, joined.iter().any(without_size)),
+        (12, joined.iter().all(all_marked)),
+    ])
 }

@@ -1,63 +1,43 @@
 //! Sharing an amount by weights: apportionment by largest remainders.
 
 use crate::product::divide_product;
+use std::cmp::Reverse;
 
 /// The shares of `t` by `weights`, in the order of the weights (rising operators).
 /// Follows 01: "Sharing T by weights: each gets T × weight / (sum of weights)
 /// rounded down; the units left over go one each to the largest remainders,
 /// ties to the lower operator. All weights 0: all get 0."
 pub fn share(t: u64, weights: &[u64]) -> Vec<u128> {
-    let mut sum: u128 = 0;
-    for &weight in weights {
-        sum += u128::from(weight);
-    }
+    let sum: u128 = weights.iter().map(|&weight| u128::from(weight)).sum();
     if sum == 0 {
         return vec![0; weights.len()];
     }
-
-    let mut shares = Vec::new();
-    let mut remainders = Vec::new();
-    let mut left_over = u128::from(t);
-    for &weight in weights {
-        let (floor, remainder) = divide_product(t, weight, sum);
-        shares.push(floor);
-        remainders.push(remainder);
-        left_over -= floor;
-    }
-
-    // One unit at a time, to the largest remainder among the places that have
-    // had no unit yet; the strict comparison keeps the lower place on a tie.
-    let mut served = vec![false; weights.len()];
-    while left_over > 0 {
-        let mut chosen: Option<usize> = None;
-        for place in 0..weights.len() {
-            if served[place] {
-                continue;
-            }
-            match chosen {
-                None => chosen = Some(place),
-                Some(best) => {
-                    if remainders[place] > remainders[best] {
-                        chosen = Some(place);
-                    }
-                }
-            }
-        }
-        // The units left over are fewer than the places.
-        let place = chosen.expect("more units left over than places");
-        served[place] = true;
+    let (mut shares, remainders): (Vec<u128>, Vec<u128>) = weights
+        .iter()
+        .map(|&weight| divide_product(t, weight, sum))
+        .unzip();
+    // The units left over are fewer than the places.
+    let left_over = u128::from(t) - shares.iter().sum::<u128>();
+    for &place in &by_remainder(&remainders)[..left_over as usize] {
         shares[place] += 1;
-        left_over -= 1;
     }
     shares
 }
 
+/// The places by falling remainders.
+fn by_remainder(remainders: &[u128]) -> Vec<usize> {
+    let mut places: Vec<usize> = (0..remainders.len()).collect();
+    // Of equal remainders the lower place stays first: the sort is stable.
+    places.sort_by_key(|&place| Reverse(remainders[place]));
+    places
+}
+
 /// The same sharing of whole numbers that are held wider; each is below 2^64.
 pub fn share_wide(t: u128, weights: &[u128]) -> Vec<u128> {
-    let mut narrow = Vec::new();
-    for &weight in weights {
-        narrow.push(u64::try_from(weight).expect("a weight past 64 bits"));
-    }
+    let narrow: Vec<u64> = weights
+        .iter()
+        .map(|&weight| u64::try_from(weight).expect("a weight past 64 bits"))
+        .collect();
     share(u64::try_from(t).expect("an amount past 64 bits"), &narrow)
 }
 
@@ -76,45 +56,49 @@ mod tests {
 
     const MAX: u64 = u64::MAX;
 
-    fn total(shares: &[u128]) -> u128 {
-        shares.iter().sum()
+    /// One place of a sharing.
+    struct Place {
+        number: usize,
+        floor: u128,
+        remainder: u128,
+        share: u128,
     }
 
-    /// Checks a sharing against the words of 01, without making it again.
-    fn check(t: u64, weights: &[u64]) {
+    /// The places of a sharing, worked out by the words of 01.
+    fn places(t: u64, weights: &[u64]) -> Vec<Place> {
+        let sum: u128 = weights.iter().map(|&weight| u128::from(weight)).sum();
         let shares = share(t, weights);
         assert_eq!(shares.len(), weights.len());
-        let sum: u128 = weights.iter().map(|&w| u128::from(w)).sum();
-        if sum == 0 {
-            assert!(shares.iter().all(|&s| s == 0));
-            return;
-        }
-        assert_eq!(total(&shares), u128::from(t), "{t} by {weights:?}");
-
-        let mut remainders = Vec::new();
-        let mut extra = Vec::new();
-        for place in 0..weights.len() {
-            let product = u128::from(t) * u128::from(weights[place]);
-            let floor = product / sum;
-            assert!(
-                shares[place] == floor || shares[place] == floor + 1,
-                "{t} by {weights:?}"
-            );
-            remainders.push(product % sum);
-            extra.push(shares[place] > floor);
-        }
-        // A place with a spare unit comes before every place without one.
-        for with in 0..weights.len() {
-            for without in 0..weights.len() {
-                if extra[with] && !extra[without] {
-                    assert!(
-                        remainders[with] > remainders[without]
-                            || (remainders[with] == remainders[without] && with < without),
-                        "{t} by {weights:?}"
-                    );
-                }
+        let place = |number: usize| {
+            let product = u128::from(t) * u128::from(weights[number]);
+            Place {
+                number,
+                floor: product / sum,
+                remainder: product % sum,
+                share: shares[number],
             }
-        }
+        };
+        (0..weights.len()).map(place).collect()
+    }
+
+    /// A place with a spare unit comes before every place without one.
+    fn comes_before(with: &Place, without: &Place) -> bool {
+        with.remainder > without.remainder
+            || (with.remainder == without.remainder && with.number < without.number)
+    }
+
+    /// Checks a sharing by weights that are not all 0, without making it again.
+    fn check(t: u64, weights: &[u64]) {
+        let places = places(t, weights);
+        let total: u128 = places.iter().map(|place| place.share).sum();
+        assert_eq!(total, u128::from(t), "{t} by {weights:?}");
+        let (with, without): (Vec<Place>, Vec<Place>) = places
+            .into_iter()
+            .partition(|place| place.share > place.floor);
+        assert!(with.iter().all(|place| place.share == place.floor + 1));
+        assert!(without.iter().all(|place| place.share == place.floor));
+        let before_all = |with: &Place| without.iter().all(|other| comes_before(with, other));
+        assert!(with.iter().all(before_all), "{t} by {weights:?}");
     }
 
     #[test]
@@ -178,14 +162,9 @@ mod tests {
 
     #[test]
     fn every_small_case() {
-        for t in 0..=12 {
-            for a in 0..=4 {
-                for b in 0..=4 {
-                    for c in 0..=4 {
-                        check(t, &[a, b, c]);
-                    }
-                }
-            }
+        // An amount of 0 to 12 and three weights of 0 to 4, not all 0.
+        for case in (0..13 * 125).filter(|case| case % 125 != 0) {
+            check(case / 125, &[case / 25 % 5, case / 5 % 5, case % 5]);
         }
     }
 

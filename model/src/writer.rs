@@ -1,10 +1,9 @@
 //! The writer: a book as a filing, put into a lent buffer.
 
-use crate::book::{Book, FIGURES, FRESH_INDEX, INDICATORS, INDICES, OPERATORS, YEARS};
+use crate::book::{
+    figure_places, Book, Operator, FRESH_INDEX, INDICATORS, INDICES, OPERATORS, SETTINGS,
+};
 use crate::filing::{encode, Field};
-
-/// Follows 01: "at most 7,067 bytes".
-pub const MOST_BYTES: usize = 7067;
 
 /// Writes the book into the buffer; answers the number of bytes written, or the
 /// number of the refusal, which leaves the buffer.
@@ -17,11 +16,7 @@ pub fn write(book: &Book, buffer: &mut [u8]) -> Result<usize, u8> {
 
 /// The written filing of a book that is in range.
 pub fn written(book: &Book) -> Vec<u8> {
-    let mut bytes = Vec::new();
-    for field in fields(book) {
-        bytes.extend(encode(&field));
-    }
-    bytes
+    fields(book).iter().flat_map(encode).collect()
 }
 
 /// The fields of a book that is in range, in the order of the writer.
@@ -30,68 +25,90 @@ pub fn written(book: &Book) -> Vec<u8> {
 /// indices, rates (one field if either isn't 0); amounts with sign 0". All joins
 /// come before all settings, these before all amounts, and so on.
 pub fn fields(book: &Book) -> Vec<Field> {
-    let mut fields = Vec::new();
-    for k in 0..OPERATORS {
-        if book.operators[k].joined {
-            fields.push(Field::Join { operator: k as u8 });
-        }
+    [
+        by_operator(book, joins),
+        by_operator(book, settings),
+        by_operator(book, amounts),
+        by_operator(book, marks),
+        indices(book),
+        rates(book),
+    ]
+    .concat()
+}
+
+/// The fields of one sort, by operator.
+fn by_operator(book: &Book, fields: fn(u8, &Operator) -> Vec<Field>) -> Vec<Field> {
+    (0..OPERATORS)
+        .flat_map(|k| fields(k as u8, &book.operators[k]))
+        .collect()
+}
+
+fn joins(operator: u8, kept: &Operator) -> Vec<Field> {
+    if kept.joined {
+        vec![Field::Join { operator }]
+    } else {
+        Vec::new()
     }
-    for k in 0..OPERATORS {
-        let operator = &book.operators[k];
-        let settings = [operator.cabins, operator.access_points, operator.income];
-        for (which, setting) in settings.into_iter().enumerate() {
-            if setting != 0 {
-                fields.push(Field::Setting {
-                    operator: k as u8,
-                    which: which as u8,
-                    value: setting as u64,
-                });
-            }
-        }
+}
+
+fn settings(operator: u8, kept: &Operator) -> Vec<Field> {
+    let settings = kept.settings();
+    let field = |which: usize| Field::Setting {
+        operator,
+        which: which as u8,
+        value: settings[which] as u64,
+    };
+    (0..SETTINGS)
+        .filter(|&which| settings[which] != 0)
+        .map(field)
+        .collect()
+}
+
+fn amounts(operator: u8, kept: &Operator) -> Vec<Field> {
+    let field = |(year, figure): (usize, usize)| Field::Amount {
+        operator,
+        year: year as u8,
+        figure: figure as u8,
+        sign: 0,
+        value: kept.figures[year][figure] as u64,
+    };
+    figure_places()
+        .filter(|&(year, figure)| kept.figures[year][figure] != 0)
+        .map(field)
+        .collect()
+}
+
+fn marks(operator: u8, kept: &Operator) -> Vec<Field> {
+    let field = |indicator: usize| Field::Mark {
+        operator,
+        indicator: indicator as u8,
+        mark: 1,
+    };
+    (0..INDICATORS)
+        .filter(|&indicator| kept.marks[indicator])
+        .map(field)
+        .collect()
+}
+
+fn indices(book: &Book) -> Vec<Field> {
+    let field = |number: usize| Field::Index {
+        number: number as u8,
+        value: book.indices[number] as u32,
+    };
+    (0..INDICES)
+        .filter(|&number| book.indices[number] != FRESH_INDEX)
+        .map(field)
+        .collect()
+}
+
+fn rates(book: &Book) -> Vec<Field> {
+    if book.pot_rate == 0 && book.cap_rate == 0 {
+        return Vec::new();
     }
-    for k in 0..OPERATORS {
-        for year in 0..YEARS {
-            for figure in 0..FIGURES {
-                let total = book.operators[k].figures[year][figure];
-                if total != 0 {
-                    fields.push(Field::Amount {
-                        operator: k as u8,
-                        year: year as u8,
-                        figure: figure as u8,
-                        sign: 0,
-                        value: total as u64,
-                    });
-                }
-            }
-        }
-    }
-    for k in 0..OPERATORS {
-        for indicator in 0..INDICATORS {
-            if book.operators[k].marks[indicator] {
-                fields.push(Field::Mark {
-                    operator: k as u8,
-                    indicator: indicator as u8,
-                    mark: 1,
-                });
-            }
-        }
-    }
-    for number in 0..INDICES {
-        let index = book.indices[number];
-        if index != FRESH_INDEX {
-            fields.push(Field::Index {
-                number: number as u8,
-                value: index as u32,
-            });
-        }
-    }
-    if book.pot_rate != 0 || book.cap_rate != 0 {
-        fields.push(Field::Rates {
-            pot: book.pot_rate as u32,
-            cap: book.cap_rate as u32,
-        });
-    }
-    fields
+    vec![Field::Rates {
+        pot: book.pot_rate as u32,
+        cap: book.cap_rate as u32,
+    }]
 }
 
 /// Puts the output at the start of a lent buffer, unless it is too short.
@@ -112,27 +129,38 @@ mod tests {
     use crate::filing::read;
     use crate::generator;
 
+    /// Operator k with every value other than the fresh one.
+    fn full_operator(k: u128) -> Operator {
+        let year = |year: u128| {
+            (0..8)
+                .map(|figure| 1 + k * 1000 + year * 100 + figure)
+                .collect()
+        };
+        Operator {
+            joined: true,
+            marks: vec![true; 6],
+            cabins: 1 + k,
+            access_points: 4_000_000 - k,
+            income: 100_000_000_000 - k,
+            figures: (0..3).map(year).collect(),
+        }
+    }
+
     /// A book in which every value differs from the fresh one.
     fn full() -> Book {
-        let mut book = Book::fresh();
-        for k in 0..16_u128 {
-            let operator = &mut book.operators[k as usize];
-            operator.joined = true;
-            operator.cabins = 1 + k;
-            operator.access_points = 4_000_000 - k;
-            operator.income = 100_000_000_000 - k;
-            for year in 0..3 {
-                for figure in 0..8 {
-                    operator.figures[year][figure] =
-                        1 + k * 1000 + year as u128 * 100 + figure as u128;
-                }
-            }
-            operator.marks = vec![true; 6];
+        Book {
+            operators: (0..16).map(full_operator).collect(),
+            pot_rate: 1,
+            cap_rate: 20_000,
+            indices: vec![1, 9_999, 10_001, 100_000],
         }
-        book.pot_rate = 1;
-        book.cap_rate = 20_000;
-        book.indices = vec![1, 9_999, 10_001, 100_000];
-        book
+    }
+
+    /// Refused by that number, with a buffer of that length left.
+    fn leaves_buffer(book: &Book, length: usize, number: u8) {
+        let mut buffer = vec![7; length];
+        assert_eq!(write(book, &mut buffer), Err(number));
+        assert_eq!(buffer, vec![7; length]);
     }
 
     /// The book is written as these bytes; in a buffer of just their length, in
@@ -146,19 +174,18 @@ mod tests {
         assert_eq!(write(book, &mut buffer), Ok(length));
         assert_eq!(buffer[..length], *expected);
         assert_eq!(buffer[length..], [7; 5]);
-        for short in [0, length / 2, length.saturating_sub(1)] {
-            if short < length {
-                let mut buffer = vec![7; short];
-                assert_eq!(write(book, &mut buffer), Err(13));
-                assert_eq!(buffer, vec![7; short]);
-            }
+        if length > 0 {
+            leaves_buffer(book, 0, 13);
+            leaves_buffer(book, length / 2, 13);
+            leaves_buffer(book, length - 1, 13);
         }
     }
 
     /// Reading the written filing gives the book back, which is written the same.
     fn round_trip(book: &Book) {
         let filing = written(book);
-        assert!(filing.len() <= MOST_BYTES);
+        // Follows 01: "at most 7,067 bytes".
+        assert!(filing.len() <= 7067);
         let mut again = Book::fresh();
         let reading = read(&mut again, &filing);
         assert_eq!(reading.refusal, None);
@@ -177,53 +204,56 @@ mod tests {
     fn example_of_the_table() {
         let mut book = Book::fresh();
         book.operators[0].joined = true;
-        let mut buffer = [7; 3];
-        assert_eq!(write(&book, &mut buffer), Err(13));
-        assert_eq!(buffer, [7; 3]);
+        leaves_buffer(&book, 3, 13);
         writes(&book, &[1, 0, 1, 0]);
+    }
+
+    /// A joined operator with some values of each sort.
+    fn some_operator() -> Operator {
+        let mut operator = Operator::fresh();
+        operator.joined = true;
+        operator.cabins = 1;
+        operator.access_points = 2;
+        operator.income = 3;
+        operator.figures[0][7] = 4;
+        operator.figures[2][0] = 5;
+        operator.figures[2][1] = 6;
+        operator.marks[0] = true;
+        operator.marks[5] = true;
+        operator
+    }
+
+    /// The bytes of its settings.
+    fn some_settings(operator: u8) -> Vec<u8> {
+        let setting = |which: u8| [2, 0, 10, operator, which, 0, 0, 0, 0, 0, 0, 0, which + 1];
+        [setting(0), setting(1), setting(2)].concat()
+    }
+
+    /// The bytes of its amounts.
+    fn some_amounts(operator: u8) -> Vec<u8> {
+        [
+            [4, 0, 12, operator, 0, 7, 0, 0, 0, 0, 0, 0, 0, 0, 4],
+            [4, 0, 12, operator, 2, 0, 0, 0, 0, 0, 0, 0, 0, 0, 5],
+            [4, 0, 12, operator, 2, 1, 0, 0, 0, 0, 0, 0, 0, 0, 6],
+        ]
+        .concat()
     }
 
     #[test]
     fn order_of_the_fields() {
         let mut book = Book::fresh();
-        for k in [3, 12] {
-            let operator = &mut book.operators[k];
-            operator.joined = true;
-            operator.cabins = 1;
-            operator.access_points = 2;
-            operator.income = 3;
-            operator.figures[0][7] = 4;
-            operator.figures[2][0] = 5;
-            operator.figures[2][1] = 6;
-            operator.marks[0] = true;
-            operator.marks[5] = true;
-        }
+        book.operators[3] = some_operator();
+        book.operators[12] = some_operator();
         book.pot_rate = 7;
         book.cap_rate = 8;
         book.indices = vec![9, 10_000, 10, 11];
-        let setting = |operator: u8, which: u8| {
-            vec![2, 0, 10, operator, which, 0, 0, 0, 0, 0, 0, 0, which + 1]
-        };
-        let amount = |operator: u8, year: u8, figure: u8, value: u8| {
-            vec![
-                4, 0, 12, operator, year, figure, 0, 0, 0, 0, 0, 0, 0, 0, value,
-            ]
-        };
         let expected = [
             vec![1, 0, 1, 3],
             vec![1, 0, 1, 12],
-            setting(3, 0),
-            setting(3, 1),
-            setting(3, 2),
-            setting(12, 0),
-            setting(12, 1),
-            setting(12, 2),
-            amount(3, 0, 7, 4),
-            amount(3, 2, 0, 5),
-            amount(3, 2, 1, 6),
-            amount(12, 0, 7, 4),
-            amount(12, 2, 0, 5),
-            amount(12, 2, 1, 6),
+            some_settings(3),
+            some_settings(12),
+            some_amounts(3),
+            some_amounts(12),
             vec![5, 0, 3, 3, 0, 1],
             vec![5, 0, 3, 3, 5, 1],
             vec![5, 0, 3, 12, 0, 1],
@@ -237,17 +267,20 @@ mod tests {
         round_trip(&book);
     }
 
+    /// The rates are written as these bytes after tag and length.
+    fn writes_rates(pot: u128, cap: u128, content: [u8; 8]) {
+        let mut book = Book::fresh();
+        book.pot_rate = pot;
+        book.cap_rate = cap;
+        writes(&book, &[&[6, 0, 8][..], &content].concat());
+        round_trip(&book);
+    }
+
     #[test]
     fn rates_are_one_field() {
-        for (pot, cap) in [(1, 0), (0, 1), (20_000, 20_000)] {
-            let mut book = Book::fresh();
-            book.pot_rate = pot;
-            book.cap_rate = cap;
-            let filing = written(&book);
-            assert_eq!(filing.len(), 11);
-            assert_eq!(filing[..3], [6, 0, 8]);
-            round_trip(&book);
-        }
+        writes_rates(1, 0, [0, 0, 0, 1, 0, 0, 0, 0]);
+        writes_rates(0, 1, [0, 0, 0, 0, 0, 0, 0, 1]);
+        writes_rates(20_000, 20_000, [0, 0, 78, 32, 0, 0, 78, 32]);
     }
 
     #[test]
@@ -260,10 +293,6 @@ mod tests {
         assert_eq!(filing.len(), 7067);
         writes(&book, &filing);
         round_trip(&book);
-        // One byte short.
-        let mut buffer = vec![7; 7066];
-        assert_eq!(write(&book, &mut buffer), Err(13));
-        assert_eq!(buffer, vec![7; 7066]);
         // Any value back at its fresh one makes it shorter.
         let mut other = book.clone();
         other.indices[2] = 10_000;
@@ -281,6 +310,12 @@ mod tests {
         round_trip(&other);
     }
 
+    fn refuses_every_buffer(book: &Book) {
+        for length in [0, 3, 7066, 7067, 8000] {
+            leaves_buffer(book, length, 5);
+        }
+    }
+
     #[test]
     fn book_out_of_range() {
         let mut past = full();
@@ -289,29 +324,27 @@ mod tests {
         not_joined.operators[15].joined = false;
         let mut index = Book::fresh();
         index.indices[0] = 0;
-        for book in [past, not_joined, index] {
-            for length in [0, 3, 7066, 7067, 8000] {
-                let mut buffer = vec![7; length];
-                assert_eq!(write(&book, &mut buffer), Err(5));
-                assert_eq!(buffer, vec![7; length]);
-            }
-        }
+        refuses_every_buffer(&past);
+        refuses_every_buffer(&not_joined);
+        refuses_every_buffer(&index);
+    }
+
+    /// The book that a filing makes; a refused one leaves a book as well.
+    fn made(filing: &[u8]) -> Book {
+        let mut book = Book::fresh();
+        read(&mut book, filing);
+        book
     }
 
     #[test]
     fn round_trip_of_many_books() {
-        let mut longest = 0;
-        let mut books = 0;
-        for number in 0..1500 {
-            let mut book = Book::fresh();
-            let filing = generator::filing(1, number);
-            // A refused filing leaves a book as well.
-            read(&mut book, &filing);
-            round_trip(&book);
-            longest = longest.max(written(&book).len());
-            books += u32::from(book != Book::fresh());
-        }
-        assert!(books > 1300, "{books}");
-        assert!(longest > 5000, "{longest}");
+        let books: Vec<Book> = (0..1500)
+            .map(|number| made(&generator::filing(1, number)))
+            .filter(|book| *book != Book::fresh())
+            .collect();
+        books.iter().for_each(round_trip);
+        assert!(books.len() > 1300, "{}", books.len());
+        let longest = books.iter().map(|book| written(book).len()).max();
+        assert!(longest > Some(5000), "{longest:?}");
     }
 }

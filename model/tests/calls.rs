@@ -1,29 +1,11 @@
 //! The subcommand `calls` as a program: its output, its messages and its exit status.
 
-use std::io::Write;
-use std::process::{Command, Stdio};
+#[path = "common/text.rs"]
+mod text;
 
 /// Exit status, standard output and standard error of `model calls`.
 fn run(input: &str) -> (i32, String, String) {
-    let mut program = Command::new(env!("CARGO_BIN_EXE_model"))
-        .arg("calls")
-        .stdin(Stdio::piped())
-        .stdout(Stdio::piped())
-        .stderr(Stdio::piped())
-        .spawn()
-        .unwrap();
-    program
-        .stdin
-        .take()
-        .unwrap()
-        .write_all(input.as_bytes())
-        .unwrap();
-    let result = program.wait_with_output().unwrap();
-    (
-        result.status.code().unwrap(),
-        String::from_utf8(result.stdout).unwrap(),
-        String::from_utf8(result.stderr).unwrap(),
-    )
+    text::run(&["calls"], input)
 }
 
 #[test]

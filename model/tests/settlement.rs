@@ -1,10 +1,16 @@
 //! Whole settlements: the cases printed in 01, refusals, the ends of the ranges,
 //! and the sums over many books.
 
+#[path = "../src/case_m.rs"]
+mod case_m;
+
 use model::book::{Book, Operator, INDICATORS, OPERATORS};
 use model::calls::{self, Answer};
-use model::indicators::{indicators, points, value_sum, Kind};
-use model::money::{money, passes_limit};
+use model::indicators::{indicators, points, value_sum, Kind, Points};
+use model::money::{money, Money};
+use model::random::Random;
+use model::report::lines;
+use model::script;
 use model::settlement::{settle, Settlement};
 
 const MOST: u128 = 100_000_000_000;
@@ -31,98 +37,125 @@ fn refuses(book: &Book, number: u8) {
     assert_eq!(settlement.money.adjustments, vec![0; 16]);
 }
 
-/// What holds for every settlement, checked without making it again.
+// What holds for every settlement, checked without making it again.
+
 fn check_sums(book: &Book, settlement: &Settlement) {
-    let joined: Vec<usize> = (0..OPERATORS)
-        .filter(|&k| book.operators[k].joined)
-        .collect();
-    let list = indicators();
-    let all = &settlement.points;
-    let money = &settlement.money;
-
     for number in 0..INDICATORS {
-        let unmarked: Vec<usize> = joined
-            .iter()
-            .copied()
-            .filter(|&k| !book.operators[k].marks[number])
-            .collect();
-        let n = joined.len() as u128;
-        let m = unmarked.len() as u128;
-        assert_eq!(all.pools[number], 300 * list[number].points * m / n);
-        // No weight is ever 0, so the pool is always shared whole.
-        let sum: u128 = all.points.iter().map(|points| points[number]).sum();
-        assert_eq!(sum, all.pools[number]);
-        for k in 0..OPERATORS {
-            if !unmarked.contains(&k) {
-                assert_eq!(all.points[k][number], 0);
-            }
-        }
-
-        let s = |k: usize| value_sum(&list[number], &book.operators[k], &book.indices);
-        let total: u128 = unmarked.iter().map(|&k| s(k)).sum();
-        for &a in &unmarked {
-            for &b in &unmarked {
-                let (points_a, points_b) = (all.points[a][number], all.points[b][number]);
-                // A smaller s never has fewer points, but for one unit left over.
-                if s(a) <= s(b) {
-                    assert!(points_a + 1 >= points_b);
-                }
-                if s(a) == s(b) && a < b {
-                    assert!(points_a >= points_b);
-                }
-                // Follows 01: "Within the group points differ by at most a hundredth."
-                if list[number].kind == Kind::Interruptions && m * s(a) < total && m * s(b) < total
-                {
-                    assert!(points_a.abs_diff(points_b) <= 1);
-                }
-            }
-        }
+        check_indicator(book, &settlement.points, number);
     }
+    check_pot(book, &settlement.money);
+    check_adjustments(&settlement.money);
+    let not_joined = (0..OPERATORS).filter(|&k| !book.operators[k].joined);
+    assert!(not_joined
+        .map(|k| amounts(settlement, k))
+        .all(|amounts| amounts == [0; 4]));
+}
 
-    let incomes: u128 = joined.iter().map(|&k| book.operators[k].income).sum();
-    assert_eq!(money.pot, book.pot_rate * incomes / 1_000_000);
-    assert_eq!(money.contributions.iter().sum::<u128>(), money.pot);
-    assert_eq!(money.returns.iter().sum::<u128>(), money.pot);
-    assert_eq!(money.adjustments.iter().sum::<i128>(), 0);
-    let mut bonuses = 0;
-    let mut maluses = 0;
-    for k in 0..OPERATORS {
-        let limit = money.limits[k];
-        assert_eq!(limit, book.cap_rate * book.operators[k].income / 1_000_000);
-        let difference = money.returns[k] as i128 - money.contributions[k] as i128;
-        let adjustment = money.adjustments[k];
-        assert!(!passes_limit(adjustment, limit));
-        // On the side of the difference, and not beyond it.
-        assert!(adjustment * difference >= 0);
-        assert!(adjustment.abs() <= difference.abs());
-        let cut = difference.unsigned_abs().min(limit);
-        if difference > 0 {
-            bonuses += cut;
-        } else {
-            maluses += cut;
-        }
-        if !book.operators[k].joined {
-            assert_eq!(money.contributions[k], 0);
-            assert_eq!(money.returns[k], 0);
-            assert_eq!(money.limits[k], 0);
-            assert_eq!(money.adjustments[k], 0);
-        }
-    }
-    // The smaller side keeps its cut amounts, and both sides have its sum.
-    let moved: u128 = money
-        .adjustments
+/// Contribution, return, limit and adjustment, without its sign.
+fn amounts(settlement: &Settlement, k: usize) -> [u128; 4] {
+    let money = &settlement.money;
+    [
+        money.contributions[k],
+        money.returns[k],
+        money.limits[k],
+        money.adjustments[k].unsigned_abs(),
+    ]
+}
+
+/// An unmarked operator at one indicator.
+struct Place {
+    operator: usize,
+    s: u128,
+    points: u128,
+}
+
+fn check_indicator(book: &Book, all: &Points, number: usize) {
+    let indicator = &indicators()[number];
+    let joined = |&k: &usize| book.operators[k].joined;
+    let unmarked = |k: &usize| joined(k) && !book.operators[*k].marks[number];
+    let n = (0..OPERATORS).filter(joined).count() as u128;
+    let m = (0..OPERATORS).filter(unmarked).count() as u128;
+    assert_eq!(all.pools[number], 300 * indicator.points * m / n);
+    // No weight is ever 0, so the pool is always shared whole.
+    let points: Vec<u128> = all.points.iter().map(|points| points[number]).collect();
+    assert_eq!(points.iter().sum::<u128>(), all.pools[number]);
+    let mut others = (0..OPERATORS).filter(|k| !unmarked(k));
+    assert!(others.all(|k| points[k] == 0));
+    let places: Vec<Place> = (0..OPERATORS)
+        .filter(unmarked)
+        .map(|k| Place {
+            operator: k,
+            s: value_sum(indicator, &book.operators[k], &book.indices),
+            points: points[k],
+        })
+        .collect();
+    check_places(&places, indicator.kind);
+}
+
+fn check_places(places: &[Place], kind: Kind) {
+    let total: u128 = places.iter().map(|place| place.s).sum();
+    let better =
+        |place: &Place| kind == Kind::Interruptions && places.len() as u128 * place.s < total;
+    for (a, b) in places
         .iter()
-        .filter(|&&adjustment| adjustment > 0)
-        .map(|adjustment| adjustment.unsigned_abs())
-        .sum();
-    assert_eq!(moved, bonuses.min(maluses));
-    for k in 0..OPERATORS {
-        let difference = money.returns[k] as i128 - money.contributions[k] as i128;
-        let cut = difference.unsigned_abs().min(money.limits[k]);
-        if (difference > 0 && bonuses <= maluses) || (difference < 0 && maluses <= bonuses) {
-            assert_eq!(money.adjustments[k].unsigned_abs(), cut);
-        }
+        .flat_map(|a| places.iter().map(move |b| (a, b)))
+    {
+        check_pair(a, b, better(a) && better(b));
     }
+}
+
+fn check_pair(a: &Place, b: &Place, both_better: bool) {
+    // A smaller s never has fewer points, but for one unit left over.
+    assert!(a.s > b.s || a.points + 1 >= b.points);
+    // Equal ones have it by the lower operator.
+    assert!(a.s != b.s || a.operator > b.operator || a.points >= b.points);
+    // Follows 01: "Within the group points differ by at most a hundredth."
+    assert!(!both_better || a.points.abs_diff(b.points) <= 1);
+}
+
+fn check_pot(book: &Book, money: &Money) {
+    let incomes: Vec<u128> = book.operators.iter().map(|one| one.income).collect();
+    let pot = book.pot_rate * incomes.iter().sum::<u128>() / 1_000_000;
+    assert_eq!(money.pot, pot);
+    assert_eq!(money.contributions.iter().sum::<u128>(), pot);
+    assert_eq!(money.returns.iter().sum::<u128>(), pot);
+    let limits: Vec<u128> = incomes
+        .iter()
+        .map(|income| book.cap_rate * income / 1_000_000)
+        .collect();
+    assert_eq!(money.limits, limits);
+}
+
+/// The difference of an operator, cut to its limit.
+fn cut_difference(money: &Money, k: usize) -> i128 {
+    let difference = money.returns[k] as i128 - money.contributions[k] as i128;
+    difference.signum() * difference.abs().min(money.limits[k] as i128)
+}
+
+fn check_adjustments(money: &Money) {
+    let cuts: Vec<i128> = (0..OPERATORS).map(|k| cut_difference(money, k)).collect();
+    let bonuses: i128 = cuts.iter().map(|&cut| cut.max(0)).sum();
+    let maluses: i128 = cuts.iter().map(|&cut| (-cut).max(0)).sum();
+    // Both sides have the sum of the smaller one.
+    let adjusted = |sign: i128| -> i128 {
+        let amounts = money
+            .adjustments
+            .iter()
+            .map(|amount| (sign * amount).max(0));
+        amounts.sum()
+    };
+    assert_eq!(adjusted(1), bonuses.min(maluses));
+    assert_eq!(adjusted(-1), bonuses.min(maluses));
+    for (&cut, &adjustment) in cuts.iter().zip(&money.adjustments) {
+        check_adjustment(cut, adjustment, bonuses - maluses);
+    }
+}
+
+/// An adjustment is between 0 and the cut amount, so that it doesn't pass its
+/// limit; that of the smaller side, or of two equal ones, is the cut amount.
+fn check_adjustment(cut: i128, adjustment: i128, surplus: i128) {
+    assert!((cut.min(0)..=cut.max(0)).contains(&adjustment));
+    assert!(cut * surplus > 0 || adjustment == cut);
 }
 
 /// A joined operator without interruptions and fees.
@@ -138,20 +171,8 @@ fn operator(cabins: u128, access_points: u128, income: u128) -> Operator {
 /// Case M, made by filing calls.
 fn case_m() -> Book {
     let mut book = Book::fresh();
-    for answer in [
-        calls::join(&mut book, 0),
-        calls::join(&mut book, 1),
-        calls::setting(&mut book, 0, 0, 100),
-        calls::setting(&mut book, 1, 0, 100),
-        calls::setting(&mut book, 0, 1, 1000),
-        calls::setting(&mut book, 1, 1, 3000),
-        calls::setting(&mut book, 0, 2, 100_000_000),
-        calls::setting(&mut book, 1, 2, 200_000_000),
-        calls::amount(&mut book, 1, 0, 4, 0, 50_000),
-        calls::amount(&mut book, 1, 0, 5, 0, 100),
-        calls::rates(&mut book, 5000, 10_000),
-    ] {
-        assert_eq!(answer, Answer::Yes);
+    for call in case_m::calls() {
+        assert_eq!(script::answer(&mut book, call), Ok("yes".to_string()));
     }
     book
 }
@@ -164,6 +185,7 @@ fn marked_case_m() {
     let settlement = settled(&book);
     let totals = settlement.points.totals();
     let money = &settlement.money;
+    assert_eq!(lines(&book, &settlement), case_m::PRINTED);
     assert_eq!(totals[..2], [65_036, 62_464]);
     assert_eq!(money.contributions[..2], [375_000, 1_125_000]);
     assert_eq!(money.returns[..2], [386_463, 1_113_537]);
@@ -187,7 +209,6 @@ fn marked_case_m() {
             vec![23_100, 18_900, 9900, 8100, 1714, 750]
         ]
     );
-    assert_eq!(book, case_m());
 }
 
 #[test]
@@ -217,72 +238,61 @@ fn examples_of_the_table() {
     refuses(&book, 12);
 }
 
+/// Case M with one of its operators altered.
+fn case_m_with(k: usize, alter: fn(&mut Operator)) -> Book {
+    let mut book = case_m();
+    alter(&mut book.operators[k]);
+    book
+}
+
+/// The operator needs cabins and access points, but no income.
+fn needs_size(k: usize) {
+    refuses(&case_m_with(k, |one| *one = operator(0, 1, 1)), 11);
+    refuses(&case_m_with(k, |one| *one = operator(1, 0, 1)), 11);
+    refuses(&case_m_with(k, |one| *one = operator(0, 0, 1)), 11);
+    settled(&case_m_with(k, |one| *one = operator(1, 1, 0)));
+}
+
 #[test]
 fn refusal_11_is_for_any_joined_operator() {
-    for k in 0..2 {
-        let mut book = case_m();
-        book.operators[k].cabins = 0;
-        refuses(&book, 11);
-        let mut book = case_m();
-        book.operators[k].access_points = 0;
-        refuses(&book, 11);
-        let mut book = case_m();
-        book.operators[k].cabins = 0;
-        book.operators[k].access_points = 0;
-        refuses(&book, 11);
-        let mut book = case_m();
-        book.operators[k].income = 0;
-        settled(&book);
-    }
+    [0, 1, 15].into_iter().for_each(needs_size);
+}
+
+/// Case M with all marks but those of these operators at these indicators.
+fn marked_but_for(unmarked: &[(usize, usize)]) -> Book {
     let mut book = case_m();
-    book.operators[15].joined = true;
-    refuses(&book, 11);
+    book.operators[0].marks = vec![true; 6];
+    book.operators[1].marks = vec![true; 6];
+    for &(k, number) in unmarked {
+        book.operators[k].marks[number] = false;
+    }
+    book
 }
 
 #[test]
 fn refusal_12_needs_every_mark_of_every_joined_operator() {
+    refuses(&marked_but_for(&[]), 12);
+    for (k, number) in (0..2).flat_map(|k| (0..6).map(move |number| (k, number))) {
+        settled(&marked_but_for(&[(k, number)]));
+    }
+}
+
+/// Case M altered so is refused by 5.
+fn is_out_of_range(alter: fn(&mut Book)) {
     let mut book = case_m();
-    for k in 0..2 {
-        book.operators[k].marks = vec![true; 6];
-    }
-    refuses(&book, 12);
-    for k in 0..2 {
-        for number in 0..6 {
-            let mut other = book.clone();
-            other.operators[k].marks[number] = false;
-            settled(&other);
-        }
-    }
+    alter(&mut book);
+    refuses(&book, 5);
 }
 
 #[test]
 fn refusal_5_comes_first() {
-    let sound = case_m();
-    let mut books = Vec::new();
-    let mut book = sound.clone();
-    book.pot_rate = 20_001;
-    books.push(book);
-    let mut book = sound.clone();
-    book.cap_rate = 20_001;
-    books.push(book);
-    let mut book = sound.clone();
-    book.indices[3] = 0;
-    books.push(book);
-    let mut book = sound.clone();
-    book.operators[0].cabins = 100_001;
-    books.push(book);
-    let mut book = sound.clone();
-    book.operators[1].figures[2][7] = MOST + 1;
-    books.push(book);
-    let mut book = sound.clone();
-    book.operators[9].marks[0] = true;
-    books.push(book);
-    let mut book = sound.clone();
-    book.operators[9].income = 1;
-    books.push(book);
-    for book in &books {
-        refuses(book, 5);
-    }
+    is_out_of_range(|book| book.pot_rate = 20_001);
+    is_out_of_range(|book| book.cap_rate = 20_001);
+    is_out_of_range(|book| book.indices[3] = 0);
+    is_out_of_range(|book| book.operators[0].cabins = 100_001);
+    is_out_of_range(|book| book.operators[1].figures[2][7] = MOST + 1);
+    is_out_of_range(|book| book.operators[9].marks[0] = true);
+    is_out_of_range(|book| book.operators[9].income = 1);
 }
 
 #[test]
@@ -313,63 +323,65 @@ fn two_refusals_at_once() {
 
 // Points.
 
+/// One operator has all the points and all the money, whichever it is.
+fn has_everything(k: usize) {
+    let mut book = Book::fresh();
+    book.operators[k] = operator(10, 20, 123_456_789);
+    book.operators[k].figures = vec![vec![3; 8]; 3];
+    book.pot_rate = 20_000;
+    book.cap_rate = 20_000;
+    let settlement = settled(&book);
+    assert_eq!(
+        settlement.points.points[k],
+        [46_200, 37_800, 19_800, 16_200, 6000, 1500]
+    );
+    // 20000 × 123456789 / 1000000 = 2469135.78.
+    let whole = 2_469_135;
+    assert_eq!(settlement.money.pot, whole);
+    assert_eq!(amounts(&settlement, k), [whole, whole, whole, 0]);
+}
+
 #[test]
 fn single_operator() {
-    for k in 0..16 {
-        let mut book = Book::fresh();
-        book.operators[k] = operator(10, 20, 123_456_789);
-        book.operators[k].figures = vec![vec![3; 8]; 3];
-        book.pot_rate = 20_000;
-        book.cap_rate = 20_000;
-        let settlement = settled(&book);
-        assert_eq!(
-            settlement.points.points[k],
-            [46_200, 37_800, 19_800, 16_200, 6000, 1500]
-        );
-        // 20000 × 123456789 / 1000000 = 2469135.78.
-        assert_eq!(settlement.money.pot, 2_469_135);
-        assert_eq!(settlement.money.contributions[k], 2_469_135);
-        assert_eq!(settlement.money.returns[k], 2_469_135);
-        assert_eq!(settlement.money.limits[k], 2_469_135);
-        assert_eq!(settlement.money.adjustments, [0; 16]);
-    }
+    (0..16).for_each(has_everything);
+}
+
+/// Seven operators that are all alike: nobody is better, and the units left
+/// over go to the lower operators.
+fn is_shared_alike(figure: u128) {
+    let mut one = operator(5, 6, 1_000_000);
+    one.figures = vec![vec![figure; 8]; 3];
+    let mut book = Book::fresh();
+    book.operators[1..8].fill(one);
+    let settlement = settled(&book);
+    let expected = |k: usize| {
+        let extra = |of: usize| u128::from(k <= of);
+        vec![
+            6600,            // 46200 / 7
+            5400,            // 37800 / 7
+            2828 + extra(4), // 19800 = 7 × 2828 + 4
+            2314 + extra(2), // 16200 = 7 × 2314 + 2
+            857 + extra(1),  // 6000 = 7 × 857 + 1
+            214 + extra(2),  // 1500 = 7 × 214 + 2
+        ]
+    };
+    let expected: Vec<Vec<u128>> = (1..8).map(expected).collect();
+    assert_eq!(settlement.points.points[1..8], expected);
 }
 
 #[test]
 fn all_sums_equal() {
-    // Nobody is better; the units left over go to the lower operators.
-    for figure in [0, 1, MOST] {
-        let mut book = Book::fresh();
-        for k in 1..8 {
-            book.operators[k] = operator(5, 6, 1_000_000);
-            book.operators[k].figures = vec![vec![figure; 8]; 3];
-        }
-        let settlement = settled(&book);
-        for k in 1..8 {
-            let extra = |of: usize| u128::from(k <= of);
-            assert_eq!(
-                settlement.points.points[k],
-                [
-                    6600,            // 46200 / 7
-                    5400,            // 37800 / 7
-                    2828 + extra(4), // 19800 = 7 × 2828 + 4
-                    2314 + extra(2), // 16200 = 7 × 2314 + 2
-                    857 + extra(1),  // 6000 = 7 × 857 + 1
-                    214 + extra(2)   // 1500 = 7 × 214 + 2
-                ]
-            );
-        }
-    }
+    [0, 1, MOST].into_iter().for_each(is_shared_alike);
 }
 
 #[test]
 fn interruptions_by_hand() {
     // A1: s is 1000, 2000, 6000; k is 166, 333, 1000; the first two are better.
     let mut book = Book::fresh();
-    for k in 0..3 {
-        book.operators[k] = operator(1000, 1, 0);
-        book.operators[k].figures[k][0] = [1, 2, 6][k];
-    }
+    book.operators[..3].fill(operator(1000, 1, 0));
+    book.operators[0].figures[0][0] = 1;
+    book.operators[1].figures[1][0] = 2;
+    book.operators[2].figures[2][0] = 6;
     // Weights by the table: 846975816, 716650645 and 367695116, levelled to
     // 1563626461 twice and 735390232.
     let table = model::exponent::table();
@@ -392,81 +404,84 @@ fn interruptions_by_hand() {
     }
 }
 
+/// Everyone is marked at one indicator: nobody has points there.
+fn is_marked_by_all(number: usize) {
+    let mut book = case_m();
+    book.operators[0].marks[number] = true;
+    book.operators[1].marks[number] = true;
+    let settlement = settled(&book);
+    let mut pools = [46_200, 37_800, 19_800, 16_200, 6000, 1500];
+    pools[number] = 0;
+    assert_eq!(settlement.points.pools, pools);
+    assert_eq!(settlement.points.points[0][number], 0);
+    assert_eq!(settlement.points.points[1][number], 0);
+    assert_eq!(settlement.points.points[0][0], pools[0] / 2);
+}
+
 #[test]
 fn everyone_marked_at_one_indicator() {
-    for number in 0..6 {
-        let mut book = case_m();
-        for k in 0..2 {
-            book.operators[k].marks[number] = true;
-        }
-        let settlement = settled(&book);
-        let mut pools = [46_200, 37_800, 19_800, 16_200, 6000, 1500];
-        pools[number] = 0;
-        assert_eq!(settlement.points.pools, pools);
-        assert_eq!(settlement.points.points[0][number], 0);
-        assert_eq!(settlement.points.points[1][number], 0);
-        assert_eq!(settlement.points.points[0][0], pools[0] / 2);
-    }
+    (0..6).for_each(is_marked_by_all);
+}
+
+/// One of three operators is unmarked at an indicator: it has the third of the
+/// pool that is left.
+fn has_what_is_left(k: usize, number: usize) {
+    let mut one = operator(10, 1000, 1_000_000);
+    one.figures = vec![vec![7; 8]; 3];
+    one.marks[number] = true;
+    let mut book = Book::fresh();
+    book.operators[..3].fill(one);
+    book.operators[k].marks[number] = false;
+    let settlement = settled(&book);
+    let pool = [15_400, 12_600, 6600, 5400, 2000, 500][number];
+    assert_eq!(settlement.points.pools[number], pool);
+    // So the others have nothing: the points sum to the pool.
+    assert_eq!(settlement.points.points[k][number], pool);
 }
 
 #[test]
 fn one_unmarked() {
-    for number in 0..6 {
-        for k in 0..3 {
-            let mut book = Book::fresh();
-            for other in 0..3 {
-                book.operators[other] = operator(10, 1000, 1_000_000);
-                book.operators[other].figures = vec![vec![7; 8]; 3];
-                book.operators[other].marks[number] = other != k;
-            }
-            let settlement = settled(&book);
-            let pool = [15_400, 12_600, 6600, 5400, 2000, 500][number];
-            assert_eq!(settlement.points.pools[number], pool);
-            for other in 0..3 {
-                let expected = if other == k { pool } else { 0 };
-                assert_eq!(settlement.points.points[other][number], expected);
-            }
-        }
+    for (k, number) in (0..3).flat_map(|k| (0..6).map(move |number| (k, number))) {
+        has_what_is_left(k, number);
     }
+}
+
+/// Operator 1 has all the points, so all the returns, yet both contribute.
+fn has_the_only_points(number: usize) {
+    let mut book = marked_but_for(&[(1, number)]);
+    book.cap_rate = 20_000;
+    let settlement = settled(&book);
+    assert_eq!(settlement.points.totals()[0], 0);
+    assert_eq!(settlement.money.contributions[..2], [375_000, 1_125_000]);
+    assert_eq!(settlement.money.returns[..2], [0, 1_500_000]);
+    assert_eq!(settlement.money.adjustments[..2], [-375_000, 375_000]);
 }
 
 #[test]
 fn one_mark_missing_in_the_whole_book() {
-    // Operator 1 has all the points, so all the returns, yet both contribute.
-    for number in 0..6 {
-        let mut book = case_m();
-        for k in 0..2 {
-            book.operators[k].marks = vec![true; 6];
-        }
-        book.operators[1].marks[number] = false;
-        book.cap_rate = 20_000;
-        let settlement = settled(&book);
-        assert_eq!(settlement.points.totals()[0], 0);
-        assert_eq!(settlement.money.contributions[..2], [375_000, 1_125_000]);
-        assert_eq!(settlement.money.returns[..2], [0, 1_500_000]);
-        assert_eq!(settlement.money.adjustments[..2], [-375_000, 375_000]);
-    }
+    (0..6).for_each(has_the_only_points);
+}
+
+/// Case M with these indices.
+fn indexed(indices: [u128; 4]) -> Settlement {
+    let mut book = case_m();
+    book.indices = indices.to_vec();
+    settled(&book)
 }
 
 #[test]
 fn indices_at_their_ends() {
     // The same ratio to the largest s: the settlement of M.
     let of_m = settled(&case_m());
-    for (year, june_2013) in [(1, 100_000), (1, 1), (100_000, 100_000)] {
-        let mut book = case_m();
-        book.indices = vec![year, 10_000, 10_000, june_2013];
-        assert_eq!(settled(&book), of_m);
-    }
+    assert_eq!(indexed([1, 10_000, 10_000, 100_000]), of_m);
+    assert_eq!(indexed([1, 10_000, 10_000, 1]), of_m);
+    assert_eq!(indexed([100_000, 10_000, 10_000, 100_000]), of_m);
     // 10 × 50000 × 1 / (100 × 100000) is rounded down to 0: all alike.
-    let mut book = case_m();
-    book.indices = vec![100_000, 1, 1, 1];
-    let settlement = settled(&book);
+    let settlement = indexed([100_000, 1, 1, 1]);
     assert_eq!(settlement.points.totals()[..2], [63_750, 63_750]);
     assert_eq!(settlement.money.adjustments, [0; 16]);
     // The indices of the other years don't matter to year 0.
-    let mut book = case_m();
-    book.indices = vec![10_000, 1, 100_000, 10_000];
-    assert_eq!(settled(&book), of_m);
+    assert_eq!(indexed([10_000, 1, 100_000, 10_000]), of_m);
 }
 
 // Money.
@@ -479,15 +494,20 @@ fn zero_limits() {
     assert_eq!(settlement.money.limits, [0; 16]);
     assert_eq!(settlement.money.adjustments, [0; 16]);
     assert_eq!(settlement.money.returns[..2], [386_463, 1_113_537]);
-    // No income, no limit; the other side has nothing to give or take either.
-    for k in 0..2 {
-        let mut book = case_m();
-        book.operators[k].income = 0;
-        let settlement = settled(&book);
-        assert_eq!(settlement.money.limits[k], 0);
-        assert_eq!(settlement.money.adjustments, [0; 16]);
-        assert!(settlement.money.returns[0] > settlement.money.contributions[0]);
-    }
+}
+
+/// No income, no limit; the other side has nothing to give or take either.
+fn has_no_room(k: usize) {
+    let settlement = settled(&case_m_with(k, |one| one.income = 0));
+    assert_eq!(settlement.money.limits[k], 0);
+    assert_eq!(settlement.money.adjustments, [0; 16]);
+    assert!(settlement.money.returns[0] > settlement.money.contributions[0]);
+}
+
+#[test]
+fn one_zero_limit() {
+    has_no_room(0);
+    has_no_room(1);
 }
 
 #[test]
@@ -505,14 +525,15 @@ fn zero_pot() {
 /// Two operators without fees and two with the same fees, so that each pair
 /// has the same points; the limit is a thousandth of the income.
 fn two_pairs(incomes: [u128; 4]) -> Book {
-    let mut book = Book::fresh();
-    for (k, income) in incomes.into_iter().enumerate() {
-        book.operators[k] = operator(1, 1000, income);
+    let one = |k: usize| {
+        let mut one = operator(1, 1000, incomes[k]);
         if k >= 2 {
-            book.operators[k].figures[0][4] = 100;
-            book.operators[k].figures[0][5] = 1;
+            one.figures[0] = vec![0, 0, 0, 0, 100, 1, 0, 0];
         }
-    }
+        one
+    };
+    let mut book = Book::fresh();
+    book.operators.splice(..4, (0..4).map(one));
     book.pot_rate = 20_000;
     book.cap_rate = 1000;
     book
@@ -559,87 +580,87 @@ fn malus_side_larger() {
     assert_eq!(money.adjustments[..4], [40_345, 1000, -20_673, -20_672]);
 }
 
+/// Case M settled at these rates is its points and the money at these rates.
+fn is_points_and_money(pot_rate: u128, cap_rate: u128) {
+    let mut book = case_m();
+    let points = points(&book, &indicators());
+    let money = money(&book.operators, &points.totals(), pot_rate, cap_rate);
+    book.pot_rate = pot_rate;
+    book.cap_rate = cap_rate;
+    assert_eq!(settled(&book), Settlement { points, money });
+}
+
 #[test]
 fn one_set_of_points_at_many_rates() {
-    let book = case_m();
-    let points = points(&book, &indicators());
-    for pot_rate in [0, 1, 5000, 20_000] {
-        for cap_rate in [0, 1, 50, 10_000, 20_000] {
-            let mut other = book.clone();
-            other.pot_rate = pot_rate;
-            other.cap_rate = cap_rate;
-            let settlement = settled(&other);
-            assert_eq!(settlement.points, points);
-            assert_eq!(
-                settlement.money,
-                money(&book.operators, &points.totals(), pot_rate, cap_rate)
-            );
-        }
+    let rates = [0, 1, 50, 5000, 10_000, 20_000];
+    for (pot, cap) in rates
+        .into_iter()
+        .flat_map(|pot| rates.map(|cap| (pot, cap)))
+    {
+        is_points_and_money(pot, cap);
     }
 }
 
 // The ends of the ranges.
 
-#[test]
-fn sixteen_operators_at_the_largest_settings() {
+/// Sixteen such operators at the largest rates.
+fn sixteen(one: Operator) -> Book {
     let mut book = Book::fresh();
-    for k in 0..16 {
-        book.operators[k] = operator(100_000, 4_000_000, MOST);
-        book.operators[k].figures = vec![vec![MOST; 8]; 3];
-    }
+    book.operators.fill(one);
     book.pot_rate = 20_000;
     book.cap_rate = 20_000;
-    book.indices = vec![100_000; 4];
-    let settlement = settled(&book);
-    let money = &settlement.money;
-    assert_eq!(money.pot, 32_000_000_000);
-    // 46200 / 16 = 2887.5, 37800 / 16 = 2362.5, 19800 / 16 = 1237.5,
-    // 16200 / 16 = 1012.5, 6000 / 16 = 375, 1500 / 16 = 93.75.
-    for k in 0..16 {
-        let half = u128::from(k < 8);
-        let three_quarters = u128::from(k < 12);
-        assert_eq!(
-            settlement.points.points[k],
-            [
-                2887 + half,
-                2362 + half,
-                1237 + half,
-                1012 + half,
-                375,
-                93 + three_quarters
-            ]
-        );
-        // Points 7971, 7967 and 7966 of 127500: 2000564705.88, 1999560784.31
-        // and 1999309803.92; 12 units left over.
-        let returned = if k < 8 {
-            2_000_564_706
-        } else if k < 12 {
-            1_999_560_784
-        } else {
-            1_999_309_804
-        };
-        assert_eq!(money.returns[k], returned);
-        assert_eq!(money.contributions[k], 2_000_000_000);
-        assert_eq!(money.limits[k], 2_000_000_000);
-        assert_eq!(money.adjustments[k], returned as i128 - 2_000_000_000);
-    }
+    book
 }
 
 #[test]
-fn sixteen_operators_at_the_largest_sums() {
-    // One cabin, one access point, divisors of 1 and the widest indices.
-    let mut book = Book::fresh();
-    for k in 0..16 {
-        book.operators[k] = operator(1, 1, MOST);
-        book.operators[k].figures = vec![vec![MOST, MOST, 1, MOST, MOST, 1, MOST, 1]; 3];
-    }
-    // The last one has no interruptions and no fees.
+fn sixteen_operators_at_the_largest_settings() {
+    let mut one = operator(100_000, 4_000_000, MOST);
+    one.figures = vec![vec![MOST; 8]; 3];
+    let mut book = sixteen(one);
+    book.indices = vec![100_000; 4];
+    let settlement = settled(&book);
+    assert_eq!(settlement.money.pot, 32_000_000_000);
+    // 46200 / 16 = 2887.5, 37800 / 16 = 2362.5, 19800 / 16 = 1237.5,
+    // 16200 / 16 = 1012.5, 6000 / 16 = 375, 1500 / 16 = 93.75.
+    let points = |half: u128, three_quarters: u128| {
+        let of_a = [2887 + half, 2362 + half, 1237 + half, 1012 + half];
+        [&of_a[..], &[375, 93 + three_quarters]].concat()
+    };
+    let expected = [
+        vec![points(1, 1); 8],
+        vec![points(0, 1); 4],
+        vec![points(0, 0); 4],
+    ];
+    assert_eq!(settlement.points.points, expected.concat());
+    // Points 7971, 7967 and 7966 of 127500: 2000564705.88, 1999560784.31 and
+    // 1999309803.92; 12 units left over.
+    let returns = [
+        vec![2_000_564_706; 8],
+        vec![1_999_560_784; 4],
+        vec![1_999_309_804; 4],
+    ];
+    assert_eq!(settlement.money.returns, returns.concat());
+    assert_eq!(settlement.money.contributions, [2_000_000_000; 16]);
+    assert_eq!(settlement.money.limits, [2_000_000_000; 16]);
+    assert_eq!(settlement.money.adjustments[0], 564_706);
+    assert_eq!(settlement.money.adjustments[15], -690_196);
+}
+
+/// One cabin, one access point, divisors of 1 and the widest indices; the last
+/// operator has no interruptions and no fees.
+fn largest_sums() -> Book {
+    let mut one = operator(1, 1, MOST);
+    one.figures = vec![vec![MOST, MOST, 1, MOST, MOST, 1, MOST, 1]; 3];
+    let mut book = sixteen(one);
     book.operators[15].figures = vec![vec![0; 8]; 3];
-    book.pot_rate = 20_000;
-    book.cap_rate = 20_000;
     book.indices = vec![1, 1, 1, 100_000];
-    let list = indicators();
-    let s: Vec<u128> = list
+    book
+}
+
+#[test]
+fn sums_at_their_largest() {
+    let book = largest_sums();
+    let s: Vec<u128> = indicators()
         .iter()
         .map(|indicator| value_sum(indicator, &book.operators[0], &book.indices))
         .collect();
@@ -654,18 +675,22 @@ fn sixteen_operators_at_the_largest_sums() {
             300_000_000_000_000_000
         ]
     );
-    let settlement = settled(&book);
+}
+
+#[test]
+fn sixteen_operators_at_the_largest_sums() {
+    let settlement = settled(&largest_sums());
     // A: 15 of the weight of k = 1000 and one of 1000000000, the only better one.
-    // D: 15 × 400000 and 1000000.
     let worst = model::exponent::table()[1000];
     let best = 1_000_000_000;
-    for (number, pool) in [46_200, 37_800, 19_800, 16_200].into_iter().enumerate() {
-        let exact = pool * best / (15 * worst + best);
-        let points = settlement.points.points[15][number];
-        assert!(points == exact || points == exact + 1);
+    let last = &settlement.points.points[15];
+    let exact = |pool: u128| pool * best / (15 * worst + best);
+    for (pool, points) in [46_200, 37_800, 19_800, 16_200].into_iter().zip(last) {
+        assert!((exact(pool)..=exact(pool) + 1).contains(points));
     }
-    assert_eq!(settlement.points.points[15][4], 857); // 6000 / 7 = 857.14
-    assert_eq!(settlement.points.points[15][5], 214); // 1500 / 7 = 214.29
+    // D: 15 × 400000 and 1000000.
+    assert_eq!(last[4], 857); // 6000 / 7 = 857.14
+    assert_eq!(last[5], 214); // 1500 / 7 = 214.29
     assert_eq!(settlement.points.points[0][4], 343); // 6000 × 2 / 35 = 342.86
     assert_eq!(settlement.points.points[0][5], 86); // 1500 × 2 / 35 = 85.71
     assert_eq!(settlement.points.points[14][5], 85);
@@ -677,108 +702,80 @@ fn sixteen_operators_at_the_largest_sums() {
 
 // Many books.
 
-/// A fixed generator: a linear congruence of which the upper half is used.
-struct Generator {
-    state: u64,
+/// From 0 to `most`, often small or at an end.
+fn uneven(random: &mut Random, most: u64) -> u128 {
+    u128::from(match random.up_to(5) {
+        0 => 0,
+        1 => most,
+        2 => random.up_to(most.min(3)),
+        3 => random.up_to(most.min(1000)),
+        _ => random.up_to(most),
+    })
 }
 
-impl Generator {
-    fn next(&mut self) -> u128 {
-        self.state = self
-            .state
-            .wrapping_mul(6_364_136_223_846_793_005)
-            .wrapping_add(1_442_695_040_888_963_407);
-        u128::from(self.state >> 32)
+/// An operator with figures that are all alike or not, and so many of a hundred
+/// marks.
+fn random_operator(random: &mut Random, alike: bool, marked: u64) -> Operator {
+    let mut one = operator(
+        uneven(random, 99_999) + 1,
+        uneven(random, 3_999_999) + 1,
+        uneven(random, MOST as u64),
+    );
+    let most = if alike { 1 } else { MOST as u64 };
+    for figure in one.figures.iter_mut().flatten() {
+        *figure = uneven(random, most);
     }
-
-    /// From 0 to `most`.
-    fn up_to(&mut self, most: u128) -> u128 {
-        let wide = self.next() << 32 | self.next();
-        wide % (most + 1)
-    }
-
-    /// From 0 to `most`, often small or at an end.
-    fn uneven(&mut self, most: u128) -> u128 {
-        match self.up_to(5) {
-            0 => 0,
-            1 => most,
-            2 => self.up_to(most.min(3)),
-            3 => self.up_to(most.min(1000)),
-            _ => self.up_to(most),
-        }
-    }
+    one.marks = (0..6).map(|_| random.percent(marked)).collect();
+    one
 }
 
-fn random_book(generator: &mut Generator) -> Book {
+fn random_book(random: &mut Random) -> Book {
     let mut book = Book::fresh();
-    let marks = generator.up_to(3);
-    let even_figures = generator.up_to(3) == 0;
-    for k in 0..16 {
-        if generator.up_to(2) == 0 {
-            continue;
-        }
-        let mut one = operator(
-            generator.uneven(99_999) + 1,
-            generator.uneven(3_999_999) + 1,
-            generator.uneven(MOST),
-        );
-        for year in 0..3 {
-            for figure in 0..8 {
-                one.figures[year][figure] = if even_figures {
-                    1 + generator.up_to(1)
-                } else {
-                    generator.uneven(MOST)
-                };
-            }
-        }
-        for number in 0..6 {
-            one.marks[number] = generator.up_to(3) < marks;
-        }
-        book.operators[k] = one;
+    let alike = random.one_in(4);
+    let marked = random.pick(&[0, 25, 50, 75]);
+    let joined: Vec<usize> = (0..16).filter(|_| !random.one_in(3)).collect();
+    for k in joined {
+        book.operators[k] = random_operator(random, alike, marked);
     }
-    book.pot_rate = generator.uneven(20_000);
-    book.cap_rate = generator.uneven(20_000);
-    for number in 0..4 {
-        book.indices[number] = generator.uneven(99_999) + 1;
-    }
+    book.pot_rate = uneven(random, 20_000);
+    book.cap_rate = uneven(random, 20_000);
+    book.indices = (0..4).map(|_| uneven(random, 99_999) + 1).collect();
     book
+}
+
+/// How many books show what.
+#[derive(Debug, Default)]
+struct Counts {
+    settled: u32,
+    moved: u32,
+    moved_and_cut: u32,
+}
+
+impl Counts {
+    fn count(&mut self, book: &Book) {
+        let (answer, settlement) = settle(book);
+        if answer != Answer::Yes {
+            assert!(answer == Answer::Refused(10) || answer == Answer::Refused(12));
+            assert_eq!(settlement, Settlement::zero());
+            return;
+        }
+        check_sums(book, &settlement);
+        let money = &settlement.money;
+        let moved = money.adjustments.iter().any(|&adjustment| adjustment != 0);
+        let is_cut = |k: usize| money.returns[k].abs_diff(money.contributions[k]) > money.limits[k];
+        self.settled += 1;
+        self.moved += u32::from(moved);
+        self.moved_and_cut += u32::from(moved && (0..16).any(is_cut));
+    }
 }
 
 #[test]
 fn sums_of_many_books() {
-    let mut generator = Generator { state: 2017 };
-    let mut counts = [0; 4];
-    for _ in 0..3000 {
-        let book = random_book(&mut generator);
-        let kept = book.clone();
-        match settle(&book) {
-            (Answer::Yes, settlement) => {
-                check_sums(&book, &settlement);
-                counts[0] += 1;
-                let moved = settlement.money.adjustments.iter().any(|&a| a != 0);
-                if moved {
-                    counts[1] += 1;
-                }
-                let cut = (0..16).any(|k| {
-                    let out = settlement.money.contributions[k];
-                    let back = settlement.money.returns[k];
-                    out.abs_diff(back) > settlement.money.limits[k]
-                });
-                if moved && cut {
-                    counts[2] += 1;
-                }
-            }
-            (answer, settlement) => {
-                assert!(answer == Answer::Refused(10) || answer == Answer::Refused(12));
-                assert_eq!(settlement, Settlement::zero());
-                counts[3] += 1;
-            }
-        }
-        assert_eq!(book, kept);
+    let mut counts = Counts::default();
+    for number in 0..3000 {
+        counts.count(&random_book(&mut Random::new(2017, number)));
     }
-    // Settled, with adjustments, with a cut besides; refused.
-    assert!(
-        counts[0] > 2500 && counts[1] > 1000 && counts[2] > 500,
-        "{counts:?}"
-    );
+    assert!(counts.settled > 2500, "{counts:?}");
+    assert!(counts.moved > 1000, "{counts:?}");
+    assert!(counts.moved_and_cut > 500, "{counts:?}");
 }

@@ -1,0 +1,412 @@
+//! Sound filings: what each kind of them has, and the making of it.
+
+use super::draft::{amount, mark, most_setting, setting, Draft, Style, MOST};
+use super::Kind;
+use crate::book::{figure_places, Operator, INDICATORS, OPERATORS, SETTINGS, YEARS};
+use crate::filing::Field;
+
+/// What a filing has.
+pub struct Plan {
+    pub operators: usize,
+    settings: Style,
+    incomes: Style,
+    figures: Style,
+    /// How many of a hundred figures have an amount.
+    filled: u64,
+    /// So many sets of values are shared by the operators; 0: each has its own.
+    patterns: usize,
+    /// How many of a hundred marks are set.
+    marked: u64,
+    interruptions: u64,
+    withdrawals: u64,
+    corrections: u64,
+}
+
+/// The first fields of a filing, before they are put in an order.
+struct Parts {
+    joins: Vec<Field>,
+    /// The other fields of each operator, in the order of the joins.
+    by_operator: Vec<Vec<Field>>,
+    common: Vec<Field>,
+}
+
+/// What all operators of a filing have.
+struct Alike {
+    settings: [u64; SETTINGS],
+    /// The amount at every figure.
+    base: u64,
+    /// How much more the next operator has at one place.
+    step: u64,
+    place: (usize, usize),
+}
+
+impl Alike {
+    /// A join, the settings, the same amount at every figure, and the steps.
+    fn fields(&self, operator: u8, steps: u64) -> Vec<Field> {
+        let join = vec![Field::Join { operator }];
+        let settings = (0..SETTINGS)
+            .map(|which| setting(operator, which, self.settings[which]))
+            .collect();
+        let amounts = figure_places()
+            .map(|place| amount(operator, place, 0, self.base))
+            .collect();
+        let higher = vec![amount(operator, self.place, 0, self.step * steps)];
+        [join, settings, amounts, higher].concat()
+    }
+}
+
+impl Draft {
+    /// A filing of a kind that settles; now and then one that just doesn't.
+    pub fn sound(&mut self, kind: Kind) {
+        let plan = self.plan(kind);
+        self.make(&plan);
+        if self.random.one_in(60) {
+            self.take_size();
+        }
+    }
+
+    // Plans.
+
+    fn operator_count(&mut self) -> usize {
+        match self.random.up_to(5) {
+            0 => OPERATORS,
+            1 => 1 + self.random.place(3),
+            _ => 1 + self.random.place(OPERATORS),
+        }
+    }
+
+    /// The plan of a kind that settles.
+    fn plan(&mut self, kind: Kind) -> Plan {
+        let mut plan = Plan {
+            operators: self.operator_count(),
+            settings: Style::Digits,
+            incomes: self.random.pick(&[Style::Digits, Style::Wide]),
+            figures: Style::Digits,
+            filled: self.random.pick(&[10, 50, 80, 100]),
+            patterns: 0,
+            marked: 0,
+            interruptions: 0,
+            withdrawals: self.random.pick(&[0, 0, 2]),
+            corrections: self.random.pick(&[0, 0, 3]),
+        };
+        self.suit(&mut plan, kind);
+        plan
+    }
+
+    /// Brings into a plan what its kind is about.
+    fn suit(&mut self, plan: &mut Plan, kind: Kind) {
+        match kind {
+            Kind::Small => {
+                plan.settings = self.random.pick(&[Style::Small, Style::Equal]);
+                plan.figures = Style::Small;
+            }
+            Kind::Wide => {
+                plan.settings = Style::Wide;
+                plan.figures = Style::Wide;
+            }
+            Kind::Ends => {
+                plan.settings = Style::Ends;
+                plan.incomes = Style::Ends;
+                plan.figures = Style::Ends;
+                plan.interruptions = self.random.pick(&[0, 10]);
+            }
+            Kind::Ties => self.suit_ties(plan),
+            Kind::Interruptions => {
+                plan.filled = self.random.pick(&[0, 20]);
+                plan.interruptions = 1 + self.random.up_to(120);
+                plan.withdrawals = self.random.up_to(20);
+            }
+            Kind::Withdrawals => {
+                plan.withdrawals = 10 + self.random.up_to(60);
+                plan.interruptions = self.random.pick(&[0, 30]);
+            }
+            Kind::Marked => plan.marked = self.random.pick(&[5, 20, 50, 80]),
+            Kind::NearlyAllMarked => plan.marked = self.random.pick(&[90, 97, 100]),
+            _ => {
+                plan.marked = self.random.pick(&[0, 0, 0, 10]);
+                plan.interruptions = self.random.pick(&[0, 0, 10]);
+            }
+        }
+    }
+
+    fn suit_ties(&mut self, plan: &mut Plan) {
+        let style = self.random.pick(&[Style::Equal, Style::Small, Style::Wide]);
+        plan.settings = style;
+        plan.figures = style;
+        plan.patterns = 1 + self.random.place(3);
+        plan.incomes = self.random.pick(&[Style::Equal, Style::Wide]);
+    }
+
+    /// A plan of few operators and few fields, now and then of any size.
+    pub fn small_plan(&mut self) -> Plan {
+        let kind = self
+            .random
+            .pick(&[Kind::Digits, Kind::Interruptions, Kind::Marked]);
+        let mut plan = self.plan(kind);
+        if !self.random.one_in(5) {
+            plan.operators = 1 + self.random.place(3);
+            plan.filled = plan.filled.min(10);
+            plan.interruptions = plan.interruptions.min(5);
+            plan.withdrawals = plan.withdrawals.min(2);
+        }
+        plan
+    }
+
+    // The making.
+
+    /// Makes a filing by the plan; every field is taken.
+    pub fn make(&mut self, plan: &Plan) {
+        let parts = self.parts(plan);
+        let fields = self.in_an_order(parts);
+        self.file_all(fields);
+        self.repeat(plan.interruptions, Draft::file_any_interruption);
+        self.repeat(plan.withdrawals, Draft::withdrawal);
+        self.repeat(plan.corrections, Draft::file_correction);
+        if plan.figures == Style::Ends && self.random.one_in(3) {
+            self.fill_figure();
+        }
+        if plan.marked >= 90 {
+            let places = 1 + self.random.up_to(2);
+            self.repeat(places, Draft::unmark);
+        }
+    }
+
+    fn parts(&mut self, plan: &Plan) -> Parts {
+        let operators = self.some_operators(plan.operators);
+        let patterns: Vec<Operator> = (0..plan.patterns).map(|_| self.pattern(plan)).collect();
+        Parts {
+            joins: operators
+                .iter()
+                .map(|&operator| Field::Join { operator })
+                .collect(),
+            by_operator: operators
+                .iter()
+                .map(|&operator| self.operator_fields(operator, plan, &patterns))
+                .collect(),
+            common: self.common_fields(),
+        }
+    }
+
+    /// So many operators, in any order.
+    fn some_operators(&mut self, count: usize) -> Vec<u8> {
+        let mut numbers: Vec<u8> = (0..OPERATORS as u8).collect();
+        self.random.shuffle(&mut numbers);
+        numbers.truncate(count);
+        numbers
+    }
+
+    /// All joins first, each operator by itself, or the rest mixed.
+    fn in_an_order(&mut self, parts: Parts) -> Vec<Field> {
+        let Parts {
+            joins,
+            by_operator,
+            common,
+        } = parts;
+        match self.random.up_to(2) {
+            0 => [joins, by_operator.concat(), common].concat(),
+            1 => {
+                let each = joins.into_iter().zip(by_operator);
+                let rest = each.flat_map(|(join, fields)| [vec![join], fields].concat());
+                common.into_iter().chain(rest).collect()
+            }
+            _ => {
+                let mut rest = [common, by_operator.concat()].concat();
+                self.random.shuffle(&mut rest);
+                [joins, rest].concat()
+            }
+        }
+    }
+
+    // The values and fields of one operator.
+
+    fn pattern(&mut self, plan: &Plan) -> Operator {
+        let mut values = Operator::fresh();
+        values.cabins = u128::from(self.value(plan.settings, 1, most_setting(0)));
+        values.access_points = u128::from(self.value(plan.settings, 1, most_setting(1)));
+        values.income = u128::from(self.value(plan.incomes, 0, most_setting(2)));
+        for (year, figure) in figure_places() {
+            values.figures[year][figure] = u128::from(self.planned_figure(plan));
+        }
+        values
+    }
+
+    fn planned_figure(&mut self, plan: &Plan) -> u64 {
+        if self.random.percent(plan.filled) {
+            self.value(plan.figures, 0, MOST)
+        } else {
+            0
+        }
+    }
+
+    /// A new pattern, or a shared one that may differ in one value.
+    fn values(&mut self, plan: &Plan, patterns: &[Operator]) -> Operator {
+        if patterns.is_empty() {
+            return self.pattern(plan);
+        }
+        let mut values = patterns[self.random.place(patterns.len())].clone();
+        if self.random.one_in(4) {
+            let (year, figure) = self.figure_place();
+            values.figures[year][figure] = u128::from(self.value(plan.figures, 0, MOST));
+        }
+        if self.random.one_in(6) {
+            values.income = u128::from(self.value(plan.incomes, 0, most_setting(2)));
+        }
+        values
+    }
+
+    /// The settings, amounts and marks of one operator.
+    fn operator_fields(&mut self, operator: u8, plan: &Plan, patterns: &[Operator]) -> Vec<Field> {
+        let values = self.values(plan, patterns);
+        let settings = self.setting_fields(operator, values.settings());
+        let amounts = figure_places()
+            .flat_map(|(year, figure)| {
+                let total = values.figures[year][figure] as u64;
+                self.amount_fields(operator, (year, figure), total)
+            })
+            .collect();
+        let marks = (0..INDICATORS)
+            .filter_map(|indicator| self.mark_field(operator, indicator, plan))
+            .collect();
+        [settings, amounts, marks].concat()
+    }
+
+    /// All settings but some of those that are 0.
+    fn setting_fields(&mut self, operator: u8, settings: [u128; SETTINGS]) -> Vec<Field> {
+        (0..SETTINGS)
+            .filter(|&which| settings[which] != 0 || self.random.one_in(2))
+            .map(|which| setting(operator, which, settings[which] as u64))
+            .collect()
+    }
+
+    /// The total in one amount or in two, rarely if it is 0.
+    fn amount_fields(&mut self, operator: u8, place: (usize, usize), total: u64) -> Vec<Field> {
+        if total == 0 && !self.random.one_in(20) {
+            return Vec::new();
+        }
+        let first = if self.random.one_in(8) {
+            self.random.up_to(total)
+        } else {
+            total
+        };
+        [first, total - first]
+            .into_iter()
+            .filter(|&value| value != 0 || total == 0)
+            .map(|value| amount(operator, place, 0, value))
+            .collect()
+    }
+
+    /// A mark if one is set, rarely if not.
+    fn mark_field(&mut self, operator: u8, indicator: usize, plan: &Plan) -> Option<Field> {
+        let marked = self.random.percent(plan.marked);
+        if marked || self.random.one_in(20) {
+            Some(mark(operator, indicator, u8::from(marked)))
+        } else {
+            None
+        }
+    }
+
+    // Filings without a plan.
+
+    /// Operators alike but for one figure, which is a step higher from each to
+    /// the next; the yearly values have nothing to round.
+    pub fn mean(&mut self) {
+        let count = 3 + self.random.place(OPERATORS - 2);
+        let alike = Alike {
+            settings: [
+                self.random.pick(&[1, 8, 100, 1000, 100_000]),
+                self.random.pick(&[1, 8, 100, 1000, 1_000_000]),
+                self.value(Style::Digits, 0, most_setting(2)),
+            ],
+            base: self.random.pick(&[1, 2, 5, 10, 100]),
+            step: 1 + self.random.up_to(9),
+            place: (self.random.place(YEARS), self.random.place(4)),
+        };
+        for (steps, operator) in (0..).zip(self.some_operators(count)) {
+            self.file_all(alike.fields(operator, steps));
+        }
+        let common = self.common_fields();
+        self.file_all(common);
+        // Limits that nearly all differences pass.
+        if self.random.one_in(3) {
+            let cap = 1 + self.random.up_to(99) as u32;
+            self.file(Field::Rates { pot: 20_000, cap });
+        }
+    }
+
+    /// A filing of exactly that many bytes; now and then the last one or two
+    /// are no field.
+    pub fn long(&mut self, length: usize) {
+        let stray = if self.random.one_in(4) {
+            1 + self.random.place(2)
+        } else {
+            0
+        };
+        let plan = self.plan(Kind::Digits);
+        self.make(&plan);
+        while length - stray - self.bytes.len() > 100 {
+            self.file_correction();
+        }
+        self.fill_up(length - stray);
+        self.bytes.extend(&[1, 0][..stray]);
+    }
+
+    /// Fills the last bytes with fields. Rates have 11 bytes, a mark 6: these
+    /// reach every length from 50 on.
+    fn fill_up(&mut self, length: usize) {
+        let operator = self.joined_operator();
+        while self.bytes.len() < length {
+            self.file_filler(operator, length - self.bytes.len());
+        }
+    }
+
+    fn file_filler(&mut self, operator: u8, left: usize) {
+        let field = if left.is_multiple_of(6) {
+            mark(operator, 0, 0)
+        } else {
+            self.rates()
+        };
+        self.file(field);
+    }
+
+    // Books that don't settle.
+
+    pub fn incomplete(&mut self) {
+        let plan = self.small_plan();
+        match self.random.up_to(4) {
+            0 => {
+                // None joined.
+                let common = self.common_fields();
+                self.file_all(common);
+            }
+            1 => {
+                self.make(&plan);
+                self.take_size();
+            }
+            2 => self.join_without_size(plan),
+            _ => self.all_marked(&plan),
+        }
+    }
+
+    /// A join with cabins or access points at most, after a sound filing.
+    fn join_without_size(&mut self, mut plan: Plan) {
+        plan.operators = plan.operators.min(OPERATORS - 1);
+        self.make(&plan);
+        let operator = self.other_operator();
+        self.file(Field::Join { operator });
+        if self.random.one_in(2) {
+            let which = self.random.place(2);
+            self.file(setting(operator, which, 1));
+        }
+    }
+
+    fn all_marked(&mut self, plan: &Plan) {
+        self.make(plan);
+        if self.random.one_in(6) {
+            self.take_size();
+        }
+        let marks = (0..OPERATORS as u8)
+            .flat_map(|operator| (0..INDICATORS).map(move |indicator| mark(operator, indicator, 1)))
+            .collect();
+        self.file_all(marks);
+    }
+}
