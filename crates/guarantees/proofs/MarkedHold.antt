@@ -30,7 +30,8 @@ use Rattle.settlement.specs.Laws.{sumℤ}
 use Rattle.fields.specs.Field.{bigEndian, unsigned, twosComplement, signed, tags, isKnown, tagged, fieldAt}
 use Rattle.filing.specs.Reader.{followed, fieldsFrom, fieldsOf, isRefused, reading, run, read}
 use Rattle.text.specs.Text.{bytesOf, digits, decimal, signedDecimal}
-use Rattle.report.specs.Lines.{line, header, pointsOfOperator, operatorLine, operatorLines, lastLine, printed, textOf}
+use Rattle.lines.specs.Lines.{line, header, pointsOfOperator, operatorLine, operatorLines, lastLine, printed}
+use Rattle.report.specs.Report.{textOf}
 use Rattle.output.specs.Output.{longestFiling, refusedBy, refusedField, refusedSettlement, unless, settlementText, readingText, outputOf}
 use lib.Count.{ones, onesIn}
 use Rattle.history.specs.Demand.{bookOf}

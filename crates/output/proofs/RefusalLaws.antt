@@ -6,7 +6,7 @@ use mathlib.Core.List.{List, _++_}
 use native.Mathlib.Omega.{arith}
 use lib.ListN.{length, drop, length-append}
 use Rattle.text.specs.Text.{bytesOf, decimal}
-use Rattle.report.specs.Lines.{putInto}
+use Rattle.report.specs.Report.{putInto}
 use Rattle.text.proofs.DigitLaws.{decimal-length}
 use Rattle.text.proofs.WrittenLaws.{Put}
 use Rattle.report.proofs.FittingLaws.{written-front}

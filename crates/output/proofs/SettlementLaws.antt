@@ -13,7 +13,7 @@ use Rattle.book.specs.declared.Book.{Book}
 use Rattle.settlement.specs.Settlement.{settled}
 use Rattle.report.specs.declared.Reported.{Reported}
 use Rattle.report.specs.declared.Reported.the-variants.{Written, Refusing}
-use Rattle.report.specs.Lines.{putInto, textOf, reportAnswer, reportBuffer}
+use Rattle.report.specs.Report.{putInto, textOf, reportAnswer, reportBuffer}
 use Rattle.report.proofs.PrintedLaws.{text-fits}
 use Rattle.report.proofs.FittingLaws.{fits}
 use Rattle.report.proofs.AnswerLaws.{yes-or-refused, report-accepted, report-refused}

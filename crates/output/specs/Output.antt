@@ -14,7 +14,7 @@ use Rattle.settlement.specs.Settlement.{settled}
 use Rattle.filing.specs.declared.Reading.{Reading}
 use Rattle.filing.specs.Reader.{read}
 use Rattle.text.specs.Text.{bytesOf, decimal}
-use Rattle.report.specs.Lines.{textOf}
+use Rattle.report.specs.Report.{textOf}
 
 -- "a longer file prints `too long`"
 unfoldable pub longestFiling : ℕ

@@ -2,7 +2,7 @@
 ghost use mathlib.Core.Path.{_≡_};
 ghost use Prim.Native.Nat.{_+_, _≤_};
 ghost use lib.ListN.{length};
-ghost use Rattle.report.specs.Lines.{putInto};
+ghost use Rattle.report.specs.Report.{putInto};
 ghost use Rattle.text.specs.Steps.{written};
 ghost use Rattle.output.specs.Output.{refusedBy, refusedField, refusedSettlement, settlementText, outputOf};
 use book::Book;

@@ -20,7 +20,7 @@ use Rattle.book.specs.Book.{inRange}
 use Rattle.values.specs.Indicator.{electricity}
 use Rattle.settlement.specs.Settlement.{networkMissing, allMarked, settlementBy, refusing, settledBy, settled}
 use Rattle.report.specs.declared.Reported.the-variants.{Refusing}
-use Rattle.report.specs.Lines.{fitting, reported, afterwards, textOf, reportAnswer, reportBuffer}
+use Rattle.report.specs.Report.{fitting, reported, afterwards, textOf, reportAnswer, reportBuffer}
 
 -- what settling answers
 Settling : Answer → Type 0

@@ -9,7 +9,7 @@ use lib.Seq.{take-append-seam}
 use borrow.Author.Tests.{lt-ltb, le-ltb}
 use Rattle.calls.specs.declared.Refusal.the-variants.{BufferTooShort}
 use Rattle.report.specs.declared.Reported.the-variants.{Written, Refusing}
-use Rattle.report.specs.Lines.{putInto, fitting, afterwards}
+use Rattle.report.specs.Report.{putInto, fitting, afterwards}
 use Rattle.text.specs.Steps.{written}
 
 -- a text put at the front, and the front of what holds it

@@ -1,7 +1,4 @@
--- Laws about the bytes of the report.
-pub mod SumLaws
-pub mod LineLaws
-pub mod ColumnLaws
+-- The laws that the proofs of `report`, and of the crates above it, use.
 pub mod PrintedLaws
 pub mod FittingLaws
 pub mod AnswerLaws

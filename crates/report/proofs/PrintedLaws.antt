@@ -28,10 +28,11 @@ use Rattle.settlement.proofs.Amounts.{limit-most}
 use Rattle.settlement.proofs.Gathering.{share-le, pool-le}
 use Rattle.settlement.proofs.SettledLaws.{settles-exactly, adjustments-cancel, within-limits}
 use Rattle.text.specs.Text.{bytesOf, decimal}
-use Rattle.report.specs.Lines.{line, header, pointsOfOperator, operatorLine, operatorLines, lastLine, printed, textOf}
-use Rattle.report.specs.Steps.{Printable}
+use Rattle.lines.specs.Lines.{line, header, pointsOfOperator, operatorLine, operatorLines, lastLine, printed}
+use Rattle.report.specs.Report.{textOf}
+use Rattle.lines.specs.Steps.{Printable}
 use Rattle.text.proofs.DigitLaws.{decimal-length, signed-length}
-use Rattle.report.proofs.SumLaws.{points-most}
+use Rattle.lines.proofs.SumLaws.{points-most}
 
 line-length : (name points out received adjustment : List ℕ)
     → length (line name points out received adjustment) ≡ length name + length points + length out + length received + length adjustment + 5

@@ -1,3 +1,2 @@
 -- The definitions of `report`.
-pub mod Lines
-pub mod Steps
+pub mod Report

@@ -1,5 +1,4 @@
 // The printed settlement of a book, in a lent buffer.
-mod lines;
 mod reporting;
 
 use calls::Refusal;

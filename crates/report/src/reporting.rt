@@ -1,13 +1,14 @@
 // The report: a book is settled, its lines are put together aside, and then into the buffer if they fit.
 ghost use mathlib.Core.Path.{_≡_};
 ghost use lib.ListN.{length};
-ghost use Rattle.report.specs.Lines.{printed, fitting, afterwards, reportAnswer, reportBuffer};
-ghost use Rattle.report.specs.Steps.{Printable};
+ghost use Rattle.lines.specs.Lines.{printed};
+ghost use Rattle.report.specs.Report.{fitting, afterwards, reportAnswer, reportBuffer};
+ghost use Rattle.lines.specs.Steps.{Printable};
 use crate::Reported;
-use crate::lines::put_lines;
 use book::Book;
 use calls::Answer;
 use calls::Refusal;
+use lines::put_lines;
 use settlement::Settlement;
 use settlement::settle;
 use text::put_word;

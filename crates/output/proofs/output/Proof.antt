@@ -5,7 +5,7 @@ use mathlib.Core.List.{[], _∷_}
 use native.Mathlib.Omega.{arith}
 use lib.ListN.{length}
 use Rattle.text.specs.Text.{bytesOf}
-use Rattle.report.specs.Lines.{putInto}
+use Rattle.report.specs.Report.{putInto}
 use Rattle.output.specs.Output.{refusedField, settlementText}
 use types.Run.{OneOf}
 use denote.Enum.Declared.{tagOf}

@@ -2,7 +2,7 @@
 -- Assumes nothing.
 use mathlib.Core.Path.{_≡_, sym, ap, subst, _∙_}
 use lib.ListN.{length}
-use Rattle.report.specs.Lines.{putInto}
+use Rattle.report.specs.Report.{putInto}
 use Rattle.output.specs.Output.{refusedSettlement, settlementText}
 use Rattle.output.proofs.SettlementLaws.{Told, told}
 use borrow.Author.Needs.{needs}

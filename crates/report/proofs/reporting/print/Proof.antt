@@ -3,7 +3,7 @@
 use mathlib.Core.Path.{_≡_, _∙_}
 use native.Mathlib.Omega.{arith}
 use lib.ListN.{length, take, length-take}
-use Rattle.report.specs.Lines.{printed}
+use Rattle.lines.specs.Lines.{printed}
 use Rattle.report.proofs.PrintedLaws.{printed-length}
 use Rattle.report.proofs.FittingLaws.{written-front, take-front, too-short, fits}
 use borrow.Author.Needs.{needs}

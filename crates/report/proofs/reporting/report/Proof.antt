@@ -4,7 +4,7 @@ use mathlib.Core.Path.{_≡_, sym, ap, _∙_}
 use Rattle.calls.specs.declared.Answer.the-variants.{Yes}
 use Rattle.settlement.specs.declared.Settled.{Settled}
 use Rattle.settlement.specs.Settlement.{settled}
-use Rattle.report.specs.Lines.{textOf}
+use Rattle.report.specs.Report.{textOf}
 use Rattle.report.proofs.PrintedLaws.{printable}
 use Rattle.report.proofs.AnswerLaws.{told-accepted, report-accepted, report-refused}
 use borrow.Author.Needs.{needs}

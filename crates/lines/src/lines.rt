@@ -8,9 +8,9 @@ ghost use lib.ListN.{length};
 ghost use Rattle.book.specs.Book.{isJoined};
 ghost use Rattle.apportion.specs.Sum.{sum};
 ghost use Rattle.text.specs.Text.{decimal, signedDecimal};
-ghost use Rattle.report.specs.Lines.{pointsOfOperator, operatorLine, operatorLines, lastLine, printed};
+ghost use Rattle.lines.specs.Lines.{pointsOfOperator, operatorLine, operatorLines, lastLine, printed};
 ghost use Rattle.text.specs.Steps.{written};
-ghost use Rattle.report.specs.Steps.{columns, Printable};
+ghost use Rattle.lines.specs.Steps.{columns, Printable};
 use apportion::total;
 use book::Book;
 use book::is_joined;
@@ -21,7 +21,7 @@ use text::put_signed;
 use text::put_word;
 
 // The header, the joined operators rising, and the sums.
-pub(crate) fn put_lines(out: &mut [u8], b: Book, s: Settlement) -> usize
+pub fn put_lines(out: &mut [u8], b: Book, s: Settlement) -> usize
     requires { ⌜ Printable s × (0 + length (printed b s) ≤ length (now out)) ⌝ }
     ensures { λ r. ⌜ (now (out .exit) ≡ written (now (out .entry)) 0 (printed b s)) × (r ≡ 0 + length (printed b s)) ⌝ }
 {

@@ -1,15 +1,15 @@
--- `report::lines::put_operators` meets its contract. The loop's invariant: the lines of the operators passed are put.
+-- `lines::lines::put_operators` meets its contract. The loop's invariant: the lines of the operators passed are put.
 -- Assumes nothing.
 use mathlib.Core.Path.{_≡_, refl, _∙_}
 use Prim.Native.Nat.{_-_, _≤_}
 use native.Mathlib.Omega.{arith}
 use borrow.Author.Needs.{needs}
 use lib.ListN.{length}
-use Rattle.report.specs.Lines.{operatorLines}
+use Rattle.lines.specs.Lines.{operatorLines}
 use Rattle.text.proofs.WrittenLaws.{Put, put-nothing, room-after, put-then}
-use Rattle.report.proofs.LineLaws.{addition, lines-more, lines-within}
-use Rattle.report.proofs.lines.put_operators.Statement.{statement}
-use Rattle.report.proofs.lines.put_operators.Tie as tie
+use Rattle.lines.proofs.LineLaws.{addition, lines-more, lines-within}
+use Rattle.lines.proofs.lines.put_operators.Statement.{statement}
+use Rattle.lines.proofs.lines.put_operators.Tie as tie
 
 abbrev Inv-loop : tie.InvT-loop
 Inv-loop out₀ at b s next₀ operator₀ out next operator = (operator ≤ 16) × Put out₀ at (operatorLines b s operator) out next × (length out ≡ length out₀)

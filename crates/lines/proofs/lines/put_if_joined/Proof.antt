@@ -1,10 +1,10 @@
--- `report::lines::put_if_joined` meets its contract.
+-- `lines::lines::put_if_joined` meets its contract.
 -- Assumes nothing.
 use Rattle.calls.proofs.Flags.{denied, granted}
 use Rattle.text.proofs.WrittenLaws.{put-nothing}
 use borrow.Author.Needs.{needs}
-use Rattle.report.proofs.lines.put_if_joined.Statement.{statement}
-use Rattle.report.proofs.lines.put_if_joined.Tie as tie
+use Rattle.lines.proofs.lines.put_if_joined.Statement.{statement}
+use Rattle.lines.proofs.lines.put_if_joined.Tie as tie
 
 is-joined-requires : tie.Need-is-joined-requires
 is-joined-requires c κs = search needs

@@ -1,10 +1,10 @@
--- `report::lines::put_columns` meets its contract.
+-- `lines::lines::put_columns` meets its contract.
 -- Assumes nothing.
-use Rattle.report.proofs.ColumnLaws.{points-room, out-room, received-room, adjustment-room, columns-put}
+use Rattle.lines.proofs.ColumnLaws.{points-room, out-room, received-room, adjustment-room, columns-put}
 use Rattle.text.proofs.SignLaws.{again}
 use borrow.Author.Needs.{needs}
-use Rattle.report.proofs.lines.put_columns.Statement.{statement}
-use Rattle.report.proofs.lines.put_columns.Tie as tie
+use Rattle.lines.proofs.lines.put_columns.Statement.{statement}
+use Rattle.lines.proofs.lines.put_columns.Tie as tie
 
 put-column-requires : tie.Need-put-column-requires
 put-column-requires c κs =

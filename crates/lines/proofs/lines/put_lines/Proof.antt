@@ -1,11 +1,11 @@
--- `report::lines::put_lines` meets its contract.
+-- `lines::lines::put_lines` meets its contract.
 -- Assumes nothing.
 use Rattle.text.specs.Text.{bytesOf}
-use Rattle.report.specs.Lines.{line, header, operatorLines, lastLine, printed}
+use Rattle.lines.specs.Lines.{line, header, operatorLines, lastLine, printed}
 use Rattle.text.proofs.WrittenLaws.{three-first, three-second, three-third, put-three}
 use borrow.Author.Needs.{needs}
-use Rattle.report.proofs.lines.put_lines.Statement.{statement}
-use Rattle.report.proofs.lines.put_lines.Tie as tie
+use Rattle.lines.proofs.lines.put_lines.Statement.{statement}
+use Rattle.lines.proofs.lines.put_lines.Tie as tie
 
 slice-aggregate-put-word : tie.Need-slice-aggregate-put-word
 slice-aggregate-put-word c = search needs

@@ -15,8 +15,8 @@ use Rattle.apportion.specs.Sum.{sum}
 use Rattle.settlement.specs.declared.Settlement.{Settlement}
 use Rattle.settlement.specs.Laws.{sumℤ}
 use Rattle.text.specs.Text.{bytesOf, decimal, signedDecimal}
-use Rattle.report.specs.Lines.{line, pointsOfOperator, operatorLine, operatorLines, lastLine}
-use Rattle.report.specs.Steps.{columns}
+use Rattle.lines.specs.Lines.{line, pointsOfOperator, operatorLine, operatorLines, lastLine}
+use Rattle.lines.specs.Steps.{columns}
 
 after-name : (name a b c d e : List ℕ) → name ++ a ++ b ++ c ++ d ++ e ≡ name ++ (a ++ b ++ c ++ d ++ e)
 after-name name a b c d e = simp append-assoc

@@ -1,23 +1,16 @@
--- The printed settlement: its lines as bytes, and what reporting leaves in a buffer (01, "The printed settlement" and number 13).
+-- The printed settlement: its lines as bytes (01, "The printed settlement").
 -- Assumes nothing.
 use Prim.Native.Nat.{ℕ, zero, suc, _+_, _*_}
 use mathlib.Core.Bool.{cond}
 use mathlib.Core.List.{List, [], _∷_, _++_}
-use lib.Dec.{ltb}
 use lib.IntN.{pos}
-use lib.ListN.{length, getD, drop}
-use Rattle.calls.specs.declared.Refusal.the-variants.{BufferTooShort}
-use Rattle.calls.specs.declared.Answer.{Answer}
-use Rattle.calls.specs.declared.Answer.the-variants.{Yes, Counted, LeftOut, Refused}
+use lib.ListN.{getD}
 use Rattle.book.specs.declared.Book.{Book}
 use Rattle.book.specs.Book.{isJoined}
 use Rattle.apportion.specs.Sum.{sum}
 use Rattle.values.specs.Operators.{table}
 use Rattle.settlement.specs.declared.Settlement.{Settlement}
-use Rattle.settlement.specs.Settlement.{settled}
 use Rattle.settlement.specs.Laws.{sumℤ}
-use Rattle.report.specs.declared.Reported.{Reported}
-use Rattle.report.specs.declared.Reported.the-variants.{Written, Refusing}
 use Rattle.text.specs.Text.{bytesOf, decimal, signedDecimal}
 
 -- "single spaces, each line ended by byte 10"
@@ -57,34 +50,3 @@ lastLine s =
 
 unfoldable pub printed : Book → Settlement → List ℕ
 printed b s = header ++ operatorLines b s 16 ++ lastLine s
-
--- bytes put at the front of a buffer; those after them stay
-unfoldable pub putInto : List ℕ → List ℕ → List ℕ
-putInto buffer text = text ++ drop (length text) buffer
-
--- 13, or the number of bytes
-unfoldable pub fitting : ℕ → List ℕ → Reported
-fitting room text = cond (ltb room (length text)) (Refusing BufferTooShort) (Written (length text))
-
--- 5, 10, 11 and 12 are the settlement's; 13 comes after them
-unfoldable pub reported : ℕ → List ℕ → Answer → Reported
-reported room text Yes = fitting room text
-reported room text (Counted year) = fitting room text
-reported room text (LeftOut reason) = fitting room text
-reported room text (Refused refusal) = Refusing refusal
-
--- "a refused writer or report leaves the buffer"
-unfoldable pub afterwards : List ℕ → List ℕ → Reported → List ℕ
-afterwards buffer text (Written count) = putInto buffer text
-afterwards buffer text (Refusing refusal) = buffer
-
--- the text that a book's report has
-unfoldable pub textOf : Book → List ℕ
-textOf b = printed b (settled b .settlement)
-
--- what `report` answers, and every byte of the buffer after it
-unfoldable pub reportAnswer : Book → List ℕ → Reported
-reportAnswer b buffer = reported (length buffer) (textOf b) (settled b .answer)
-
-unfoldable pub reportBuffer : Book → List ℕ → List ℕ
-reportBuffer b buffer = afterwards buffer (textOf b) (reportAnswer b buffer)

@@ -1,12 +1,12 @@
--- `report::lines::put_last` meets its contract.
+-- `lines::lines::put_last` meets its contract.
 -- Assumes nothing.
 use mathlib.Core.List.{[], _∷_}
 use native.Mathlib.Omega.{arith}
 use Rattle.text.proofs.WrittenLaws.{room-first, room-after, put-then}
-use Rattle.report.proofs.LineLaws.{lastColumns, last-parts}
+use Rattle.lines.proofs.LineLaws.{lastColumns, last-parts}
 use borrow.Author.Needs.{needs}
-use Rattle.report.proofs.lines.put_last.Statement.{statement}
-use Rattle.report.proofs.lines.put_last.Tie as tie
+use Rattle.lines.proofs.lines.put_last.Statement.{statement}
+use Rattle.lines.proofs.lines.put_last.Tie as tie
 
 slice-aggregate-put-word : tie.Need-slice-aggregate-put-word
 slice-aggregate-put-word c = search needs

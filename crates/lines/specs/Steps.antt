@@ -9,7 +9,7 @@ use Rattle.apportion.specs.Sum.{sum}
 use Rattle.settlement.specs.declared.Settlement.{Settlement}
 use Rattle.settlement.specs.Laws.{sumℤ}
 use Rattle.text.specs.Text.{decimal, signedDecimal}
-use Rattle.report.specs.Lines.{line}
+use Rattle.lines.specs.Lines.{line}
 
 -- all of a line but its name
 unfoldable pub columns : ℕ → ℕ → ℕ → ℤ → List ℕ

@@ -1,4 +1,4 @@
--- `report::lines::put_operator` meets its contract.
+-- `lines::lines::put_operator` meets its contract.
 -- Assumes nothing.
 use Prim.Native.Nat.{_^_, _<_}
 use native.Mathlib.Omega.{arith}
@@ -7,10 +7,10 @@ use lib.ListN.{getD}
 use Rattle.text.specs.Text.{decimal}
 use Rattle.text.proofs.WrittenLaws.{room-first, room-after, put-then}
 use Rattle.text.proofs.SignLaws.{again}
-use Rattle.report.proofs.LineLaws.{operatorColumns, operator-parts}
+use Rattle.lines.proofs.LineLaws.{operatorColumns, operator-parts}
 use borrow.Author.Needs.{needs}
-use Rattle.report.proofs.lines.put_operator.Statement.{statement}
-use Rattle.report.proofs.lines.put_operator.Tie as tie
+use Rattle.lines.proofs.lines.put_operator.Statement.{statement}
+use Rattle.lines.proofs.lines.put_operator.Tie as tie
 
 put-decimal-requires : tie.Need-put-decimal-requires
 put-decimal-requires c κs =

@@ -1,0 +1,3 @@
+-- The definitions of `lines`.
+pub mod Lines
+pub mod Steps
