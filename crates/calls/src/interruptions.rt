@@ -8,9 +8,10 @@ use crate::Reason;
 
 const YEAR: u64 = 31536000;
 
-// The last second of the three years, and the first of the year before them: an interruption may have begun then.
+// The last second of the three years.
 const LAST_END: i64 = 94607999;
 
+// The first second of the year before them: an interruption may have begun then.
 const FIRST_START: i64 = -31536000;
 
 const MOST_CABINS: u32 = 100000;
