@@ -1,7 +1,7 @@
 -- The range of a book, tested place by place of its arrays, as the code does it.
 -- Assumes nothing.
-use mathlib.Core.Path.{_≡_}
-use mathlib.Core.Bool.{Bool, true, false, cond, not, _||_}
+use mathlib.Core.Path.{_≡_, refl}
+use mathlib.Core.Bool.{Bool, true, false, cond, not, _&&_, _||_}
 use Prim.Native.Nat.{ℕ, _+_, _*_, _/_, _%_, _<_}
 use native.Mathlib.Omega.{arith}
 use lib.Dec.{leb}
@@ -9,7 +9,9 @@ use lib.ListN.{getD}
 use Rattle.book.specs.declared.Book.{Book}
 use Rattle.calls.specs.Limits.{settingLimit, figureLimit}
 use Rattle.calls.specs.Masks.{has}
-use Rattle.book.specs.Book.{isJoined, isMarked, settingSlot, settingOf, figureSlot, figureOf, most, settingsInRange, figuresInRange, marksInRange}
+use Rattle.book.specs.Book.{isJoined, isMarked, settingSlot, settingOf, figureSlot, figureOf, most, hasSixteenBits, settingsInRange, figuresInRange, marksInRange}
+use Rattle.book.specs.Every.{every}
+use Rattle.calls.proofs.Flags.{and-true, both}
 use Rattle.book.proofs.EveryLaws.{every-of-each, every-fails}
 
 module _ (b : Book) where
@@ -20,7 +22,7 @@ module _ (b : Book) where
   figureTest k = leb (getD (b .figures) k 0) (cond (has (b .joined) (k / 24)) figureLimit 0)
 
   abbrev pub markTest : ℕ → Bool
-  markTest k = not (has (getD (b .marks) (k / 16) 0) (k % 16)) || has (b .joined) (k % 16)
+  markTest k = hasSixteenBits (getD (b .marks) (k / 16) 0) && (not (has (getD (b .marks) (k / 16) 0) (k % 16)) || has (b .joined) (k % 16))
 
   -- a place is that of its parts
   pub settings-hold : ((k : ℕ) → k < 48 → settingTest k ≡ true) → settingsInRange b ≡ true
@@ -59,14 +61,22 @@ module _ (b : Book) where
   pub marks-hold : ((k : ℕ) → k < 96 → markTest k ≡ true) → marksInRange b ≡ true
   unfolding marksInRange isMarked isJoined
   marks-hold all =
-      every-of-each 6 _ (λ indicator li. every-of-each 16 _ (λ operator lo. one indicator operator li lo))
+      every-of-each 6 _ (λ indicator li. and-true (one indicator 0 li (omega arith) .0) (every-of-each 16 _ (λ operator lo. one indicator operator li lo .1)))
     where
-      one : (indicator operator : ℕ) → indicator < 6 → operator < 16 → not (isMarked b operator indicator) || isJoined b operator ≡ true
+      one : (indicator operator : ℕ) → indicator < 6 → operator < 16
+          → (hasSixteenBits (getD (b .marks) indicator 0) ≡ true) × (not (isMarked b operator indicator) || isJoined b operator ≡ true)
       one indicator operator li lo =
           let quotient : (indicator * 16 + operator) / 16 ≡ indicator = omega arith in
           let rest : (indicator * 16 + operator) % 16 ≡ operator = omega arith in
-          rw (quotient, rest) at (all (indicator * 16 + operator) (omega arith))
+          both (hasSixteenBits (getD (b .marks) indicator 0)) _ (rw (quotient, rest) at (all (indicator * 16 + operator) (omega arith)))
 
   pub marks-fail : (k : ℕ) → k < 96 → markTest k ≡ false → marksInRange b ≡ false
   unfolding marksInRange isMarked isJoined
-  marks-fail k lt failed = every-fails 6 _ (k / 16) (omega arith) (every-fails 16 _ (k % 16) (omega arith) failed)
+  marks-fail k lt failed = every-fails 6 _ (k / 16) (omega arith) (go (hasSixteenBits (getD (b .marks) (k / 16) 0)) failed)
+    where
+      rest : ℕ → Bool
+      rest operator = not (has (getD (b .marks) (k / 16) 0) operator) || has (b .joined) operator
+
+      go : (t : Bool) → t && rest (k % 16) ≡ false → t && every 16 rest ≡ false
+      go true e = every-fails 16 rest (k % 16) (omega arith) e
+      go false e = refl

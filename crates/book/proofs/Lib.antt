@@ -1,4 +1,6 @@
 -- The laws that the proofs of `book`, and of the crates above it, use.
 pub mod EveryLaws
+pub mod SlotLaws
 pub mod FlatRange
 pub mod Bounds
+pub mod SameBooks

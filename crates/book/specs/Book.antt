@@ -1,12 +1,13 @@
 -- The book: a fresh one, what it holds by name, and when it is in range (01, "The book").
 -- Assumes nothing.
-use Prim.Native.Nat.{ℕ, _+_, _*_}
+use Prim.Native.Nat.{ℕ, _+_, _*_, _^_}
 use mathlib.Core.Bool.{Bool, cond, not, _&&_, _||_}
-use lib.Dec.{leb}
-use lib.ListN.{getD, replicate}
+use lib.Dec.{ltb, leb, eqb}
+use lib.ListN.{length, getD, replicate}
 use Rattle.book.specs.declared.Book.{Book}
-use Rattle.calls.specs.Limits.{operators, years, figures, settings, indicators, indexNumbers, settingLimit, figureLimit, rateLimit, indexLeast, indexMost}
+use Rattle.calls.specs.Limits.{operators, years, figureCount, settingCount, indicatorCount, indexCount, settingLimit, figureLimit, rateLimit, indexLeast, indexMost}
 use Rattle.calls.specs.Masks.{has}
+use Rattle.calls.specs.Held.{Held}
 use Rattle.book.specs.Every.{every}
 
 -- "none joined, no marks, all figures and settings 0, and all four indices 10,000"
@@ -14,20 +15,20 @@ unfoldable pub freshBook : Book
 freshBook =
     record {
       joined = 0;
-      marks = replicate 6 0;
-      settings = replicate 48 0;
-      figures = replicate 384 0;
-      pot = 0;
-      cap = 0;
-      indices = replicate 4 10000;
+      marks = replicate indicatorCount 0;
+      settings = replicate (operators * settingCount) 0;
+      figures = replicate (operators * years * figureCount) 0;
+      «pot_rate» = 0;
+      «cap_rate» = 0;
+      indices = replicate indexCount 10000;
     }
 
 -- where a setting and a figure stand
 unfoldable pub settingSlot : ℕ → ℕ → ℕ
-settingSlot operator which = operator * 3 + which
+settingSlot operator which = operator * settingCount + which
 
 unfoldable pub figureSlot : ℕ → ℕ → ℕ → ℕ
-figureSlot operator year figure = (operator * 3 + year) * 8 + figure
+figureSlot operator year figure = (operator * years + year) * figureCount + figure
 
 unfoldable pub isJoined : Book → ℕ → Bool
 isJoined b operator = has (b .joined) operator
@@ -45,30 +46,56 @@ figureOf b operator year figure = getD (b .figures) (figureSlot operator year fi
 unfoldable pub indexOf : Book → ℕ → ℕ
 indexOf b number = getD (b .indices) number 0
 
+-- what a book holds
+abbrev pub heldBy : Book → Held
+heldBy b =
+    record {
+      joined = isJoined b;
+      setting = settingOf b;
+      mark = isMarked b;
+      pot-rate = b .«pot_rate»;
+      cap-rate = b .«cap_rate»;
+      index = indexOf b;
+      total = figureOf b;
+    }
+
+-- each list has all its places
+unfoldable pub isComplete : Book → Bool
+isComplete b =
+    eqb (length (b .marks)) indicatorCount && eqb (length (b .settings)) (operators * settingCount)
+    && eqb (length (b .figures)) (operators * years * figureCount) && eqb (length (b .indices)) indexCount
+
+-- "sixteen bits of one number"
+unfoldable pub hasSixteenBits : ℕ → Bool
+hasSixteenBits mask = ltb mask (2 ^ 16)
+
 -- the most that may stand at a place of an operator: a limit, or the fresh value 0 for one not joined
 unfoldable pub most : Book → ℕ → ℕ → ℕ
 most b operator limit = cond (isJoined b operator) limit 0
 
 unfoldable pub settingsInRange : Book → Bool
 settingsInRange b =
-    every operators (λ (operator : ℕ). every settings (λ (which : ℕ). leb (settingOf b operator which) (most b operator (settingLimit which))))
+    every operators (λ (operator : ℕ). every settingCount (λ (which : ℕ). leb (settingOf b operator which) (most b operator (settingLimit which))))
 
 unfoldable pub figuresInRange : Book → Bool
 figuresInRange b =
     every operators
     (λ (operator : ℕ). every years
-    (λ (year : ℕ). every figures (λ (figure : ℕ). leb (figureOf b operator year figure) (most b operator figureLimit))))
+    (λ (year : ℕ). every figureCount (λ (figure : ℕ). leb (figureOf b operator year figure) (most b operator figureLimit))))
 
 unfoldable pub marksInRange : Book → Bool
 marksInRange b =
-    every indicators (λ (indicator : ℕ). every operators (λ (operator : ℕ). not (isMarked b operator indicator) || isJoined b operator))
+    every indicatorCount
+    (λ (indicator : ℕ). hasSixteenBits (getD (b .marks) indicator 0)
+    && every operators (λ (operator : ℕ). not (isMarked b operator indicator) || isJoined b operator))
 
 unfoldable pub indicesInRange : Book → Bool
-indicesInRange b = every indexNumbers (λ (number : ℕ). leb indexLeast (indexOf b number) && leb (indexOf b number) indexMost)
+indicesInRange b = every indexCount (λ (number : ℕ). leb indexLeast (indexOf b number) && leb (indexOf b number) indexMost)
 
 unfoldable pub ratesInRange : Book → Bool
-ratesInRange b = leb (b .pot) rateLimit && leb (b .cap) rateLimit
+ratesInRange b = leb (b .«pot_rate») rateLimit && leb (b .«cap_rate») rateLimit
 
 -- no "value outside its range", nothing "but fresh values for an operator not joined"
 unfoldable pub inRange : Book → Bool
-inRange b = settingsInRange b && figuresInRange b && marksInRange b && ratesInRange b && indicesInRange b
+inRange b =
+    settingsInRange b && figuresInRange b && marksInRange b && ratesInRange b && indicesInRange b && isComplete b && hasSixteenBits (b .joined)

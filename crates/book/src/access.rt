@@ -1,5 +1,8 @@
 // A fresh book, and what a book holds, by name.
 ghost use mathlib.Core.Path.{_≡_};
+ghost use mathlib.Core.Bool.{cond, _&&_};
+ghost use lib.Dec.{ltb};
+ghost use Rattle.calls.specs.Limits.{operators, years, settingCount, figureCount};
 ghost use Rattle.book.specs.Book.{freshBook, isJoined, settingOf, figureOf};
 use crate::Book;
 use calls::has_bit;
@@ -12,8 +15,8 @@ pub fn fresh() -> Book
         marks: [0u16; 6],
         settings: [0u64; 48],
         figures: [0u64; 384],
-        pot: 0,
-        cap: 0,
+        pot_rate: 0,
+        cap_rate: 0,
         indices: [10000u32; 4],
     }
 }
@@ -24,26 +27,35 @@ pub fn is_joined(b: Book, operator: u8) -> bool
     has_bit(b.joined, operator)
 }
 
-// Cabins, active access points or income of an operator; 0 past the last place of the book.
+// Cabins, active access points or income of an operator; 0 for an operator or a setting that there is not.
 pub fn setting_of(b: Book, operator: u8, which: u8) -> u64
-    ensures { λ r. ⌜ r ≡ settingOf b operator which ⌝ }
+    ensures { λ r. ⌜ r ≡ cond (ltb operator operators && ltb which settingCount) (settingOf b operator which) 0 ⌝ }
 {
+    if 15 < operator {
+        return 0;
+    }
+    if 2 < which {
+        return 0;
+    }
     let settings = b.settings;
     let at = operator as usize * 3 + which as usize;
-    if at < 48 {
-        return settings[at];
-    }
-    0
+    settings[at]
 }
 
-// A figure of an operator and year; 0 past the last place of the book.
+// A figure of an operator and year; 0 for an operator, a year or a figure that there is not.
 pub fn figure_of(b: Book, operator: u8, year: u8, figure: u8) -> u64
-    ensures { λ r. ⌜ r ≡ figureOf b operator year figure ⌝ }
+    ensures { λ r. ⌜ r ≡ cond (ltb operator operators && ltb year years && ltb figure figureCount) (figureOf b operator year figure) 0 ⌝ }
 {
+    if 15 < operator {
+        return 0;
+    }
+    if 2 < year {
+        return 0;
+    }
+    if 7 < figure {
+        return 0;
+    }
     let figures = b.figures;
     let at = (operator as usize * 3 + year as usize) * 8 + figure as usize;
-    if at < 384 {
-        return figures[at];
-    }
-    0
+    figures[at]
 }

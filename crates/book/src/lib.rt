@@ -18,8 +18,8 @@ pub struct Book {
     // At (operator * 3 + year) * 8 + figure.
     pub figures: [u64; 384],
     // Rates in millionths.
-    pub pot: u32,
-    pub cap: u32,
+    pub pot_rate: u32,
+    pub cap_rate: u32,
     // In hundredths; the last is that of June 2013.
     pub indices: [u32; 4],
 }

@@ -3,7 +3,7 @@ ghost use mathlib.Core.Path.{_≡_};
 ghost use mathlib.Core.Bool.{cond, not, _&&_, _||_};
 ghost use lib.Dec.{leb};
 ghost use Rattle.calls.specs.Masks.{has};
-ghost use Rattle.book.specs.Book.{settingsInRange, figuresInRange, marksInRange, ratesInRange, indicesInRange, inRange};
+ghost use Rattle.book.specs.Book.{hasSixteenBits, settingsInRange, figuresInRange, marksInRange, ratesInRange, indicesInRange, inRange};
 use crate::Book;
 use calls::FIGURE_LIMIT;
 use calls::INDEX_MOST;
@@ -85,7 +85,7 @@ fn marks_in_range(b: Book) -> bool
 
 // Only a joined operator has a mark.
 fn mark_allowed(mask: u16, joined: u16, operator: u8) -> bool
-    ensures { λ r. ⌜ r ≡ not (has mask operator) || has joined operator ⌝ }
+    ensures { λ r. ⌜ r ≡ hasSixteenBits mask && (not (has mask operator) || has joined operator) ⌝ }
 {
     if has_bit(mask, operator) {
         return has_bit(joined, operator);
@@ -96,7 +96,7 @@ fn mark_allowed(mask: u16, joined: u16, operator: u8) -> bool
 fn rates_in_range(b: Book) -> bool
     ensures { λ r. ⌜ r ≡ ratesInRange b ⌝ }
 {
-    calls::rates_in_range(b.pot, b.cap)
+    calls::rates_in_range(b.pot_rate, b.cap_rate)
 }
 
 fn indices_in_range(b: Book) -> bool

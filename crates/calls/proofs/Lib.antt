@@ -1,8 +1,9 @@
 -- The laws that the proofs of `calls`, and of the crates above it, use.
 pub mod Flags
+pub mod Lowest
+pub mod SaidLaws
 pub mod Bit
 pub mod MaskLaws
 pub mod Times
-pub mod Judged
+pub mod JudgedLaws
 pub mod RangeLaws
-pub mod Acceptance

@@ -7,42 +7,42 @@ use lib.Dec.{ltb, leb}
 use borrow.Author.Tests.{ltb-true, leb-true}
 use Rattle.calls.specs.declared.Call.{Call}
 use Rattle.calls.specs.declared.Call.the-variants.{Join, Setting, Interruption, Amount, Mark, Rates, Index}
-use Rattle.calls.specs.Limits.{years, figures, settings, indicators, indexNumbers, settingLimit, rateLimit, indexLeast, indexMost}
+use Rattle.calls.specs.Limits.{years, figureCount, settingCount, indicatorCount, indexCount, settingLimit, rateLimit, indexLeast, indexMost}
 use Rattle.calls.specs.Call.{detailsInRange, yearOf, valuesInRange}
 use Rattle.calls.proofs.Times.{timed, year-lt}
-use Rattle.calls.proofs.Judged.{details}
+use Rattle.calls.proofs.JudgedLaws.{details}
 use Rattle.calls.proofs.Flags.{and-left, and-right}
 
 abbrev pub Ranges : Call → Type 0
 Ranges (Join operator) = Unit {0}
-Ranges (Setting operator which value) = (which < settings) × (value ≤ settingLimit which)
+Ranges (Setting operator which value) = (which < settingCount) × (value ≤ settingLimit which)
 Ranges (Interruption operator sign level cause start end weight) = (sign ≤ 1) × (level ≤ 1) × (yearOf end < years)
-Ranges (Amount operator year figure sign value) = (year < years) × (figure < figures) × (sign ≤ 1)
-Ranges (Mark operator indicator mark) = (indicator < indicators) × (mark ≤ 1)
+Ranges (Amount operator year figure sign value) = (year < years) × (figure < figureCount) × (sign ≤ 1)
+Ranges (Mark operator indicator mark) = (indicator < indicatorCount) × (mark ≤ 1)
 Ranges (Rates pot cap) = (pot ≤ rateLimit) × (cap ≤ rateLimit)
-Ranges (Index number value) = (number < indexNumbers) × (indexLeast ≤ value) × (value ≤ indexMost)
+Ranges (Index number value) = (number < indexCount) × (indexLeast ≤ value) × (value ≤ indexMost)
 
 pub ranges : (call : Call) → valuesInRange call ≡ true → Ranges call
 unfolding valuesInRange
 ranges (Join operator) e = tt
 ranges (Setting operator which value) e =
-    (ltb-true which _ (and-left (ltb which settings) _ e), leb-true value _ (and-right (ltb which settings) _ e))
+    (ltb-true which _ (and-left (ltb which settingCount) _ e), leb-true value _ (and-right (ltb which settingCount) _ e))
 ranges (Interruption operator sign level cause start end weight) e =
     let within = details sign level cause weight (and-left (detailsInRange sign level cause weight) _ e) in
     let times = timed start end (and-right (detailsInRange sign level cause weight) _ e) in
     (within .sign-most, within .level-most, year-lt times)
 ranges (Amount operator year figure sign value) e =
-    let places : ltb year years && ltb figure figures ≡ true = and-left _ (leb sign 1) e in (
-      ltb-true year _ (and-left _ (ltb figure figures) places),
+    let places : ltb year years && ltb figure figureCount ≡ true = and-left _ (leb sign 1) e in (
+      ltb-true year _ (and-left _ (ltb figure figureCount) places),
       ltb-true figure _ (and-right (ltb year years) _ places),
-      leb-true sign 1 (and-right (ltb year years && ltb figure figures) _ e),
+      leb-true sign 1 (and-right (ltb year years && ltb figure figureCount) _ e),
     )
 ranges (Mark operator indicator mark) e =
-    (ltb-true indicator _ (and-left (ltb indicator indicators) _ e), leb-true mark 1 (and-right (ltb indicator indicators) _ e))
+    (ltb-true indicator _ (and-left (ltb indicator indicatorCount) _ e), leb-true mark 1 (and-right (ltb indicator indicatorCount) _ e))
 ranges (Rates pot cap) e = (leb-true pot _ (and-left (leb pot rateLimit) _ e), leb-true cap _ (and-right (leb pot rateLimit) _ e))
 ranges (Index number value) e =
-    let least : ltb number indexNumbers && leb indexLeast value ≡ true = and-left _ (leb value indexMost) e in (
+    let least : ltb number indexCount && leb indexLeast value ≡ true = and-left _ (leb value indexMost) e in (
       ltb-true number _ (and-left _ (leb indexLeast value) least),
-      leb-true 1 value (and-right (ltb number indexNumbers) _ least),
-      leb-true value _ (and-right (ltb number indexNumbers && leb indexLeast value) _ e),
+      leb-true 1 value (and-right (ltb number indexCount) _ least),
+      leb-true value _ (and-right (ltb number indexCount && leb indexLeast value) _ e),
     )

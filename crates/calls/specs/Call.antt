@@ -1,4 +1,4 @@
--- The seven filing calls: their arguments' ranges, and what an accepted one enters (01, "The filing").
+-- The seven filing calls: the operator that each names, its arguments' ranges, and what an accepted one enters and answers (01, "The filing").
 -- Assumes nothing.
 use Prim.Native.Nat.{ℕ, _+_, _*_, _/_}
 use mathlib.Core.Bool.{Bool, true, false, cond, _&&_}
@@ -8,10 +8,23 @@ use lib.IntN.{ℤ, pos, negℤ, natAbs, _-ℤ_}
 use lib.Signed.{leZ}
 use Rattle.calls.specs.declared.Call.{Call}
 use Rattle.calls.specs.declared.Call.the-variants.{Join, Setting, Interruption, Amount, Mark, Rates, Index}
-use Rattle.calls.specs.declared.Reason.the-variants.{Short, Planned, Coupled, Exceptional}
-use Rattle.calls.specs.declared.Answer.{Answer}
-use Rattle.calls.specs.declared.Answer.the-variants.{Yes, Counted, LeftOut, Refused}
-use Rattle.calls.specs.Limits.{years, figures, settings, indicators, indexNumbers, settingLimit, rateLimit, indexLeast, indexMost, yearLength}
+use Rattle.calls.specs.Limits.{years, figureCount, settingCount, indicatorCount, indexCount, settingLimit, rateLimit, indexLeast, indexMost, yearLength}
+use Rattle.calls.specs.Answers.{Acceptance, yes-said, counted-in, left-out-as-short, left-out-under}
+
+-- the operator that a call names: a newcomer to be joined, a member that has to be joined (tags 2 to 5), or nobody
+pub data Named : Type 0 where
+  newcomer : ℕ → Named
+  member : ℕ → Named
+  nobody : Named
+
+unfoldable pub named : Call → Named
+named (Join operator) = newcomer operator
+named (Setting operator which value) = member operator
+named (Interruption operator sign level cause start end weight) = member operator
+named (Amount operator year figure sign value) = member operator
+named (Mark operator indicator mark) = member operator
+named (Rates pot cap) = nobody
+named (Index number value) = nobody
 
 -- "End is 0 to 94,607,999, start at least -31,536,000 and at most end"
 unfoldable pub timesInRange : ℤ → ℤ → Bool
@@ -25,6 +38,16 @@ weightInRange level weight = cond (eqb level 0) (leb 1 weight && leb weight 1000
 unfoldable pub detailsInRange : ℕ → ℕ → ℕ → ℕ → Bool
 detailsInRange sign level cause weight = leb sign 1 && leb level 1 && leb cause 4 && weightInRange level weight
 
+-- every value but the operator is in its range
+unfoldable pub valuesInRange : Call → Bool
+valuesInRange (Join operator) = true
+valuesInRange (Setting operator which value) = ltb which settingCount && leb value (settingLimit which)
+valuesInRange (Interruption operator sign level cause start end weight) = detailsInRange sign level cause weight && timesInRange start end
+valuesInRange (Amount operator year figure sign value) = ltb year years && ltb figure figureCount && leb sign 1
+valuesInRange (Mark operator indicator mark) = ltb indicator indicatorCount && leb mark 1
+valuesInRange (Rates pot cap) = leb pot rateLimit && leb cap rateLimit
+valuesInRange (Index number value) = ltb number indexCount && leb indexLeast value && leb value indexMost
+
 -- how long an interruption lasts
 unfoldable pub secondsOf : ℤ → ℤ → ℕ
 secondsOf start end = natAbs (end -ℤ start)
@@ -34,84 +57,48 @@ unfoldable pub yearOf : ℤ → ℕ
 yearOf end = natAbs end / yearLength
 
 -- "An interruption of 180 seconds or less is left out as short; else cause 1, 2 or 3 is left out under that cause; else it counts"
-unfoldable pub outcome : ℕ → ℕ → ℕ → Answer
+unfoldable pub outcome : ℕ → ℕ → ℕ → Acceptance
 outcome cause seconds year =
-    cond (leb seconds 180) (LeftOut Short)
-    (cond (eqb cause 1) (LeftOut Planned)
-    (cond (eqb cause 2) (LeftOut Coupled)
-    (cond (eqb cause 3) (LeftOut Exceptional)
-    (Counted year))))
+    cond (leb seconds 180) left-out-as-short
+    (cond (leb 1 cause && leb cause 3) (left-out-under cause)
+    (counted-in year))
 
--- whether an answer is "counted, with its year"
-unfoldable pub isCounted : Answer → Bool
-isCounted Yes = false
-isCounted (Counted year) = true
-isCounted (LeftOut reason) = false
-isCounted (Refused refusal) = false
+-- what a call that nothing refuses answers
+unfoldable pub acceptanceOf : Call → Acceptance
+acceptanceOf (Join operator) = yes-said
+acceptanceOf (Setting operator which value) = yes-said
+acceptanceOf (Interruption operator sign level cause start end weight) = outcome cause (secondsOf start end) (yearOf end)
+acceptanceOf (Amount operator year figure sign value) = yes-said
+acceptanceOf (Mark operator indicator mark) = yes-said
+acceptanceOf (Rates pot cap) = yes-said
+acceptanceOf (Index number value) = yes-said
 
--- what a call adds to, or takes from, a figure of its operator
+-- a value for a figure of an operator and year: added with sign 0, subtracted with sign 1
 pub record Entry : Type 0 where
+  pub operator : ℕ
   pub year : ℕ
   pub figure : ℕ
+  pub sign : ℕ
   pub value : ℕ
 
--- "Counted: weight, and weight times seconds"; figures 0 and 1 of MV, 2 and 3 of LV
-unfoldable pub countedEntries : ℕ → ℕ → ℕ → ℕ → List Entry
-countedEntries year level weight seconds =
-    record { year = year; figure = 2 * level; value = weight }
-    ∷ record { year = year; figure = 2 * level + 1; value = weight * seconds }
-    ∷ []
+abbrev pub entry : ℕ → ℕ → ℕ → ℕ → ℕ → Entry
+entry operator year figure sign value = record { operator = operator; year = year; figure = figure; sign = sign; value = value }
 
-unfoldable pub amountEntries : ℕ → ℕ → ℕ → List Entry
-amountEntries year figure value = record { year = year; figure = figure; value = value } ∷ []
+-- "Counted: weight, and weight times seconds, are added or subtracted. Left out: the book stays."; figures 0 and 1 of MV, 2 and 3 of LV
+unfoldable pub interruptionEntries : ℕ → ℕ → ℕ → ℕ → ℕ → Acceptance → List Entry
+interruptionEntries operator sign level weight seconds (counted-in year) =
+    entry operator year (2 * level) sign weight ∷ entry operator year (2 * level + 1) sign (weight * seconds) ∷ []
+interruptionEntries operator sign level weight seconds yes-said = []
+interruptionEntries operator sign level weight seconds left-out-as-short = []
+interruptionEntries operator sign level weight seconds (left-out-under cause) = []
 
--- what a call enters; "Left out: the book stays"
+-- what a call enters
 unfoldable pub entries : Call → List Entry
 entries (Join operator) = []
 entries (Setting operator which value) = []
 entries (Interruption operator sign level cause start end weight) =
-    cond (isCounted (outcome cause (secondsOf start end) (yearOf end))) (countedEntries (yearOf end) level weight (secondsOf start end)) []
-entries (Amount operator year figure sign value) = amountEntries year figure value
+    interruptionEntries operator sign level weight (secondsOf start end) (outcome cause (secondsOf start end) (yearOf end))
+entries (Amount operator year figure sign value) = entry operator year figure sign value ∷ []
 entries (Mark operator indicator mark) = []
 entries (Rates pot cap) = []
 entries (Index number value) = []
-
--- the operator that a call names; rates and indices are nobody's
-unfoldable pub operatorOf : Call → ℕ
-operatorOf (Join operator) = operator
-operatorOf (Setting operator which value) = operator
-operatorOf (Interruption operator sign level cause start end weight) = operator
-operatorOf (Amount operator year figure sign value) = operator
-operatorOf (Mark operator indicator mark) = operator
-operatorOf (Rates pot cap) = 0
-operatorOf (Index number value) = 0
-
--- 0 file, 1 withdraw
-unfoldable pub signOf : Call → ℕ
-signOf (Join operator) = 0
-signOf (Setting operator which value) = 0
-signOf (Interruption operator sign level cause start end weight) = sign
-signOf (Amount operator year figure sign value) = sign
-signOf (Mark operator indicator mark) = 0
-signOf (Rates pot cap) = 0
-signOf (Index number value) = 0
-
--- every value but the operator is in its range
-unfoldable pub valuesInRange : Call → Bool
-valuesInRange (Join operator) = true
-valuesInRange (Setting operator which value) = ltb which settings && leb value (settingLimit which)
-valuesInRange (Interruption operator sign level cause start end weight) = detailsInRange sign level cause weight && timesInRange start end
-valuesInRange (Amount operator year figure sign value) = ltb year years && ltb figure figures && leb sign 1
-valuesInRange (Mark operator indicator mark) = ltb indicator indicators && leb mark 1
-valuesInRange (Rates pot cap) = leb pot rateLimit && leb cap rateLimit
-valuesInRange (Index number value) = ltb number indexNumbers && leb indexLeast value && leb value indexMost
-
--- the answer of a call that nothing refuses
-unfoldable pub acceptance : Call → Answer
-acceptance (Join operator) = Yes
-acceptance (Setting operator which value) = Yes
-acceptance (Interruption operator sign level cause start end weight) = outcome cause (secondsOf start end) (yearOf end)
-acceptance (Amount operator year figure sign value) = Yes
-acceptance (Mark operator indicator mark) = Yes
-acceptance (Rates pot cap) = Yes
-acceptance (Index number value) = Yes

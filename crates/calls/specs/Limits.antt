@@ -9,18 +9,18 @@ operators = 16
 abbrev pub years : ℕ
 years = 3
 
-abbrev pub figures : ℕ
-figures = 8
+abbrev pub figureCount : ℕ
+figureCount = 8
 
 -- cabins, active access points, income
-abbrev pub settings : ℕ
-settings = 3
+abbrev pub settingCount : ℕ
+settingCount = 3
 
-abbrev pub indicators : ℕ
-indicators = 6
+abbrev pub indicatorCount : ℕ
+indicatorCount = 6
 
-abbrev pub indexNumbers : ℕ
-indexNumbers = 4
+abbrev pub indexCount : ℕ
+indexCount = 4
 
 -- cabins 0 to 100,000, active access points 0 to 4,000,000, income in cents 0 to 10^11
 abbrev pub settingLimit : ℕ → ℕ

@@ -1,8 +1,8 @@
 // An interruption: the ranges of its values, its year and length, and what is left out and why.
 ghost use mathlib.Core.Path.{_≡_};
-ghost use Rattle.calls.specs.Call.{weightInRange, detailsInRange, outcome, isCounted};
-ghost use Rattle.calls.specs.Steps.{periodOf};
-use crate::Answer;
+ghost use Rattle.calls.specs.Call.{weightInRange, detailsInRange};
+ghost use Rattle.calls.specs.Steps.{periodOf, JudgedAs};
+use crate::Judged;
 use crate::Period;
 use crate::Reason;
 
@@ -70,32 +70,21 @@ pub fn period_of(start: i64, end: i64) -> Period
     }
 }
 
-// The answer to an interruption that nothing refuses: short comes before the cause.
-pub fn judge(cause: u8, seconds: u64, year: u8) -> Answer
-    ensures { λ r. ⌜ r ≡ outcome cause seconds year ⌝ }
+// Whether an interruption counts: short comes before the cause.
+pub fn judge(cause: u8, seconds: u64) -> Judged
+    ensures { λ r. ⌜ JudgedAs cause seconds r ⌝ }
 {
     if seconds <= SHORT {
-        return Answer::LeftOut(Reason::Short);
+        return Judged::LeftOut(Reason::Short);
     }
     if cause == 1 {
-        return Answer::LeftOut(Reason::Planned);
+        return Judged::LeftOut(Reason::Planned);
     }
     if cause == 2 {
-        return Answer::LeftOut(Reason::Coupled);
+        return Judged::LeftOut(Reason::Coupled);
     }
     if cause == 3 {
-        return Answer::LeftOut(Reason::Exceptional);
+        return Judged::LeftOut(Reason::Exceptional);
     }
-    Answer::Counted { year }
-}
-
-pub fn is_counted(answer: Answer) -> bool
-    ensures { λ r. ⌜ r ≡ isCounted answer ⌝ }
-{
-    match answer {
-        Answer::Counted { year } => true,
-        Answer::Yes => false,
-        Answer::LeftOut(reason) => false,
-        Answer::Refused(refusal) => false,
-    }
+    Judged::Counts
 }

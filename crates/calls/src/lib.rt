@@ -17,7 +17,6 @@ pub use arguments::setting_limit;
 pub use figures::FIGURE_LIMIT;
 pub use figures::move_figure;
 pub use interruptions::details_in_range;
-pub use interruptions::is_counted;
 pub use interruptions::judge;
 pub use interruptions::period_of;
 pub use masks::has_bit;
@@ -95,6 +94,12 @@ pub enum Answer {
     Counted { year: u8 },
     LeftOut(Reason),
     Refused(Refusal),
+}
+
+// What an interruption comes to that nothing refuses.
+pub enum Judged {
+    Counts,
+    LeftOut(Reason),
 }
 
 // The year and the length of an interruption whose times are in range.

@@ -10,7 +10,7 @@ use lib.Dec.{eqb}
 use borrow.Author.Tests.{eqb-true, ne-eqb}
 use Rattle.calls.specs.declared.Call.{Call}
 use Rattle.calls.specs.declared.Call.the-variants.{Join, Setting, Interruption, Amount, Mark, Rates, Index}
-use Rattle.calls.specs.Limits.{years, figures}
+use Rattle.calls.specs.Limits.{years, figureCount}
 use Rattle.calls.specs.Call.{Entry, yearOf, secondsOf, outcome, isCounted, countedEntries, amountEntries, entries}
 use Rattle.ledger.specs.Table.{some}
 use Rattle.history.specs.History.{summed, summedAll}
@@ -24,7 +24,7 @@ All P (entry ∷ rest) = P entry × All P rest
 
 -- an entry within the book
 abbrev pub Within : Entry → Type 0
-Within entry = (entry .year < years) × (entry .figure < figures)
+Within entry = (entry .year < years) × (entry .figure < figureCount)
 
 -- no figure has two entries
 abbrev pub Distinct : List Entry → Type 0

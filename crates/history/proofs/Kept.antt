@@ -14,7 +14,7 @@ use Rattle.calls.specs.declared.Call.{Call}
 use Rattle.calls.specs.declared.Refusal.{Refusal}
 use Rattle.calls.specs.declared.Answer.{Answer}
 use Rattle.calls.specs.declared.Answer.the-variants.{Yes, Counted, LeftOut, Refused}
-use Rattle.calls.specs.Limits.{operators, years, figures, settings}
+use Rattle.calls.specs.Limits.{operators, years, figureCount, settingCount}
 use Rattle.calls.specs.Masks.{has}
 use Rattle.book.specs.Every.{every}
 use Rattle.book.specs.Book.{freshBook, isJoined, isMarked, settingOf, figureOf, indexOf, settingSlot, figureSlot, most, settingsInRange, figuresInRange, marksInRange, indicesInRange, ratesInRange, inRange}
@@ -24,7 +24,7 @@ use Rattle.history.specs.History.{History, plain, total, recorded, after
 use Rattle.history.specs.Demand.{bookOf, historyOf, Holds, Kept, EqualAsHistories}
 use Rattle.calls.proofs.Acceptance.{Accepts, accepts}
 use Rattle.calls.proofs.MaskLaws.{has-zero, same-bits}
-use Rattle.history.proofs.SlotLaws.{setting-slot-lt, figure-slot-lt, setting-place, figure-place}
+use Rattle.book.proofs.SlotLaws.{setting-slot-lt, figure-slot-lt, setting-place, figure-place}
 use Rattle.history.proofs.TableLaws.{Passed, Decided, decided, same-answer}
 use Rattle.history.proofs.RangeKept.{filed-stays, all-stay}
 use Rattle.history.proofs.HistoryLaws.{AllCovered, plain-covered, recorded-covered}
@@ -161,7 +161,7 @@ module _ (b c : Book) (h g : History) (in-b : Agrees b h) (in-c : Agrees c g) (s
       (λ i li. same-bits 16 _ _ (in-b .shape .marks-small i li) (in-c .shape .marks-small i li)
       (λ o lt. in-b .held .mark o i lt li ∙ same .mark o i lt li ∙ sym (in-c .held .mark o i lt li)))
 
-  same-setting : (o w : ℕ) → o < operators → w < settings → settingOf b o w ≡ settingOf c o w
+  same-setting : (o w : ℕ) → o < operators → w < settingCount → settingOf b o w ≡ settingOf c o w
   same-setting o w lo lw = in-b .held .setting o w lo lw ∙ same .setting o w lo lw ∙ sym (in-c .held .setting o w lo lw)
 
   same-settings : b .settings ≡ c .settings
@@ -171,7 +171,7 @@ module _ (b c : Book) (h g : History) (in-b : Agrees b h) (in-c : Agrees c g) (s
       (λ i lt. subst (λ (n : ℕ). getD (b .settings) n 0 ≡ getD (c .settings) n 0) (setting-place i)
       (same-setting (i / 3) (i % 3) (omega arith) (omega arith)))
 
-  same-figure : (o y f : ℕ) → o < operators → y < years → f < figures → figureOf b o y f ≡ figureOf c o y f
+  same-figure : (o y f : ℕ) → o < operators → y < years → f < figureCount → figureOf b o y f ≡ figureOf c o y f
   same-figure o y f lo ly lf = in-b .held .totals o y f lo ly lf ∙ same .totals o y f lo ly lf ∙ sym (in-c .held .totals o y f lo ly lf)
 
   same-figures : b .figures ≡ c .figures

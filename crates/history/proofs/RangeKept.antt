@@ -16,7 +16,7 @@ use Rattle.calls.specs.declared.Call.the-variants.{Join, Setting, Interruption,
 use Rattle.calls.specs.declared.Refusal.{Refusal}
 use Rattle.calls.specs.declared.Answer.{Answer}
 use Rattle.calls.specs.declared.Answer.the-variants.{Yes, Counted, LeftOut, Refused}
-use Rattle.calls.specs.Limits.{operators, settings, indicators, settingLimit, figureLimit, rateLimit, indexLeast, indexMost}
+use Rattle.calls.specs.Limits.{operators, settingCount, indicatorCount, settingLimit, figureLimit, rateLimit, indexLeast, indexMost}
 use Rattle.calls.specs.Masks.{has, including, excluding, remasked}
 use Rattle.calls.specs.Call.{Entry, entries, operatorOf, signOf}
 use Rattle.book.specs.Book.{isJoined, isMarked, settingOf, figureOf, indexOf, settingSlot, figureSlot, most, inRange}
@@ -25,7 +25,7 @@ use Rattle.ledger.specs.Calls.{withJoined, withMarks, withSettings, withFigures
 use Rattle.history.specs.Demand.{StaysInRange}
 use Rattle.calls.proofs.MaskLaws.{including-has, including-other, excluding-other}
 use Rattle.book.proofs.Bounds.{Bounds, bounded, in-range}
-use Rattle.history.proofs.SlotLaws.{store-holds}
+use Rattle.book.proofs.SlotLaws.{store-holds}
 use Rattle.history.proofs.EntryLaws.{All, Within, Distinct, entries-within, entries-distinct}
 use Rattle.history.proofs.TableLaws.{Passed, Decided, Fits, all-fit, decided}
 
@@ -74,7 +74,7 @@ module _ (b : Book) (bounds : Bounds b) where
       still-joined : (o : ℕ) → isJoined b o ≡ true → isJoined (withJoined b (including (b .joined) operator)) o ≡ true
       still-joined o joined = including-keeps (b .joined) operator o joined
 
-  setting-bounds : (operator which value : ℕ) → isJoined b operator ≡ true → which < settings → value ≤ settingLimit which
+  setting-bounds : (operator which value : ℕ) → isJoined b operator ≡ true → which < settingCount → value ≤ settingLimit which
       → Bounds (changed b (Setting operator which value))
   unfolding changed withSettings settingOf figureOf isMarked indexOf isJoined most settingSlot
   setting-bounds operator which value joined lw le =
@@ -93,7 +93,7 @@ module _ (b : Book) (bounds : Bounds b) where
         index = bounds .index;
       }
 
-  mark-bounds : (operator indicator mark : ℕ) → isJoined b operator ≡ true → indicator < indicators → Bounds (changed b (Mark operator indicator mark))
+  mark-bounds : (operator indicator mark : ℕ) → isJoined b operator ≡ true → indicator < indicatorCount → Bounds (changed b (Mark operator indicator mark))
   unfolding changed withMarks settingOf figureOf isMarked indexOf isJoined most
   mark-bounds operator indicator mark joined li =
       record {

@@ -10,23 +10,23 @@ use lib.ListN.{length, getD, set, length-set, length-replicate, getD-replicate}
 use Rattle.book.specs.declared.Book.{Book}
 use Rattle.calls.specs.declared.Call.{Call}
 use Rattle.calls.specs.declared.Call.the-variants.{Join, Setting, Interruption, Amount, Mark, Rates, Index}
-use Rattle.calls.specs.Limits.{operators, indicators, indexNumbers}
+use Rattle.calls.specs.Limits.{operators, indicatorCount, indexCount}
 use Rattle.calls.specs.Masks.{including, excluding}
 use Rattle.book.specs.Book.{freshBook}
 use Rattle.calls.specs.Call.{Entry, operatorOf}
 use Rattle.ledger.specs.Calls.{withJoined, withMarks, withSettings, withFigures, withRates, withIndices, entered, enterAll, changed}
 use Rattle.calls.specs.Masks.{remasked}
 use Rattle.calls.proofs.MaskLaws.{including-lt, excluding-le}
-use Rattle.history.proofs.SlotLaws.{stored}
+use Rattle.book.proofs.SlotLaws.{stored}
 use Rattle.calls.proofs.RangeLaws.{Ranges}
 
 pub record Shaped (b : Book) : Type 0 where
   pub marks-long : length (b .marks) ≡ indicators
   pub settings-long : length (b .settings) ≡ 48
   pub figures-long : length (b .figures) ≡ 384
-  pub indices-long : length (b .indices) ≡ indexNumbers
+  pub indices-long : length (b .indices) ≡ indexCount
   pub joined-small : b .joined < 2 ^ 16
-  pub marks-small : (indicator : ℕ) → indicator < indicators → getD (b .marks) indicator 0 < 2 ^ 16
+  pub marks-small : (indicator : ℕ) → indicator < indicatorCount → getD (b .marks) indicator 0 < 2 ^ 16
 
 pub fresh-shaped : Shaped freshBook
 unfolding freshBook
@@ -48,7 +48,7 @@ module _ (b : Book) (shape : Shaped b) where
       → length (c .figures) ≡ length (b .figures)
       → length (c .indices) ≡ length (b .indices)
       → c .joined < 2 ^ 16
-      → ((indicator : ℕ) → indicator < indicators → getD (c .marks) indicator 0 < 2 ^ 16)
+      → ((indicator : ℕ) → indicator < indicatorCount → getD (c .marks) indicator 0 < 2 ^ 16)
       → Shaped c
   reshaped c marks settings figures indices joined masks =
       record {
@@ -64,7 +64,7 @@ module _ (b : Book) (shape : Shaped b) where
   unfolding withJoined
   joined-shaped operator lt = reshaped _ refl refl refl refl (including-lt (b .joined) operator 16 (shape .joined-small) lt) (shape .marks-small)
 
-  marks-shaped : (operator indicator mark : ℕ) → operator < operators → indicator < indicators
+  marks-shaped : (operator indicator mark : ℕ) → operator < operators → indicator < indicatorCount
       → Shaped (withMarks b (set (b .marks) indicator (remasked (getD (b .marks) indicator 0) operator mark)))
   unfolding withMarks remasked
   marks-shaped operator indicator mark lo li =
@@ -77,7 +77,7 @@ module _ (b : Book) (shape : Shaped b) where
       new : Bool → ℕ
       new t = cond t (including old operator) (excluding old operator)
 
-      replaced : (i : ℕ) → i < indicators → (s t : Bool) → cond s (new t) (getD (b .marks) i 0) < 2 ^ 16
+      replaced : (i : ℕ) → i < indicatorCount → (s t : Bool) → cond s (new t) (getD (b .marks) i 0) < 2 ^ 16
       replaced i lt true true = including-lt old operator 16 (shape .marks-small indicator li) lo
       replaced i lt true false = omega (arith, excluding-le old operator, shape .marks-small indicator li)
       replaced i lt false t = shape .marks-small i lt

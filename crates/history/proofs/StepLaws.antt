@@ -12,7 +12,7 @@ use borrow.Author.Tests.{eqb-true}
 use Rattle.book.specs.declared.Book.{Book}
 use Rattle.calls.specs.declared.Call.{Call}
 use Rattle.calls.specs.declared.Call.the-variants.{Join, Setting, Interruption, Amount, Mark, Rates, Index}
-use Rattle.calls.specs.Limits.{operators, years, figures, settings, indicators, indexNumbers}
+use Rattle.calls.specs.Limits.{operators, years, figureCount, settingCount, indicatorCount, indexCount}
 use Rattle.calls.specs.Masks.{has, including, excluding}
 use Rattle.book.specs.Book.{isJoined, isMarked, settingOf, figureOf, indexOf, settingSlot, figureSlot}
 use Rattle.calls.specs.Call.{Entry, operatorOf}
@@ -22,7 +22,7 @@ use Rattle.history.specs.History.{History, total, at1, at2, summedAll, e
 use Rattle.history.specs.Demand.{Holds}
 use Rattle.calls.proofs.Flags.{and-true-right, and-false-right}
 use Rattle.calls.proofs.MaskLaws.{including-has, excluding-has}
-use Rattle.history.proofs.SlotLaws.{stored, setting-slot-lt, figure-slot-lt, same-setting-slot, same-figure-slot}
+use Rattle.book.proofs.SlotLaws.{stored, setting-slot-lt, figure-slot-lt, same-setting-slot, same-figure-slot}
 use Rattle.calls.proofs.RangeLaws.{Ranges}
 use Rattle.history.proofs.EntryLaws.{All, Within, here, at-place, summed-here, summed-elsewhere, entries-within}
 use Rattle.history.proofs.HistoryLaws.{AllCovered, summed-grows}
@@ -42,7 +42,7 @@ module _ (b : Book) (h : History) (shape : Shaped b) (held : Holds b h) where
         totals = held .totals;
       }
 
-  setting-holds : (operator which value : ℕ) → operator < operators → which < settings
+  setting-holds : (operator which value : ℕ) → operator < operators → which < settingCount
       → Holds (changed b (Setting operator which value)) (recorded h (Setting operator which value))
   unfolding changed recorded withSettings isJoined isMarked settingOf figureOf indexOf total at2
   setting-holds operator which value lo lw =
@@ -60,7 +60,7 @@ module _ (b : Book) (h : History) (shape : Shaped b) (held : Holds b h) where
       }
 
   -- the mask of an indicator, with an operator in or out
-  remasked-has : (operator indicator mark : ℕ) → indicator < indicators → (o i : ℕ)
+  remasked-has : (operator indicator mark : ℕ) → indicator < indicatorCount → (o i : ℕ)
       → has (getD (set (b .marks) indicator (remasked (getD (b .marks) indicator 0) operator mark)) i 0) o ≡ at2 operator indicator (eqb mark 1) (isMarked b) o i
   unfolding remasked isMarked at2
   remasked-has operator indicator mark li o i =
@@ -79,7 +79,7 @@ module _ (b : Book) (h : History) (shape : Shaped b) (held : Holds b h) where
       go true false e = rw (and-true-right, ← same e) (excluding-has old operator o)
       go false t e = rw and-false-right refl
 
-  mark-holds : (operator indicator mark : ℕ) → indicator < indicators
+  mark-holds : (operator indicator mark : ℕ) → indicator < indicatorCount
       → Holds (changed b (Mark operator indicator mark)) (recorded h (Mark operator indicator mark))
   unfolding changed recorded withMarks isJoined isMarked settingOf figureOf indexOf total at2
   mark-holds operator indicator mark li =
@@ -108,7 +108,7 @@ module _ (b : Book) (h : History) (shape : Shaped b) (held : Holds b h) where
         totals = held .totals;
       }
 
-  index-holds : (number value : ℕ) → number < indexNumbers → Holds (changed b (Index number value)) (recorded h (Index number value))
+  index-holds : (number value : ℕ) → number < indexCount → Holds (changed b (Index number value)) (recorded h (Index number value))
   unfolding changed recorded withIndices isJoined isMarked settingOf figureOf indexOf total at1
   index-holds number value ln =
       record {
@@ -143,7 +143,7 @@ Backed t h = t ≡ true → AllCovered h
 
 module _ (operator sign : ℕ) (lo : operator < operators) where
   -- a figure after an entry
-  entered-figure : (b : Book) (entry : Entry) → Shaped b → Within entry → (o y f : ℕ) → y < years → f < figures
+  entered-figure : (b : Book) (entry : Entry) → Shaped b → Within entry → (o y f : ℕ) → y < years → f < figureCount
       → figureOf (entered operator sign b entry) o y f
       ≡ cond (here operator entry o y f)
       (cond (eqb sign 0)
@@ -164,7 +164,7 @@ module _ (operator sign : ℕ) (lo : operator < operators) where
         let (operator-is, year-is, figure-is) = at-place operator entry o y f e in
         rw (operator-is, year-is, figure-is) (held .totals operator (entry .year) (entry .figure) lo (within .0) (within .1))
 
-    entry-total : (t : Bool) → Backed t h → (o y f : ℕ) → o < operators → y < years → f < figures → (u : Bool) → here operator entry o y f ≡ u
+    entry-total : (t : Bool) → Backed t h → (o y f : ℕ) → o < operators → y < years → f < figureCount → (u : Bool) → here operator entry o y f ≡ u
         → cond u
         (cond t
         (figureOf b operator (entry .year) (entry .figure) + entry .value)

@@ -13,7 +13,7 @@ use Rattle.calls.specs.declared.Refusal.{Refusal}
 use Rattle.calls.specs.declared.Refusal.the-variants.{UnknownOperator, OutOfRange, AlreadyJoined, NotJoined, AboveLimit, BelowZero}
 use Rattle.calls.specs.declared.Answer.{Answer}
 use Rattle.calls.specs.declared.Answer.the-variants.{Refused}
-use Rattle.calls.specs.Limits.{operators, years, figures, figureLimit}
+use Rattle.calls.specs.Limits.{operators, years, figureCount, figureLimit}
 use Rattle.calls.specs.Call.{Entry, entries, operatorOf, signOf, valuesInRange, acceptance}
 use Rattle.ledger.specs.Table.{joinsAgain, lacksOperator, firstOf, linesFor, passesLimit, fallsBelow, answerTo}
 use Rattle.calls.proofs.Flags.{and-other}
@@ -89,7 +89,7 @@ module _ (total : ℕ → ℕ → ℕ → ℕ) (operator : ℕ) where
 -- two tables that agree within the book
 module _ (joined known : ℕ → Bool) (total sum : ℕ → ℕ → ℕ → ℕ)
     (same-joined : (operator : ℕ) → operator < operators → joined operator ≡ known operator)
-    (same-total : (operator year figure : ℕ) → operator < operators → year < years → figure < figures
+    (same-total : (operator year figure : ℕ) → operator < operators → year < years → figure < figureCount
     → total operator year figure ≡ sum operator year figure) where
   same-joins : (call : Call) → operatorOf call < operators → joinsAgain joined call ≡ joinsAgain known call
   unfolding operatorOf joinsAgain

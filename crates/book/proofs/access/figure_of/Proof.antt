@@ -1,12 +1,21 @@
 -- `book::access::figure_of` meets its contract.
 -- Assumes nothing.
-use mathlib.Core.Path.{_≡_, refl, sym}
+use mathlib.Core.Path.{refl}
 use native.Mathlib.Omega.{arith}
-use lib.ListN.{length, List·getD-eq-default}
-use Rattle.book.specs.Book.{figureOf, figureSlot}
+use borrow.Author.Tests.{lt-ltb, le-ltb}
+use Rattle.book.specs.Book.{figureSlot, figureOf}
 use borrow.Author.Needs.{needs}
 use Rattle.book.proofs.access.figure_of.Statement.{statement}
 use Rattle.book.proofs.access.figure_of.Tie as tie
+
+returns : tie.Need-returns
+returns c = simp (le-ltb (c .before .args .operator) 16 (c .if1 .taken))
+
+returns-2 : tie.Need-returns-2
+returns-2 c = simp (lt-ltb (c .before .before .args .operator) 16 (omega arith), le-ltb (c .before .before .args .year) 3 (c .if2 .taken))
+
+returns-3 : tie.Need-returns-3
+returns-3 c = simp (lt-ltb (c .before .before .before .args .operator) 16 (omega arith), lt-ltb (c .before .before .before .args .year) 3 (omega arith), le-ltb (c .before .before .before .args .figure) 8 (c .if3 .taken))
 
 mul-at : tie.Need-mul-at
 mul-at c = search needs
@@ -26,18 +35,21 @@ mul-result c = search needs
 array-read-result : tie.Need-array-read-result
 array-read-result c = search needs
 
-returns : tie.Need-returns
+returns-4 : tie.Need-returns-4
 unfolding figureOf figureSlot
-returns c = refl
-
-returns-2 : tie.Need-returns-2
-unfolding figureOf figureSlot
-returns-2 c =
-    let list = c .before .before .args .b .figures in
-    let long : length list ≡ 384 = search needs in
-    sym (List·getD-eq-default list 0 (omega arith))
+returns-4 c = simp (lt-ltb (c .before .before .before .before .args .operator) 16 (omega arith), lt-ltb (c .before .before .before .before .args .year) 3 (omega arith), lt-ltb (c .before .before .before .before .args .figure) 8 (omega arith))
 
 pub figure-of-spec : {M : Type 1} → statement M
 figure-of-spec =
     tie.close
-    (tie.spec mul-at add-at mul-at-2 add-at-2 mul-result array-read-result returns returns-2)
+    (tie.spec
+    returns
+    returns-2
+    returns-3
+    mul-at
+    add-at
+    mul-at-2
+    add-at-2
+    mul-result
+    array-read-result
+    returns-4)

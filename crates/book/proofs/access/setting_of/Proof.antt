@@ -1,12 +1,18 @@
 -- `book::access::setting_of` meets its contract.
 -- Assumes nothing.
-use mathlib.Core.Path.{_≡_, refl, sym}
+use mathlib.Core.Path.{refl}
 use native.Mathlib.Omega.{arith}
-use lib.ListN.{length, List·getD-eq-default}
-use Rattle.book.specs.Book.{settingOf, settingSlot}
+use borrow.Author.Tests.{lt-ltb, le-ltb}
+use Rattle.book.specs.Book.{settingSlot, settingOf}
 use borrow.Author.Needs.{needs}
 use Rattle.book.proofs.access.setting_of.Statement.{statement}
 use Rattle.book.proofs.access.setting_of.Tie as tie
+
+returns : tie.Need-returns
+returns c = simp (le-ltb (c .before .args .operator) 16 (c .if1 .taken))
+
+returns-2 : tie.Need-returns-2
+returns-2 c = simp (lt-ltb (c .before .before .args .operator) 16 (omega arith), le-ltb (c .before .before .args .which) 3 (c .if2 .taken))
 
 mul-at : tie.Need-mul-at
 mul-at c = search needs
@@ -20,16 +26,10 @@ mul-result c = search needs
 array-read-result : tie.Need-array-read-result
 array-read-result c = search needs
 
-returns : tie.Need-returns
+returns-3 : tie.Need-returns-3
 unfolding settingOf settingSlot
-returns c = refl
-
-returns-2 : tie.Need-returns-2
-unfolding settingOf settingSlot
-returns-2 c =
-    let list = c .before .before .args .b .settings in
-    let long : length list ≡ 48 = search needs in
-    sym (List·getD-eq-default list 0 (omega arith))
+returns-3 c = simp (lt-ltb (c .before .before .before .args .operator) 16 (omega arith), lt-ltb (c .before .before .before .args .which) 3 (omega arith))
 
 pub setting-of-spec : {M : Type 1} → statement M
-setting-of-spec = tie.close (tie.spec mul-at add-at mul-result array-read-result returns returns-2)
+setting-of-spec =
+    tie.close (tie.spec returns returns-2 mul-at add-at mul-result array-read-result returns-3)

@@ -1,7 +1,8 @@
 -- `book::range::in_range` meets its contract.
 -- Assumes nothing.
 use mathlib.Core.Path.{refl}
-use Rattle.calls.proofs.Flags.{denied, granted}
+use Rattle.calls.proofs.Flags.{denied, granted, and-true-right}
+use Rattle.book.proofs.Bounds.{complete, sixteen-bits}
 use Rattle.book.specs.Book.{inRange}
 use borrow.Author.Needs.{needs}
 use Rattle.book.proofs.range.in_range.Statement.{statement}
@@ -67,6 +68,10 @@ returns-5 c =
       granted (c .before .before .before .before .before .before .figures-in-range .ensures) (c .before .before .before .before .before .if2 .left),
       granted (c .before .before .before .before .marks-in-range .ensures) (c .before .before .before .if3 .left),
       granted (c .before .before .rates-in-range .ensures) (c .before .if4 .left),
+      complete (c .before .before .before .before .before .before .before .before .before .args .b) (search needs) (search needs) (search needs) (search needs),
+      sixteen-bits {mask = c .before .before .before .before .before .before .before .before .before .args .b .joined} (search needs),
+      and-true-right,
+      and-true-right,
     )
     (c .indices-in-range .ensures)
 

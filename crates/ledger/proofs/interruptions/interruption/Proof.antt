@@ -12,7 +12,7 @@ use Rattle.calls.proofs.Flags.{denied, granted, negated}
 use Rattle.ledger.proofs.Admission.{unknown-operator, out-of-range, not-joined, admitted}
 use Rattle.calls.proofs.Times.{back, timed, year-lt, seconds-lt, period-says}
 use Rattle.ledger.proofs.Moves.{nothing-entered}
-use Rattle.calls.proofs.Judged.{bad-details, bad-times, good-values, entries-left-out, entries-counted, outcome-counted, details}
+use Rattle.calls.proofs.JudgedLaws.{bad-details, bad-times, good-values, entries-left-out, entries-counted, outcome-counted, details}
 use borrow.Author.Needs.{needs}
 use Rattle.ledger.proofs.interruptions.interruption.Statement.{statement}
 use Rattle.ledger.proofs.interruptions.interruption.Tie as tie

@@ -1,20 +1,22 @@
 -- An interruption's range, and what a left-out and a counted one enter and answer.
 -- Assumes nothing.
 use mathlib.Core.Path.{_≡_, refl}
-use mathlib.Core.Bool.{Bool, true, false, cond, _&&_, false≢true}
+use mathlib.Core.Bool.{Bool, true, false, cond, _&&_}
 use mathlib.Core.List.{[]}
-use Prim.Native.Nat.{ℕ, _≤_}
+use Prim.Native.Nat.{ℕ, zero, suc, _≤_}
 use native.Mathlib.Omega.{arith}
 use lib.Dec.{leb, eqb}
 use lib.IntN.{ℤ}
-use borrow.Author.Tests.{eqb-true, leb-true}
+use borrow.Author.Tests.{eqb-true, leb-true, lt-leb}
 use Rattle.calls.specs.declared.Call.{Call}
 use Rattle.calls.specs.declared.Call.the-variants.{Interruption}
+use Rattle.calls.specs.declared.Reason.{Reason}
 use Rattle.calls.specs.declared.Reason.the-variants.{Short, Planned, Coupled, Exceptional}
-use Rattle.calls.specs.declared.Answer.{Answer}
-use Rattle.calls.specs.declared.Answer.the-variants.{Counted, LeftOut}
-use Rattle.calls.specs.Call.{timesInRange, weightInRange, detailsInRange, secondsOf, yearOf, outcome, isCounted, countedEntries, entries, valuesInRange}
-use Rattle.calls.proofs.Flags.{both}
+use Rattle.calls.specs.declared.Judged.{Judged}
+use Rattle.calls.specs.Answers.{leftOutAs}
+use Rattle.calls.specs.Call.{timesInRange, weightInRange, detailsInRange, secondsOf, yearOf, interruptionEntries, entries, valuesInRange}
+use Rattle.calls.specs.Steps.{judgedSays, JudgedAs}
+use Rattle.calls.proofs.Flags.{both, and-false-right}
 
 module _ (operator sign level cause weight : ℕ) (start end : ℤ) where
   abbrev pub interruptionCall : Call
@@ -32,28 +34,24 @@ module _ (operator sign level cause weight : ℕ) (start end : ℤ) where
   unfolding valuesInRange
   good-values e t = rw (e, t) refl
 
-  pub entries-left-out : isCounted (outcome cause (secondsOf start end) (yearOf end)) ≡ false → entries interruptionCall ≡ []
+  -- what is judged decides what is entered: nothing where the interruption is left out
+  pub entries-judged : (judged : Judged) → JudgedAs cause (secondsOf start end) judged
+      → entries interruptionCall ≡ interruptionEntries operator sign level weight (secondsOf start end) (judgedSays (yearOf end) judged)
   unfolding entries
-  entries-left-out e = rw e refl
+  entries-judged judged agrees = rw (← agrees (yearOf end)) refl
 
-  pub entries-counted : isCounted (outcome cause (secondsOf start end) (yearOf end)) ≡ true → entries interruptionCall ≡ countedEntries (yearOf end) level weight (secondsOf start end)
-  unfolding entries
-  entries-counted e = rw e refl
+pub left-out-none : (operator sign level weight seconds : ℕ) (reason : Reason)
+    → interruptionEntries operator sign level weight seconds (leftOutAs reason) ≡ []
+unfolding interruptionEntries
+left-out-none operator sign level weight seconds Short = refl
+left-out-none operator sign level weight seconds Planned = refl
+left-out-none operator sign level weight seconds Coupled = refl
+left-out-none operator sign level weight seconds Exceptional = refl
 
--- a counted interruption is answered with its year
-pub outcome-counted : (cause seconds year : ℕ) → isCounted (outcome cause seconds year) ≡ true → outcome cause seconds year ≡ Counted year
-unfolding outcome isCounted
-outcome-counted cause seconds year = go (leb seconds 180) (eqb cause 1) (eqb cause 2) (eqb cause 3)
-  where
-    judged : Bool → Bool → Bool → Bool → Answer
-    judged s t u v = cond s (LeftOut Short) (cond t (LeftOut Planned) (cond u (LeftOut Coupled) (cond v (LeftOut Exceptional) (Counted year))))
-
-    go : (s t u v : Bool) → isCounted (judged s t u v) ≡ true → judged s t u v ≡ Counted year
-    go true t u v e = absurd (false≢true e)
-    go false true u v e = absurd (false≢true e)
-    go false false true v e = absurd (false≢true e)
-    go false false false true e = absurd (false≢true e)
-    go false false false false e = refl
+-- any cause but 1, 2 and 3
+pub other-cause : (cause : ℕ) → (cause ≡ 1 → ⊥) → (cause ≡ 2 → ⊥) → (cause ≡ 3 → ⊥) → leb 1 cause && leb cause 3 ≡ false
+other-cause zero not-one not-two not-three = refl
+other-cause (suc n) not-one not-two not-three = rw (lt-leb (suc n) 3 (omega arith)) (and-false-right (leb 1 (suc n)))
 
 -- what the range of the details says in numbers
 pub record Details (sign level cause weight : ℕ) : Type 0 where

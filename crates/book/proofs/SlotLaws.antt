@@ -9,8 +9,8 @@ use lib.Dec.{eqb}
 use lib.ListN.{length, getD, set}
 use lib.Seq.{getD-set-same, getD-set-other}
 use borrow.Author.Tests.{eqb-true, eqb-false, eq-eqb, ne-eqb}
-use Rattle.calls.specs.Limits.{operators, years, figures, settings}
+use Rattle.calls.specs.Limits.{operators, years, figureCount, settingCount}
 use Rattle.book.specs.Book.{settingSlot, figureSlot}
 
 -- what stands at a place after a store
 pub stored : (l : List ℕ) (i v j : ℕ) → i < length l → getD (set l i v) j 0 ≡ cond (eqb j i) v (getD l j 0)
@@ -28,16 +28,16 @@ store-holds P (x ∷ l) zero v (suc j) new old = old
 store-holds P (x ∷ l) (suc i) v zero new old = old
 store-holds P (x ∷ l) (suc i) v (suc j) new old = store-holds P l i v j (λ e. new (ap suc e)) old
 
-pub setting-slot-lt : (operator which : ℕ) → operator < operators → which < settings → settingSlot operator which < 48
+pub setting-slot-lt : (operator which : ℕ) → operator < operators → which < settingCount → settingSlot operator which < 48
 unfolding settingSlot
 setting-slot-lt operator which lo lw = omega arith
 
-pub figure-slot-lt : (operator year figure : ℕ) → operator < operators → year < years → figure < figures → figureSlot operator year figure < 384
+pub figure-slot-lt : (operator year figure : ℕ) → operator < operators → year < years → figure < figureCount → figureSlot operator year figure < 384
 unfolding figureSlot
 figure-slot-lt operator year figure lo ly lf = omega arith
 
 -- two slots are the same where operator, year and figure are
-pub same-setting-slot : (o w p x : ℕ) → w < settings → x < settings → eqb (settingSlot o w) (settingSlot p x) ≡ eqb o p && eqb w x
+pub same-setting-slot : (o w p x : ℕ) → w < settingCount → x < settingCount → eqb (settingSlot o w) (settingSlot p x) ≡ eqb o p && eqb w x
 unfolding settingSlot
 same-setting-slot o w p x lw lx = go (eqb o p) (eqb w x) refl refl
   where
@@ -49,7 +49,7 @@ same-setting-slot o w p x lw lx = go (eqb o p) (eqb w x) refl refl
     go true false d e = differ (λ q. eqb-false w x e (omega (arith, q)))
     go false t d e = differ (λ q. eqb-false o p d (omega (arith, q)))
 
-pub same-figure-slot : (o y f p z g : ℕ) → y < years → f < figures → z < years → g < figures
+pub same-figure-slot : (o y f p z g : ℕ) → y < years → f < figureCount → z < years → g < figureCount
     → eqb (figureSlot o y f) (figureSlot p z g) ≡ eqb o p && eqb y z && eqb f g
 unfolding figureSlot
 same-figure-slot o y f p z g ly lf lz lg = go (eqb o p) (eqb y z) (eqb f g) refl refl refl
