@@ -22,18 +22,6 @@ module _ (operator sign level cause weight : ℕ) (start end : ℤ) where
   abbrev pub interruptionCall : Call
   interruptionCall = Interruption operator sign level cause start end weight
 
-  pub bad-details : detailsInRange sign level cause weight ≡ false → valuesInRange interruptionCall ≡ false
-  unfolding valuesInRange
-  bad-details e = rw e refl
-
-  pub bad-times : detailsInRange sign level cause weight ≡ true → timesInRange start end ≡ false → valuesInRange interruptionCall ≡ false
-  unfolding valuesInRange
-  bad-times e t = rw (e, t) refl
-
-  pub good-values : detailsInRange sign level cause weight ≡ true → timesInRange start end ≡ true → valuesInRange interruptionCall ≡ true
-  unfolding valuesInRange
-  good-values e t = rw (e, t) refl
-
   -- what is judged decides what is entered: nothing where the interruption is left out
   pub entries-judged : (judged : Judged) → JudgedAs cause (secondsOf start end) judged
       → entries interruptionCall ≡ interruptionEntries operator sign level weight (secondsOf start end) (judgedSays (yearOf end) judged)

@@ -1,7 +1,7 @@
 -- The times of an interruption: tests on signed numbers, and the whole numbers behind them.
 -- Assumes nothing.
-use mathlib.Core.Path.{_≡_, refl, ap, subst}
-use mathlib.Core.Bool.{Bool, true, false, cond, _&&_, false≢true, true≢false}
+use mathlib.Core.Path.{_≡_, refl, ap}
+use mathlib.Core.Bool.{true, false, _&&_, false≢true, true≢false}
 use Prim.Native.Nat.{ℕ, zero, suc, _+_, _-_, _≤_, _<_}
 use native.Mathlib.Omega.{arith}
 use lib.Dec.{leb}
@@ -11,10 +11,7 @@ use mir.Syntax.{w64}
 use mir.Val.{SFits, toZ, ofZ}
 use mir.Facts.{toZ-ofZ}
 use borrow.Author.Tests.{le-ltb, le-leb, lt-leb, ltb-true, ltb-false, leb-true}
-use Rattle.calls.specs.declared.Period.{Period}
-use Rattle.calls.specs.declared.Period.the-variants.{Within, Outside}
 use Rattle.calls.specs.Call.{timesInRange, secondsOf, yearOf}
-use Rattle.calls.specs.Steps.{periodOf}
 use Rattle.calls.proofs.Flags.{both}
 
 -- a signed number is its bits, read again
@@ -83,43 +80,22 @@ pub seconds-lt : {start end : ℤ} → Timed start end → secondsOf start end <
 unfolding secondsOf
 seconds-lt t = rw (t .length-is) (omega (arith, t .length-most))
 
--- what a period says of the times
-module _ (start end : ℤ) where
-  abbrev pub PeriodSays : Period → Type 0
-  PeriodSays (Within year seconds) = (timesInRange start end ≡ true) × (year ≡ yearOf end) × (seconds ≡ secondsOf start end)
-  PeriodSays Outside = timesInRange start end ≡ false
-
-  pub period-says : (period : Period) → periodOf start end ≡ period → PeriodSays period
-  unfolding periodOf
-  period-says period e = subst PeriodSays e (go (timesInRange start end) refl)
-    where
-      go : (t : Bool) → timesInRange start end ≡ t → PeriodSays (cond t (Within (yearOf end) (secondsOf start end)) Outside)
-      go true h = (h, refl, refl)
-      go false h = h
-
 -- the tests of the code, one after the other
 module _ (start end : ℤ) where
-  pub before-2017 : ltZ end (pos 0) ≡ true → periodOf start end ≡ Outside
-  unfolding periodOf timesInRange
+  pub before-2017 : ltZ end (pos 0) ≡ true → timesInRange start end ≡ false
+  unfolding timesInRange
   before-2017 t = rw (below (pos 0) end t) refl
 
   module _ (from : ltZ end (pos 0) ≡ false) where
-    pub after-2019 : ltZ (pos 94607999) end ≡ true → periodOf start end ≡ Outside
-    unfolding periodOf timesInRange
+    pub after-2019 : ltZ (pos 94607999) end ≡ true → timesInRange start end ≡ false
+    unfolding timesInRange
     after-2019 t = rw (not-below (pos 0) end from, below end (pos 94607999) t) refl
 
     module _ (to : ltZ (pos 94607999) end ≡ false) where
-      pub too-early : ltZ start (negsuc 31535999) ≡ true → periodOf start end ≡ Outside
-      unfolding periodOf timesInRange
+      pub too-early : ltZ start (negsuc 31535999) ≡ true → timesInRange start end ≡ false
+      unfolding timesInRange
       too-early t = rw (not-below (pos 0) end from, not-below end (pos 94607999) to, below (negsuc 31535999) start t) refl
 
-      module _ (early : ltZ start (negsuc 31535999) ≡ false) where
-        pub reversed : ltZ end start ≡ true → periodOf start end ≡ Outside
-        unfolding periodOf timesInRange
-        reversed t =
-            rw (not-below (pos 0) end from, not-below end (pos 94607999) to, not-below (negsuc 31535999) start early, below start end t) refl
-
-        pub in-order : ltZ end start ≡ false → timesInRange start end ≡ true
-        unfolding timesInRange
-        in-order t =
-            rw (not-below (pos 0) end from, not-below end (pos 94607999) to, not-below (negsuc 31535999) start early, not-below start end t) refl
+      pub in-order : ltZ start (negsuc 31535999) ≡ false → timesInRange start end ≡ leZ start end
+      unfolding timesInRange
+      in-order early = rw (not-below (pos 0) end from, not-below end (pos 94607999) to, not-below (negsuc 31535999) start early) refl

@@ -4,20 +4,13 @@ use Prim.Native.Nat.{ℕ, _+_, _-_}
 use mathlib.Core.Path.{_≡_}
 use mathlib.Core.Bool.{cond}
 use lib.Dec.{ltb, eqb}
-use lib.IntN.{ℤ}
-use Rattle.calls.specs.declared.Period.{Period}
-use Rattle.calls.specs.declared.Period.the-variants.{Within, Outside}
 use Rattle.calls.specs.declared.Judged.{Judged}
 use Rattle.calls.specs.declared.Judged.the-variants.{Counts, LeftOut}
 use Rattle.calls.specs.declared.Moved.{Moved}
 use Rattle.calls.specs.declared.Moved.the-variants.{To, Above, Below}
 use Rattle.calls.specs.Limits.{figureLimit}
 use Rattle.calls.specs.Answers.{Acceptance, counted-in, leftOutAs}
-use Rattle.calls.specs.Call.{timesInRange, secondsOf, yearOf, outcome}
-
--- the year and the length of an interruption, if its times are in range
-unfoldable pub periodOf : ℤ → ℤ → Period
-periodOf start end = cond (timesInRange start end) (Within (yearOf end) (secondsOf start end)) Outside
+use Rattle.calls.specs.Call.{outcome}
 
 -- what is judged of an interruption, as an answer with its year
 abbrev pub judgedSays : ℕ → Judged → Acceptance

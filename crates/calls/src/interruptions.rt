@@ -1,9 +1,10 @@
 // An interruption: the ranges of its values, its year and length, and what is left out and why.
 ghost use mathlib.Core.Path.{_≡_};
-ghost use Rattle.calls.specs.Call.{weightInRange, detailsInRange};
-ghost use Rattle.calls.specs.Steps.{periodOf, JudgedAs};
+ghost use mathlib.Core.Bool.{true};
+ghost use Rattle.calls.specs.Call.{weightInRange, detailsInRange, timesInRange, valuesInRange, yearOf, secondsOf};
+ghost use Rattle.calls.specs.Steps.{JudgedAs};
+use crate::Call;
 use crate::Judged;
-use crate::Period;
 use crate::Reason;
 
 const YEAR: u64 = 31536000;
@@ -19,7 +20,23 @@ const MOST_CABINS: u32 = 100000;
 // Up to this many seconds an interruption is short.
 const SHORT: u64 = 180;
 
-pub fn details_in_range(sign: u8, level: u8, cause: u8, weight: u32) -> bool
+pub fn interruption_in_range(
+    sign: u8,
+    level: u8,
+    cause: u8,
+    start: i64,
+    end: i64,
+    weight: u32,
+) -> bool
+    ensures { λ r. ⌜ r ≡ valuesInRange (Call.Interruption 0 sign level cause start end weight) ⌝ }
+{
+    if !details_in_range(sign, level, cause, weight) {
+        return false;
+    }
+    times_in_range(start, end)
+}
+
+fn details_in_range(sign: u8, level: u8, cause: u8, weight: u32) -> bool
     ensures { λ r. ⌜ r ≡ detailsInRange sign level cause weight ⌝ }
 {
     if 1 < sign {
@@ -46,28 +63,36 @@ fn weight_in_range(level: u8, weight: u32) -> bool
     weight <= MOST_CABINS
 }
 
-// The year is that of the end.
-pub fn period_of(start: i64, end: i64) -> Period
-    ensures { λ r. ⌜ r ≡ periodOf start end ⌝ }
+fn times_in_range(start: i64, end: i64) -> bool
+    ensures { λ r. ⌜ r ≡ timesInRange start end ⌝ }
 {
     if end < 0 {
-        return Period::Outside;
+        return false;
     }
     if LAST_END < end {
-        return Period::Outside;
+        return false;
     }
     if start < FIRST_START {
-        return Period::Outside;
+        return false;
     }
-    if end < start {
-        return Period::Outside;
-    }
+    start <= end
+}
+
+// The year is that of the end.
+pub fn year_of(start: i64, end: i64) -> u8
+    requires { ⌜ timesInRange start end ≡ true ⌝ }
+    ensures { λ r. ⌜ r ≡ yearOf end ⌝ }
+{
     let stop = end as u64;
-    let seconds = (end - start) as u64;
-    Period::Within {
-        year: (stop / YEAR) as u8,
-        seconds,
-    }
+    (stop / YEAR) as u8
+}
+
+// How long an interruption lasts.
+pub fn seconds_of(start: i64, end: i64) -> u64
+    requires { ⌜ timesInRange start end ≡ true ⌝ }
+    ensures { λ r. ⌜ r ≡ secondsOf start end ⌝ }
+{
+    (end - start) as u64
 }
 
 // Whether an interruption counts: short comes before the cause.

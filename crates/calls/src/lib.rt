@@ -16,9 +16,10 @@ pub use arguments::setting_in_range;
 pub use arguments::setting_limit;
 pub use figures::FIGURE_LIMIT;
 pub use figures::move_figure;
-pub use interruptions::details_in_range;
+pub use interruptions::interruption_in_range;
 pub use interruptions::judge;
-pub use interruptions::period_of;
+pub use interruptions::seconds_of;
+pub use interruptions::year_of;
 pub use masks::has_bit;
 pub use masks::include_bit;
 pub use masks::remask;
@@ -100,12 +101,6 @@ pub enum Answer {
 pub enum Judged {
     Counts,
     LeftOut(Reason),
-}
-
-// The year and the length of an interruption whose times are in range.
-pub enum Period {
-    Within { year: u8, seconds: u64 },
-    Outside,
 }
 
 // A figure that is filed to or withdrawn from.

@@ -1,4 +1,4 @@
 -- The laws that the proofs of `ledger`, and of the crates above it, use.
-pub mod Admission
-pub mod Moves
-pub mod Lowest
+pub mod AdmissionLaws
+pub mod MoveLaws
+pub mod LowestOfCalls

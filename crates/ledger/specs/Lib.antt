@@ -1,5 +1,5 @@
 -- The definitions of `ledger`.
 pub mod Table
 pub mod Calls
-pub mod Entering
+pub mod Steps
 pub mod Laws

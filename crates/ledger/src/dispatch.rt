@@ -3,9 +3,12 @@ ghost use mathlib.Core.Path.{_≡_};
 ghost use mathlib.Core.Bool.{true};
 ghost use Prim.Native.Nat.{_≤_, _<_};
 ghost use Rattle.book.specs.Book.{inRange};
-ghost use Rattle.calls.specs.Call.{amountEntries};
+ghost use Rattle.calls.specs.Answers.{said, firstOf, yes-said};
+ghost use Rattle.calls.specs.Call.{entry};
+ghost use mathlib.Core.List.{[], _∷_};
 ghost use Rattle.ledger.specs.Calls.{apply as Calls·apply};
-ghost use Rattle.ledger.specs.Entering.{entering};
+ghost use Rattle.ledger.specs.Steps.{Gives, memberLines, admissionSaid, entering};
+use crate::Admission;
 use crate::Filed;
 use crate::interruptions;
 use crate::refused;
@@ -28,7 +31,7 @@ use calls::setting_in_range;
 // knows that each call keeps it in range. Nobody can apply a call to a book that would get 5.
 pub fn apply(b: Book, filing_call: Call) -> Filed
     requires { ⌜ inRange b ≡ true ⌝ }
-    ensures { λ r. ⌜ r ≡ Calls·apply b «filing_call» ⌝ }
+    ensures { λ r. ⌜ (said (r .answer) ≡ Calls·apply b «filing_call» .said) × (r .book ≡ Calls·apply b «filing_call» .book) ⌝ }
 {
     match filing_call {
         Call::Join { operator } => join(b, operator),
@@ -64,7 +67,7 @@ pub fn apply(b: Book, filing_call: Call) -> Filed
 }
 
 fn join(b: Book, operator: u8) -> Filed
-    ensures { λ r. ⌜ r ≡ Calls·apply b (Call.Join operator) ⌝ }
+    ensures { λ r. ⌜ Gives r (Calls·apply b (Call.Join operator)) ⌝ }
 {
     if 15 < operator {
         return refused(b, Refusal::UnknownOperator);
@@ -81,46 +84,52 @@ fn join(b: Book, operator: u8) -> Filed
     }
 }
 
-fn setting(b: Book, operator: u8, which: u8, value: u64) -> Filed
-    ensures { λ r. ⌜ r ≡ Calls·apply b (Call.Setting operator which value) ⌝ }
+// The checks that setting, interruption, amount and mark share: 4, 5 and 7, in the order of the table.
+pub(crate) fn admit(joined: u16, operator: u8, valid: bool) -> Admission
+    ensures { λ r. ⌜ admissionSaid r ≡ firstOf (memberLines joined operator valid) tt ⌝ }
 {
     if 15 < operator {
-        return refused(b, Refusal::UnknownOperator);
+        return Admission::Refused(Refusal::UnknownOperator);
     }
-    if !setting_in_range(which, value) {
-        return refused(b, Refusal::OutOfRange);
+    if !valid {
+        return Admission::Refused(Refusal::OutOfRange);
     }
-    if !has_bit(b.joined, operator) {
-        return refused(b, Refusal::NotJoined);
+    if !has_bit(joined, operator) {
+        return Admission::Refused(Refusal::NotJoined);
     }
-    let mut next = b;
-    let at = operator as usize * 3 + which as usize;
-    next.settings[at] = value;
-    Filed {
-        book: next,
-        answer: Answer::Yes,
+    Admission::Admitted
+}
+
+fn setting(b: Book, operator: u8, which: u8, value: u64) -> Filed
+    ensures { λ r. ⌜ Gives r (Calls·apply b (Call.Setting operator which value)) ⌝ }
+{
+    match admit(b.joined, operator, setting_in_range(which, value)) {
+        Admission::Admitted => {
+            let mut next = b;
+            let at = operator as usize * 3 + which as usize;
+            next.settings[at] = value;
+            Filed {
+                book: next,
+                answer: Answer::Yes,
+            }
+        }
+        Admission::Refused(refusal) => refused(b, refusal),
     }
 }
 
 fn amount(b: Book, operator: u8, year: u8, figure: u8, sign: u8, value: u64) -> Filed
-    ensures { λ r. ⌜ r ≡ Calls·apply b (Call.Amount operator year figure sign value) ⌝ }
+    ensures { λ r. ⌜ Gives r (Calls·apply b (Call.Amount operator year figure sign value)) ⌝ }
 {
-    if 15 < operator {
-        return refused(b, Refusal::UnknownOperator);
+    match admit(b.joined, operator, amount_in_range(year, figure, sign)) {
+        Admission::Admitted => enter_amount(b, operator, year, figure, sign, value),
+        Admission::Refused(refusal) => refused(b, refusal),
     }
-    if !amount_in_range(year, figure, sign) {
-        return refused(b, Refusal::OutOfRange);
-    }
-    if !has_bit(b.joined, operator) {
-        return refused(b, Refusal::NotJoined);
-    }
-    enter_amount(b, operator, year, figure, sign, value)
 }
 
 // One figure filed to or withdrawn from.
 fn enter_amount(b: Book, operator: u8, year: u8, figure: u8, sign: u8, value: u64) -> Filed
     requires { ⌜ (operator < 16) × (year < 3) × (figure < 8) × (sign ≤ 1) ⌝ }
-    ensures { λ r. ⌜ r ≡ entering b operator sign (amountEntries year figure value) Answer.Yes ⌝ }
+    ensures { λ r. ⌜ Gives r (entering b (entry operator year figure sign value ∷ []) yes-said) ⌝ }
 {
     let at = (operator as usize * 3 + year as usize) * 8 + figure as usize;
     let figures = b.figures;
@@ -139,36 +148,32 @@ fn enter_amount(b: Book, operator: u8, year: u8, figure: u8, sign: u8, value: u6
 }
 
 fn mark_indicator(b: Book, operator: u8, indicator: u8, mark: u8) -> Filed
-    ensures { λ r. ⌜ r ≡ Calls·apply b (Call.Mark operator indicator mark) ⌝ }
+    ensures { λ r. ⌜ Gives r (Calls·apply b (Call.Mark operator indicator mark)) ⌝ }
 {
-    if 15 < operator {
-        return refused(b, Refusal::UnknownOperator);
-    }
-    if !mark_in_range(indicator, mark) {
-        return refused(b, Refusal::OutOfRange);
-    }
-    if !has_bit(b.joined, operator) {
-        return refused(b, Refusal::NotJoined);
-    }
-    let mut next = b;
-    let at = indicator as usize;
-    let marks = b.marks;
-    next.marks[at] = remask(marks[at], operator, mark);
-    Filed {
-        book: next,
-        answer: Answer::Yes,
+    match admit(b.joined, operator, mark_in_range(indicator, mark)) {
+        Admission::Admitted => {
+            let mut next = b;
+            let at = indicator as usize;
+            let marks = b.marks;
+            next.marks[at] = remask(marks[at], operator, mark);
+            Filed {
+                book: next,
+                answer: Answer::Yes,
+            }
+        }
+        Admission::Refused(refusal) => refused(b, refusal),
     }
 }
 
 fn rates(b: Book, pot: u32, cap: u32) -> Filed
-    ensures { λ r. ⌜ r ≡ Calls·apply b (Call.Rates pot cap) ⌝ }
+    ensures { λ r. ⌜ Gives r (Calls·apply b (Call.Rates pot cap)) ⌝ }
 {
     if !rates_in_range(pot, cap) {
         return refused(b, Refusal::OutOfRange);
     }
     let mut next = b;
-    next.pot = pot;
-    next.cap = cap;
+    next.pot_rate = pot;
+    next.cap_rate = cap;
     Filed {
         book: next,
         answer: Answer::Yes,
@@ -176,7 +181,7 @@ fn rates(b: Book, pot: u32, cap: u32) -> Filed
 }
 
 fn index(b: Book, number: u8, value: u32) -> Filed
-    ensures { λ r. ⌜ r ≡ Calls·apply b (Call.Index number value) ⌝ }
+    ensures { λ r. ⌜ Gives r (Calls·apply b (Call.Index number value)) ⌝ }
 {
     if !index_in_range(number, value) {
         return refused(b, Refusal::OutOfRange);

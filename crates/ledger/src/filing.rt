@@ -1,5 +1,6 @@
 // The filing calls on any book: one that is out of range gets 5, before any other check, and is left as it is.
 ghost use mathlib.Core.Path.{_≡_};
+ghost use Rattle.calls.specs.Answers.{said};
 ghost use Rattle.ledger.specs.Calls.{file as Calls·file};
 use crate::Filed;
 use crate::dispatch::apply;
@@ -12,7 +13,7 @@ use calls::Refusal;
 
 // A call that is at hand as a value.
 pub fn file(b: Book, filing_call: Call) -> Filed
-    ensures { λ r. ⌜ r ≡ Calls·file b «filing_call» ⌝ }
+    ensures { λ r. ⌜ (said (r .answer) ≡ Calls·file b «filing_call» .said) × (r .book ≡ Calls·file b «filing_call» .book) ⌝ }
 {
     if !in_range(b) {
         return refused(b, Refusal::OutOfRange);
@@ -21,14 +22,14 @@ pub fn file(b: Book, filing_call: Call) -> Filed
 }
 
 pub fn join(b: Book, operator: u8) -> Filed
-    ensures { λ r. ⌜ r ≡ Calls·file b (Call.Join operator) ⌝ }
+    ensures { λ r. ⌜ (said (r .answer) ≡ Calls·file b (Call.Join operator) .said) × (r .book ≡ Calls·file b (Call.Join operator) .book) ⌝ }
 {
     file(b, Call::Join { operator })
 }
 
 // Cabins, active access points or income of an operator.
 pub fn setting(b: Book, operator: u8, which: u8, value: u64) -> Filed
-    ensures { λ r. ⌜ r ≡ Calls·file b (Call.Setting operator which value) ⌝ }
+    ensures { λ r. ⌜ (said (r .answer) ≡ Calls·file b (Call.Setting operator which value) .said) × (r .book ≡ Calls·file b (Call.Setting operator which value) .book) ⌝ }
 {
     file(
         b,
@@ -50,7 +51,7 @@ pub fn interruption(
     end: i64,
     weight: u32,
 ) -> Filed
-    ensures { λ r. ⌜ r ≡ Calls·file b (Call.Interruption operator sign level cause start end weight) ⌝ }
+    ensures { λ r. ⌜ (said (r .answer) ≡ Calls·file b (Call.Interruption operator sign level cause start end weight) .said) × (r .book ≡ Calls·file b (Call.Interruption operator sign level cause start end weight) .book) ⌝ }
 {
     file(
         b,
@@ -67,7 +68,7 @@ pub fn interruption(
 }
 
 pub fn amount(b: Book, operator: u8, year: u8, figure: u8, sign: u8, value: u64) -> Filed
-    ensures { λ r. ⌜ r ≡ Calls·file b (Call.Amount operator year figure sign value) ⌝ }
+    ensures { λ r. ⌜ (said (r .answer) ≡ Calls·file b (Call.Amount operator year figure sign value) .said) × (r .book ≡ Calls·file b (Call.Amount operator year figure sign value) .book) ⌝ }
 {
     file(
         b,
@@ -82,7 +83,7 @@ pub fn amount(b: Book, operator: u8, year: u8, figure: u8, sign: u8, value: u64)
 }
 
 pub fn mark(b: Book, operator: u8, indicator: u8, mark: u8) -> Filed
-    ensures { λ r. ⌜ r ≡ Calls·file b (Call.Mark operator indicator mark) ⌝ }
+    ensures { λ r. ⌜ (said (r .answer) ≡ Calls·file b (Call.Mark operator indicator mark) .said) × (r .book ≡ Calls·file b (Call.Mark operator indicator mark) .book) ⌝ }
 {
     file(
         b,
@@ -95,13 +96,13 @@ pub fn mark(b: Book, operator: u8, indicator: u8, mark: u8) -> Filed
 }
 
 pub fn rates(b: Book, pot: u32, cap: u32) -> Filed
-    ensures { λ r. ⌜ r ≡ Calls·file b (Call.Rates pot cap) ⌝ }
+    ensures { λ r. ⌜ (said (r .answer) ≡ Calls·file b (Call.Rates pot cap) .said) × (r .book ≡ Calls·file b (Call.Rates pot cap) .book) ⌝ }
 {
     file(b, Call::Rates { pot, cap })
 }
 
 pub fn index(b: Book, number: u8, value: u32) -> Filed
-    ensures { λ r. ⌜ r ≡ Calls·file b (Call.Index number value) ⌝ }
+    ensures { λ r. ⌜ (said (r .answer) ≡ Calls·file b (Call.Index number value) .said) × (r .book ≡ Calls·file b (Call.Index number value) .book) ⌝ }
 {
     file(b, Call::Index { number, value })
 }

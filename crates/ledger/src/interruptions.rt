@@ -1,23 +1,26 @@
 // The call that files or withdraws an interruption, and what a counted one enters.
 ghost use mathlib.Core.Path.{_≡_};
 ghost use Prim.Native.Nat.{_≤_, _<_};
-ghost use Rattle.calls.specs.Call.{countedEntries};
+ghost use mathlib.Core.Bool.{true};
+ghost use Rattle.calls.specs.Answers.{counted-in};
+ghost use Rattle.calls.specs.Call.{valuesInRange, interruptionEntries, entries, acceptanceOf};
 ghost use Rattle.ledger.specs.Calls.{apply as Calls·apply};
-ghost use Rattle.ledger.specs.Entering.{entering};
+ghost use Rattle.ledger.specs.Steps.{Gives, entering};
+use crate::Admission;
 use crate::Filed;
+use crate::dispatch::admit;
 use crate::refused;
 use book::Book;
 use calls::Answer;
 use calls::Call;
+use calls::Judged;
 use calls::Moved;
-use calls::Period;
 use calls::Refusal;
-use calls::details_in_range;
-use calls::has_bit;
-use calls::is_counted;
+use calls::interruption_in_range;
 use calls::judge;
 use calls::move_figure;
-use calls::period_of;
+use calls::seconds_of;
+use calls::year_of;
 
 pub(crate) fn interruption(
     b: Book,
@@ -29,25 +32,48 @@ pub(crate) fn interruption(
     end: i64,
     weight: u32,
 ) -> Filed
-    ensures { λ r. ⌜ r ≡ Calls·apply b (Call.Interruption operator sign level cause start end weight) ⌝ }
+    ensures { λ r. ⌜ Gives r (Calls·apply b (Call.Interruption operator sign level cause start end weight)) ⌝ }
 {
-    if 15 < operator {
-        return refused(b, Refusal::UnknownOperator);
+    match admit(
+        b.joined,
+        operator,
+        interruption_in_range(sign, level, cause, start, end, weight),
+    ) {
+        Admission::Admitted => enter(b, operator, sign, level, cause, start, end, weight),
+        Admission::Refused(refusal) => refused(b, refusal),
     }
-    if !details_in_range(sign, level, cause, weight) {
-        return refused(b, Refusal::OutOfRange);
+}
+
+// Entered if it counts; left out, the book stays.
+fn enter(
+    b: Book,
+    operator: u8,
+    sign: u8,
+    level: u8,
+    cause: u8,
+    start: i64,
+    end: i64,
+    weight: u32,
+) -> Filed
+    requires { ⌜ (operator < 16) × (valuesInRange (Call.Interruption operator sign level cause start end weight) ≡ true) ⌝ }
+    ensures { λ r. ⌜ Gives r (entering b (entries (Call.Interruption operator sign level cause start end weight)) (acceptanceOf (Call.Interruption operator sign level cause start end weight))) ⌝ }
+{
+    let seconds = seconds_of(start, end);
+    match judge(cause, seconds) {
+        Judged::Counts => enter_counted(
+            b,
+            operator,
+            sign,
+            level,
+            year_of(start, end),
+            weight,
+            seconds,
+        ),
+        Judged::LeftOut(reason) => Filed {
+            book: b,
+            answer: Answer::LeftOut(reason),
+        },
     }
-    let Period::Within { year, seconds } = period_of(start, end) else {
-        return refused(b, Refusal::OutOfRange);
-    };
-    if !has_bit(b.joined, operator) {
-        return refused(b, Refusal::NotJoined);
-    }
-    let answer = judge(cause, seconds, year);
-    if !is_counted(answer) {
-        return Filed { book: b, answer };
-    }
-    enter_counted(b, operator, sign, level, year, weight, seconds)
 }
 
 // Weight, and weight times seconds, added or subtracted.
@@ -61,7 +87,7 @@ fn enter_counted(
     seconds: u64,
 ) -> Filed
     requires { ⌜ (operator < 16) × (sign ≤ 1) × (level ≤ 1) × (year < 3) × (weight ≤ 100000) × (seconds < 126144000) ⌝ }
-    ensures { λ r. ⌜ r ≡ entering b operator sign (countedEntries year level weight seconds) (Answer.Counted year) ⌝ }
+    ensures { λ r. ⌜ Gives r (entering b (interruptionEntries operator sign level weight seconds (counted-in year)) (counted-in year)) ⌝ }
 {
     let row = (operator as usize * 3 + year as usize) * 8;
     let weight_at = row + 2 * level as usize;

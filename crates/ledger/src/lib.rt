@@ -4,7 +4,7 @@ mod filing;
 mod interruptions;
 
 ghost use mathlib.Core.Path.{_≡_};
-ghost use Rattle.ledger.specs.Calls.{refusedCall};
+ghost use Rattle.calls.specs.Answers.{refused-by, numberOf, said};
 use book::Book;
 use calls::Answer;
 use calls::Refusal;
@@ -24,9 +24,15 @@ pub struct Filed {
     pub answer: Answer,
 }
 
+// Whether a call passes the checks that it shares with others.
+pub(crate) enum Admission {
+    Admitted,
+    Refused(Refusal),
+}
+
 // A refused call leaves the book.
 pub(crate) fn refused(b: Book, refusal: Refusal) -> Filed
-    ensures { λ r. ⌜ r ≡ refusedCall b refusal ⌝ }
+    ensures { λ r. ⌜ (said (r .answer) ≡ refused-by (numberOf refusal)) × (r .book ≡ b) ⌝ }
 {
     Filed {
         book: b,

@@ -1,13 +1,11 @@
 -- `ledger::refused` meets its contract.
 -- Assumes nothing.
 use mathlib.Core.Path.{refl}
-use Rattle.ledger.specs.Calls.{refusedCall}
 use Rattle.ledger.proofs.refused.Statement.{statement}
 use Rattle.ledger.proofs.refused.Tie as tie
 
 returns : tie.Need-returns
-unfolding refusedCall
-returns c = refl
+returns c = (refl, refl)
 
 pub refused-spec : {M : Type 1} → statement M
 refused-spec = tie.close (tie.spec returns)

@@ -1,9 +1,7 @@
 -- `ledger::dispatch::apply` meets its contract.
 -- Assumes nothing.
-use mathlib.Core.Path.{sym, ap, _∙_}
 use mir.Syntax.{w64}
 use mir.Val.{SFits}
-use Rattle.ledger.specs.Calls.{apply}
 use Rattle.calls.proofs.Times.{back}
 use borrow.Author.Needs.{needs}
 use Rattle.ledger.proofs.dispatch.apply.Statement.{statement}
@@ -52,10 +50,10 @@ index-requires : tie.Need-index-requires
 index-requires c κs = search needs
 
 returns : tie.Need-returns
-returns c = c .join .ensures ∙ ap (apply (c .before .before .before .before .args .b)) (sym (c .before .before .filing-call .given .1))
+returns c = rw (c .before .before .filing-call .given .1) (c .join .ensures)
 
 returns-2 : tie.Need-returns-2
-returns-2 c = c .setting .ensures ∙ ap (apply (c .before .before .before .before .args .b)) (sym (c .before .before .filing-call2 .given .1))
+returns-2 c = rw (c .before .before .filing-call2 .given .1) (c .setting .ensures)
 
 returns-3 : tie.Need-returns-3
 returns-3 c =
@@ -63,19 +61,19 @@ returns-3 c =
     let known = c .before .known-told3 .given .1 .1 .1 .1 in
     let start : SFits w64 (given .0 .1 .1 .1 .1 .0) = record { sfits = known .0 .1 } in
     let end : SFits w64 (given .0 .1 .1 .1 .1 .1 .0) = record { sfits = known .1 .0 .1 } in
-    (rw (back start, back end) at (c .interruption .ensures)) ∙ ap (apply (c .before .before .before .before .args .b)) (sym (given .1))
+    rw (given .1) (rw (back start, back end) at (c .interruption .ensures))
 
 returns-4 : tie.Need-returns-4
-returns-4 c = c .amount .ensures ∙ ap (apply (c .before .before .before .before .args .b)) (sym (c .before .before .filing-call4 .given .1))
+returns-4 c = rw (c .before .before .filing-call4 .given .1) (c .amount .ensures)
 
 returns-5 : tie.Need-returns-5
-returns-5 c = c .mark-indicator .ensures ∙ ap (apply (c .before .before .before .before .args .b)) (sym (c .before .before .filing-call5 .given .1))
+returns-5 c = rw (c .before .before .filing-call5 .given .1) (c .mark-indicator .ensures)
 
 returns-6 : tie.Need-returns-6
-returns-6 c = c .rates .ensures ∙ ap (apply (c .before .before .before .before .args .b)) (sym (c .before .before .filing-call6 .given .1))
+returns-6 c = rw (c .before .before .filing-call6 .given .1) (c .rates .ensures)
 
 returns-7 : tie.Need-returns-7
-returns-7 c = c .index .ensures ∙ ap (apply (c .before .before .before .before .args .b)) (sym (c .before .before .filing-call7 .given .1))
+returns-7 c = rw (c .before .before .filing-call7 .given .1) (c .index .ensures)
 
 pub apply-spec : {M : Type 1} → statement M
 apply-spec =

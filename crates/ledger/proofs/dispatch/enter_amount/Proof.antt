@@ -3,10 +3,10 @@
 use mathlib.Core.Path.{_≡_, refl, sym, _∙_}
 use native.Mathlib.Omega.{arith}
 use Rattle.book.specs.Book.{figureSlot, figureOf}
-use Rattle.ledger.specs.Calls.{answered, withFigures}
-use Rattle.calls.specs.declared.Moved.the-variants.{To}
-use Rattle.calls.specs.Call.{amountEntries}
-use Rattle.ledger.proofs.Moves.{moved-as, fitting-none, too-much-first, too-little-first, fitting-more, refused-above, refused-below, entered-all, moved-one}
+use Rattle.calls.specs.Answers.{yes-said}
+use Rattle.calls.specs.Call.{entry}
+use Rattle.ledger.specs.Calls.{withFigures}
+use Rattle.ledger.proofs.MoveLaws.{moved-as, one-moved, one-above, one-below}
 use borrow.Author.Needs.{needs}
 use Rattle.ledger.proofs.dispatch.enter_amount.Statement.{statement}
 use Rattle.ledger.proofs.dispatch.enter_amount.Tie as tie
@@ -54,28 +54,27 @@ refused-requires-2 : tie.Need-refused-requires-2
 refused-requires-2 c κs = search needs
 
 returns : tie.Need-returns
-unfolding amountEntries figureOf figureSlot withFigures answered
+unfolding figureOf figureSlot withFigures
 returns c =
     let start = c .before .before .before .before .before in
-    let told : c .before .before .before .move-figure .result ≡ To (c .before .moved .given .0 .0) = c .before .moved .given .1 in
-    let moves = moved-as (start .args .sign) (start .args .value) _ (start .pre .3) _ (sym (c .before .before .before .move-figure .ensures) ∙ told) in
-    sym
-    (entered-all (start .args .b) (start .args .operator) (start .args .sign) _ _ (fitting-more _ _ _ _ _ moves (fitting-none _ _ _))
-    ∙ rw (moved-one (start .args .b) (start .args .operator) (start .args .sign) _ moves) refl)
+    rw (one-moved (start .args .b) (entry (start .args .operator) (start .args .year) (start .args .figure) (start .args .sign) (start .args .value)) yes-said _ (moved-as (start .args .sign) (start .args .value) _ (start .pre .3) _ (sym (c .before .before .before .move-figure .ensures) ∙ c .before .moved .given .1)))
+    (refl, refl)
 
+-- 8
 returns-2 : tie.Need-returns-2
-unfolding amountEntries figureOf figureSlot
+unfolding figureOf figureSlot
 returns-2 c =
     let start = c .before .before .before .before .before in
-    let above = moved-as (start .args .sign) (start .args .value) _ (start .pre .3) _ (sym (c .before .before .before .move-figure .ensures) ∙ c .before .enum-told .given .1) in
-    c .refused .ensures ∙ sym (refused-above (start .args .b) (start .args .operator) (start .args .sign) _ _ (too-much-first _ _ _ _ _ above))
+    rw (one-above (start .args .b) (entry (start .args .operator) (start .args .year) (start .args .figure) (start .args .sign) (start .args .value)) yes-said (moved-as (start .args .sign) (start .args .value) _ (start .pre .3) _ (sym (c .before .before .before .move-figure .ensures) ∙ c .before .enum-told .given .1)))
+    (c .refused .ensures)
 
+-- 9
 returns-3 : tie.Need-returns-3
-unfolding amountEntries figureOf figureSlot
+unfolding figureOf figureSlot
 returns-3 c =
     let start = c .before .before .before .before .before in
-    let below = moved-as (start .args .sign) (start .args .value) _ (start .pre .3) _ (sym (c .before .before .before .move-figure .ensures) ∙ c .before .enum-told2 .given .1) in
-    c .refused2 .ensures ∙ sym (refused-below (start .args .b) (start .args .operator) (start .args .sign) _ _ (too-little-first _ _ _ _ _ (below .1)))
+    rw (one-below (start .args .b) (entry (start .args .operator) (start .args .year) (start .args .figure) (start .args .sign) (start .args .value)) yes-said (moved-as (start .args .sign) (start .args .value) _ (start .pre .3) _ (sym (c .before .before .before .move-figure .ensures) ∙ c .before .enum-told2 .given .1)))
+    (c .refused2 .ensures)
 
 pub enter-amount-spec : {M : Type 1} → statement M
 enter-amount-spec =

@@ -3,12 +3,14 @@
 use mathlib.Core.Path.{_≡_, refl, sym, _∙_}
 use mathlib.Core.Bool.{false}
 use native.Mathlib.Omega.{arith}
+use borrow.Author.Tests.{lt-ltb, le-ltb}
+use Rattle.calls.specs.declared.Call.the-variants.{Join}
 use Rattle.calls.specs.Masks.{has}
 use Rattle.book.specs.Book.{isJoined}
-use Rattle.calls.specs.Call.{operatorOf, signOf, entries, valuesInRange, acceptance}
-use Rattle.ledger.specs.Table.{firstOf, some, joinsAgain, lacksOperator, passesLimit, fallsBelow}
-use Rattle.ledger.specs.Calls.{changed, answered, withJoined}
-use Rattle.ledger.proofs.Admission.{unknown-operator, already-joined, admitted}
+use Rattle.calls.specs.Call.{named, entries, valuesInRange, acceptanceOf}
+use Rattle.ledger.specs.Table.{isUnknown, joinsAgain, lacksOperator}
+use Rattle.ledger.specs.Calls.{changed, withJoined}
+use Rattle.ledger.proofs.AdmissionLaws.{unknown-operator, already-joined, done}
 use borrow.Author.Needs.{needs}
 use Rattle.ledger.proofs.dispatch.join.Statement.{statement}
 use Rattle.ledger.proofs.dispatch.join.Tie as tie
@@ -16,9 +18,10 @@ use Rattle.ledger.proofs.dispatch.join.Tie as tie
 refused-requires : tie.Need-refused-requires
 refused-requires c κs = search needs
 
+-- 4
 returns : tie.Need-returns
-unfolding operatorOf
-returns c = c .refused .ensures ∙ sym (unknown-operator (c .before .before .args .b) _ (c .before .if1 .taken))
+unfolding named isUnknown
+returns c = rw (unknown-operator (c .before .before .args .b) (Join (c .before .before .args .operator)) (rw (le-ltb _ 16 (c .before .if1 .taken)) refl)) (c .refused .ensures)
 
 has-bit-requires : tie.Need-has-bit-requires
 has-bit-requires c κs = search needs
@@ -26,22 +29,25 @@ has-bit-requires c κs = search needs
 refused-requires-2 : tie.Need-refused-requires-2
 refused-requires-2 c κs = search needs
 
+-- 6
 returns-2 : tie.Need-returns-2
-unfolding operatorOf valuesInRange joinsAgain isJoined
+unfolding named isUnknown valuesInRange joinsAgain isJoined
 returns-2 c =
     let start = c .before .before .before .before in
-    c .refused2 .ensures
-    ∙ sym (already-joined (start .args .b) _ (omega arith) refl (sym (c .before .before .has-bit .ensures) ∙ c .before .if2 .taken))
+    rw (already-joined (start .args .b) (Join (start .args .operator)) (rw (lt-ltb (start .args .operator) 16 (omega arith)) refl) refl (sym (c .before .before .has-bit .ensures) ∙ c .before .if2 .taken))
+    (c .refused2 .ensures)
 
 include-bit-requires : tie.Need-include-bit-requires
 include-bit-requires c κs = search needs
 
+-- joined
 returns-3 : tie.Need-returns-3
-unfolding operatorOf valuesInRange joinsAgain lacksOperator isJoined withJoined firstOf some passesLimit fallsBelow signOf entries acceptance changed answered
+unfolding named isUnknown valuesInRange joinsAgain lacksOperator isJoined entries acceptanceOf changed withJoined
 returns-3 c =
     let start = c .before .before .before .before in
     let free : has (start .args .b .joined) (start .args .operator) ≡ false = sym (c .before .before .has-bit .ensures) ∙ c .before .if2 .left in
-    sym (admitted (start .args .b) _ (omega arith) refl free refl ∙ rw (← c .include-bit .ensures) refl)
+    rw (done (start .args .b) (Join (start .args .operator)) (rw (lt-ltb (start .args .operator) 16 (omega arith)) refl) refl free refl refl, ← c .include-bit .ensures)
+    (refl, refl)
 
 pub join-spec : {M : Type 1} → statement M
 join-spec =

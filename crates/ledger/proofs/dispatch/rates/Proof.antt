@@ -1,12 +1,12 @@
 -- `ledger::dispatch::rates` meets its contract.
 -- Assumes nothing.
-use mathlib.Core.Path.{refl, sym, _∙_}
-use native.Mathlib.Omega.{arith}
-use Rattle.calls.specs.Call.{operatorOf, signOf, entries, acceptance}
-use Rattle.ledger.specs.Table.{firstOf, some, joinsAgain, lacksOperator, passesLimit, fallsBelow}
-use Rattle.ledger.specs.Calls.{changed, answered, withRates}
+use mathlib.Core.Path.{refl}
+use Rattle.calls.specs.declared.Call.the-variants.{Rates}
+use Rattle.calls.specs.Call.{named, entries, acceptanceOf}
+use Rattle.ledger.specs.Table.{isUnknown, joinsAgain, lacksOperator}
+use Rattle.ledger.specs.Calls.{changed, withRates}
 use Rattle.calls.proofs.Flags.{denied, granted}
-use Rattle.ledger.proofs.Admission.{out-of-range, admitted}
+use Rattle.ledger.proofs.AdmissionLaws.{out-of-range, done}
 use borrow.Author.Needs.{needs}
 use Rattle.ledger.proofs.dispatch.rates.Statement.{statement}
 use Rattle.ledger.proofs.dispatch.rates.Tie as tie
@@ -17,13 +17,21 @@ rates-in-range-requires c κs = search needs
 refused-requires : tie.Need-refused-requires
 refused-requires c κs = search needs
 
+-- 5
 returns : tie.Need-returns
-unfolding operatorOf
-returns c = c .refused .ensures ∙ sym (out-of-range (c .before .before .before .args .b) _ (omega arith) (denied (c .before .before .rates-in-range .ensures) (c .before .if1 .taken)))
+unfolding named isUnknown
+returns c =
+    let start = c .before .before .before in
+    rw (out-of-range (start .args .b) (Rates (start .args .pot) (start .args .cap)) refl (denied (c .before .before .rates-in-range .ensures) (c .before .if1 .taken)))
+    (c .refused .ensures)
 
+-- both rates
 returns-2 : tie.Need-returns-2
-unfolding operatorOf joinsAgain lacksOperator withRates firstOf some passesLimit fallsBelow signOf entries acceptance changed answered
-returns-2 c = sym (admitted (c .before .before .args .b) _ (omega arith) (granted (c .before .rates-in-range .ensures) (c .if1 .left)) refl refl)
+unfolding named isUnknown joinsAgain lacksOperator entries acceptanceOf changed withRates
+returns-2 c =
+    let start = c .before .before in
+    rw (done (start .args .b) (Rates (start .args .pot) (start .args .cap)) refl (granted (c .before .rates-in-range .ensures) (c .if1 .left)) refl refl refl)
+    (refl, refl)
 
 pub rates-spec : {M : Type 1} → statement M
 rates-spec = tie.close (tie.spec rates-in-range-requires refused-requires returns returns-2)

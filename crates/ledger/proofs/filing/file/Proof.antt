@@ -1,7 +1,8 @@
 -- `ledger::filing::file` meets its contract.
 -- Assumes nothing.
 use Rattle.calls.proofs.Flags.{denied, granted}
-use Rattle.ledger.specs.Calls.{file}
+use Rattle.calls.specs.Answers.{onAnswer}
+use Rattle.ledger.specs.Calls.{outcomeOf, file}
 use borrow.Author.Needs.{needs}
 use Rattle.ledger.proofs.filing.file.Statement.{statement}
 use Rattle.ledger.proofs.filing.file.Tie as tie
@@ -12,8 +13,9 @@ in-range-requires c κs = search needs
 refused-requires : tie.Need-refused-requires
 refused-requires c κs = search needs
 
+-- 5, of the book
 returns : tie.Need-returns
-unfolding file
+unfolding file outcomeOf onAnswer
 returns c = rw (denied (c .before .before .in-range .ensures) (c .before .if1 .taken)) (c .refused .ensures)
 
 apply-requires : tie.Need-apply-requires

@@ -1,13 +1,14 @@
 -- `ledger::interruptions::enter_counted` meets its contract.
 -- Assumes nothing.
-use mathlib.Core.Path.{refl, sym, _∙_}
-use Prim.Native.Nat.{_*_}
+use mathlib.Core.Path.{_≡_, refl, sym, _∙_}
+use Prim.Native.Nat.{_+_, _*_}
 use native.Mathlib.Omega.{arith}
-use Rattle.book.specs.Book.{figureSlot, figureOf}
-use Rattle.calls.specs.Call.{countedEntries}
-use Rattle.ledger.specs.Calls.{answered, withFigures}
 use native.Mathlib.Nat.{mul-le-mul, le-of-lt}
-use Rattle.ledger.proofs.Moves.{moved-as, fitting-none, too-much-first, too-little-first, too-much-later, too-little-later, fitting-more, refused-above, refused-below, entered-all, moved-two}
+use Rattle.book.specs.Book.{figureSlot, figureOf}
+use Rattle.calls.specs.Answers.{counted-in}
+use Rattle.calls.specs.Call.{entry, interruptionEntries}
+use Rattle.ledger.specs.Calls.{withFigures}
+use Rattle.ledger.proofs.MoveLaws.{moved-as, both-moved, first-above, first-below, second-above, second-below}
 use borrow.Author.Needs.{needs}
 use Rattle.ledger.proofs.interruptions.enter_counted.Statement.{statement}
 use Rattle.ledger.proofs.interruptions.enter_counted.Tie as tie
@@ -103,44 +104,43 @@ refused-requires-4 : tie.Need-refused-requires-4
 refused-requires-4 c κs = search needs
 
 returns : tie.Need-returns
-unfolding countedEntries figureOf figureSlot withFigures answered
+unfolding interruptionEntries figureOf figureSlot withFigures
 returns c =
     let start = c .before .before .before .before .before .before .before .before .before in
-    let moves = moved-as (start .args .sign) (start .args .weight) _ (start .pre .1) _ (sym (c .before .before .before .before .before .before .before .move-figure .ensures) ∙ c .before .before .before .before .before .moved .given .1) in
-    let moves-seconds = moved-as (start .args .sign) (start .args .weight * start .args .seconds) _ (start .pre .1) _ (sym (c .before .before .before .move-figure2 .ensures) ∙ c .before .moved-seconds .given .1) in
-    sym
-    (entered-all (start .args .b) (start .args .operator) (start .args .sign) _ _ (fitting-more _ _ _ _ _ moves (fitting-more _ _ _ _ _ moves-seconds (fitting-none _ _ _)))
-    ∙ rw (moved-two (start .args .b) (start .args .operator) (start .args .sign) _ _ (λ e. omega (arith, e)) moves moves-seconds) refl)
+    rw (both-moved (start .args .b) (entry (start .args .operator) (start .args .year) (2 * start .args .level) (start .args .sign) (start .args .weight)) (counted-in (start .args .year)) (entry (start .args .operator) (start .args .year) (2 * start .args .level + 1) (start .args .sign) (start .args .weight * start .args .seconds)) _ (moved-as (start .args .sign) (start .args .weight) _ (start .pre .1) _ (sym (c .before .before .before .before .before .before .before .move-figure .ensures) ∙ c .before .before .before .before .before .moved .given .1)) _ (λ e. omega (arith, e)) (moved-as (start .args .sign) (start .args .weight * start .args .seconds) _ (start .pre .1) _ (sym (c .before .before .before .move-figure2 .ensures) ∙ c .before .moved-seconds .given .1)))
+    (refl, refl)
 
+-- 8, by the seconds
 returns-2 : tie.Need-returns-2
-unfolding countedEntries figureOf figureSlot
+unfolding interruptionEntries figureOf figureSlot
 returns-2 c =
     let start = c .before .before .before .before .before .before .before .before .before in
-    let moves = moved-as (start .args .sign) (start .args .weight) _ (start .pre .1) _ (sym (c .before .before .before .before .before .before .before .move-figure .ensures) ∙ c .before .before .before .before .before .moved .given .1) in
-    let above = moved-as (start .args .sign) (start .args .weight * start .args .seconds) _ (start .pre .1) _ (sym (c .before .before .before .move-figure2 .ensures) ∙ c .before .enum-told .given .1) in
-    c .refused .ensures ∙ sym (refused-above (start .args .b) (start .args .operator) (start .args .sign) _ _ (too-much-later _ _ _ _ _ moves (too-much-first _ _ _ _ _ above)))
+    rw (second-above (start .args .b) (entry (start .args .operator) (start .args .year) (2 * start .args .level) (start .args .sign) (start .args .weight)) (counted-in (start .args .year)) (entry (start .args .operator) (start .args .year) (2 * start .args .level + 1) (start .args .sign) (start .args .weight * start .args .seconds)) _ (moved-as (start .args .sign) (start .args .weight) _ (start .pre .1) _ (sym (c .before .before .before .before .before .before .before .move-figure .ensures) ∙ c .before .before .before .before .before .moved .given .1)) (moved-as (start .args .sign) (start .args .weight * start .args .seconds) _ (start .pre .1) _ (sym (c .before .before .before .move-figure2 .ensures) ∙ c .before .enum-told .given .1)))
+    (c .refused .ensures)
 
+-- 9, by the seconds
 returns-3 : tie.Need-returns-3
-unfolding countedEntries figureOf figureSlot
+unfolding interruptionEntries figureOf figureSlot
 returns-3 c =
     let start = c .before .before .before .before .before .before .before .before .before in
-    let moves = moved-as (start .args .sign) (start .args .weight) _ (start .pre .1) _ (sym (c .before .before .before .before .before .before .before .move-figure .ensures) ∙ c .before .before .before .before .before .moved .given .1) in
-    let below = moved-as (start .args .sign) (start .args .weight * start .args .seconds) _ (start .pre .1) _ (sym (c .before .before .before .move-figure2 .ensures) ∙ c .before .enum-told2 .given .1) in
-    c .refused2 .ensures ∙ sym (refused-below (start .args .b) (start .args .operator) (start .args .sign) _ _ (too-little-later _ _ _ _ _ moves (too-little-first _ _ _ _ _ (below .1))))
+    rw (second-below (start .args .b) (entry (start .args .operator) (start .args .year) (2 * start .args .level) (start .args .sign) (start .args .weight)) (counted-in (start .args .year)) (entry (start .args .operator) (start .args .year) (2 * start .args .level + 1) (start .args .sign) (start .args .weight * start .args .seconds)) _ (moved-as (start .args .sign) (start .args .weight) _ (start .pre .1) _ (sym (c .before .before .before .before .before .before .before .move-figure .ensures) ∙ c .before .before .before .before .before .moved .given .1)) (moved-as (start .args .sign) (start .args .weight * start .args .seconds) _ (start .pre .1) _ (sym (c .before .before .before .move-figure2 .ensures) ∙ c .before .enum-told2 .given .1)))
+    (c .refused2 .ensures)
 
+-- 8, by the weight
 returns-4 : tie.Need-returns-4
-unfolding countedEntries figureOf figureSlot
+unfolding interruptionEntries figureOf figureSlot
 returns-4 c =
     let start = c .before .before .before .before .before in
-    let above = moved-as (start .args .sign) (start .args .weight) _ (start .pre .1) _ (sym (c .before .before .before .move-figure .ensures) ∙ c .before .enum-told3 .given .1) in
-    c .refused3 .ensures ∙ sym (refused-above (start .args .b) (start .args .operator) (start .args .sign) _ _ (too-much-first _ _ _ _ _ above))
+    rw (first-above (start .args .b) (entry (start .args .operator) (start .args .year) (2 * start .args .level) (start .args .sign) (start .args .weight)) (counted-in (start .args .year)) (entry (start .args .operator) (start .args .year) (2 * start .args .level + 1) (start .args .sign) (start .args .weight * start .args .seconds)) (moved-as (start .args .sign) (start .args .weight) _ (start .pre .1) _ (sym (c .before .before .before .move-figure .ensures) ∙ c .before .enum-told3 .given .1)))
+    (c .refused3 .ensures)
 
+-- 9, by the weight
 returns-5 : tie.Need-returns-5
-unfolding countedEntries figureOf figureSlot
+unfolding interruptionEntries figureOf figureSlot
 returns-5 c =
     let start = c .before .before .before .before .before in
-    let below = moved-as (start .args .sign) (start .args .weight) _ (start .pre .1) _ (sym (c .before .before .before .move-figure .ensures) ∙ c .before .enum-told4 .given .1) in
-    c .refused4 .ensures ∙ sym (refused-below (start .args .b) (start .args .operator) (start .args .sign) _ _ (too-little-first _ _ _ _ _ (below .1)))
+    rw (first-below (start .args .b) (entry (start .args .operator) (start .args .year) (2 * start .args .level) (start .args .sign) (start .args .weight)) (counted-in (start .args .year)) (entry (start .args .operator) (start .args .year) (2 * start .args .level + 1) (start .args .sign) (start .args .weight * start .args .seconds)) refl (moved-as (start .args .sign) (start .args .weight) _ (start .pre .1) _ (sym (c .before .before .before .move-figure .ensures) ∙ c .before .enum-told4 .given .1)))
+    (c .refused4 .ensures)
 
 pub enter-counted-spec : {M : Type 1} → statement M
 enter-counted-spec =

@@ -1,0 +1,25 @@
+-- `calls::interruptions::year_of` meets its contract.
+-- Assumes nothing.
+use mathlib.Core.Path.{refl}
+use native.Mathlib.Omega.{arith}
+use Rattle.calls.specs.Call.{yearOf}
+use Rattle.calls.proofs.Times.{back, timed}
+use Rattle.calls.proofs.interruptions.year_of.Statement.{statement}
+use Rattle.calls.proofs.interruptions.year_of.Tie as tie
+
+cast-stop : tie.Need-cast-stop
+cast-stop c =
+    let times = timed _ _ (c .pre) in
+    rw (back (c .fits .end), times .end-is) (tt, record { fits = omega (arith, times .stop-most) })
+
+cast-result : tie.Need-cast-result
+cast-result c =
+    let times = timed _ _ (c .pre) in
+    rw (back (c .fits .end), times .end-is) (record { fits = omega (arith, times .stop-most) })
+
+returns : tie.Need-returns
+unfolding yearOf
+returns c = rw (back (c .fits .end)) refl
+
+pub year-of-spec : {M : Type 1} → statement M
+year-of-spec = tie.close (tie.spec cast-stop cast-result returns)

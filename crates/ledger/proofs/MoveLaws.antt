@@ -1,0 +1,180 @@
+-- Figures that are filed to or withdrawn from, and the tests of 8 and 9.
+-- Assumes nothing.
+use mathlib.Core.Path.{_≡_, refl, subst}
+use mathlib.Core.Logic.{_≢_}
+use mathlib.Core.Bool.{Bool, true, false, cond, _&&_, _||_}
+use mathlib.Core.List.{List, [], _∷_}
+use Prim.Native.Nat.{ℕ, _+_, _-_, _≤_}
+use native.Mathlib.Omega.{arith}
+use lib.Dec.{ltb, eqb}
+use lib.ListN.{set}
+use lib.Seq.{getD-set-other}
+use borrow.Author.Tests.{eqb-true, eqb-false, eq-eqb, ne-eqb}
+use Rattle.book.specs.declared.Book.{Book}
+use Rattle.calls.specs.declared.Moved.{Moved}
+use Rattle.calls.specs.declared.Moved.the-variants.{To, Above, Below}
+use Rattle.calls.specs.Limits.{figureLimit}
+use Rattle.calls.specs.Answers.{refused-by, accepted, onAnswer, firstOf, Acceptance}
+use Rattle.book.specs.Book.{figureSlot, figureOf}
+use Rattle.calls.specs.Call.{Entry}
+use Rattle.calls.specs.Steps.{movedBy}
+use Rattle.calls.proofs.Flags.{and-left}
+use Rattle.ledger.specs.Table.{some, passesLimit, fallsBelow}
+use Rattle.ledger.specs.Calls.{Outcome, withFigures, entered, enterAll, outcomeOf}
+use Rattle.ledger.specs.Steps.{entering}
+use Rattle.ledger.proofs.AdmissionLaws.{refusedCall, acceptedCall}
+
+-- the two tests at one figure
+abbrev pub passes : ℕ → ℕ → ℕ → Bool
+passes sign value old = eqb sign 0 && ltb figureLimit (old + value)
+
+abbrev pub falls : ℕ → ℕ → ℕ → Bool
+falls sign value old = eqb sign 1 && ltb old value
+
+-- a withdrawal passes no limit
+pub no-limit : (sign value old more held : ℕ) → falls sign value old ≡ true → passes sign more held ≡ false
+no-limit sign value old more held e =
+    rw (ne-eqb sign 0 (λ z. omega (arith, eqb-true sign 1 (and-left (eqb sign 1) (ltb old value) e), z))) refl
+
+-- a figure that moves passes neither bound, and moves to what is entered
+pub record Moves (sign value old new : ℕ) : Type 0 where
+  pub below-limit : passes sign value old ≡ false
+  pub above-zero : falls sign value old ≡ false
+  pub reaches : cond (eqb sign 0) (old + value) (old - value) ≡ new
+
+module _ (sign value old : ℕ) (valid : sign ≤ 1) where
+  -- what a move says of the tests
+  abbrev pub As : Moved → Type 0
+  As (To new) = Moves sign value old new
+  As Above = passes sign value old ≡ true
+  As Below = falls sign value old ≡ true
+
+  withdraws : eqb sign 0 ≡ false → eqb sign 1 ≡ true
+  withdraws e = eq-eqb sign 1 (omega (arith, eqb-false sign 0 e))
+
+  files-only : eqb sign 0 ≡ true → eqb sign 1 ≡ false
+  files-only e = ne-eqb sign 1 (λ o. omega (arith, eqb-true sign 0 e, o))
+
+  pub moved-as : (m : Moved) → movedBy sign value old ≡ m → As m
+  unfolding movedBy
+  moved-as m e = subst As e (go (eqb sign 0) (ltb figureLimit (old + value)) (ltb old value) refl refl refl)
+    where
+      go : (files above below : Bool) → eqb sign 0 ≡ files → ltb figureLimit (old + value) ≡ above → ltb old value ≡ below
+          → As (cond files (cond above Above (To (old + value))) (cond below Below (To (old - value))))
+      go true true below f a b = rw (f, a) refl
+      go true false below f a b = record { below-limit = rw (f, a) refl; above-zero = rw (files-only f) refl; reaches = rw f refl }
+      go false above true f a b = rw (withdraws f, b) refl
+      go false above false f a b = record { below-limit = rw f refl; above-zero = rw (withdraws f, b) refl; reaches = rw f refl }
+
+-- a test over the entries of a list
+pub some-none : (test : Entry → Bool) → some test [] ≡ false
+unfolding some
+some-none test = refl
+
+module _ (test : Entry → Bool) (entry : Entry) (rest : List Entry) where
+  pub some-here : test entry ≡ true → some test (entry ∷ rest) ≡ true
+  unfolding some
+  some-here e = rw e refl
+
+  pub some-rest : {t : Bool} → test entry ≡ false → some test rest ≡ t → some test (entry ∷ rest) ≡ t
+  unfolding some
+  some-rest e later = rw e later
+
+-- what entering gives
+module _ (b : Book) (list : List Entry) (value : Acceptance) where
+  pub refused-above : some (passesLimit (figureOf b)) list ≡ true → entering b list value ≡ refusedCall b 8
+  unfolding entering firstOf outcomeOf onAnswer
+  refused-above e = rw e refl
+
+  pub refused-below : some (passesLimit (figureOf b)) list ≡ false → some (fallsBelow (figureOf b)) list ≡ true → entering b list value ≡ refusedCall b 9
+  unfolding entering firstOf outcomeOf onAnswer
+  refused-below p f = rw (p, f) refl
+
+  pub entered-all : some (passesLimit (figureOf b)) list ≡ false → some (fallsBelow (figureOf b)) list ≡ false
+      → entering b list value ≡ acceptedCall (enterAll b list) value
+  unfolding entering firstOf outcomeOf onAnswer
+  entered-all p f = rw (p, f) refl
+
+-- one figure moved, and two
+module _ (b : Book) where
+  abbrev pub placed : Entry → ℕ
+  placed entry = figureSlot (entry .operator) (entry .year) (entry .figure)
+
+  -- what stands at an entry's figure
+  abbrev pub heldAt : Entry → ℕ
+  heldAt entry = figureOf b (entry .operator) (entry .year) (entry .figure)
+
+  abbrev pub MovesAt : Entry → ℕ → Type 0
+  MovesAt entry new = Moves (entry .sign) (entry .value) (heldAt entry) new
+
+  pub moved-one : (entry : Entry) (new : ℕ) → MovesAt entry new → enterAll b (entry ∷ []) ≡ withFigures b (set (b .figures) (placed entry) new)
+  unfolding enterAll entered figureOf
+  moved-one entry new moves = rw (moves .reaches) refl
+
+  pub moved-two : (entry other : Entry) (new newer : ℕ) → placed other ≢ placed entry → MovesAt entry new → MovesAt other newer
+      → enterAll b (entry ∷ other ∷ []) ≡ withFigures b (set (set (b .figures) (placed entry) new) (placed other) newer)
+  unfolding enterAll entered figureOf withFigures
+  moved-two entry other new newer apart moves moves-too =
+      rw (moves .reaches, getD-set-other (b .figures) (placed entry) (placed other) new 0 apart, moves-too .reaches) refl
+
+  -- the entries of an amount, and of a counted interruption, by what became of their figures
+  module _ (entry : Entry) (value : Acceptance) where
+    pub one-above : passes (entry .sign) (entry .value) (heldAt entry) ≡ true → entering b (entry ∷ []) value ≡ refusedCall b 8
+    unfolding passesLimit
+    one-above e = refused-above b (entry ∷ []) value (some-here _ _ _ e)
+
+    pub one-below : falls (entry .sign) (entry .value) (heldAt entry) ≡ true → entering b (entry ∷ []) value ≡ refusedCall b 9
+    unfolding passesLimit fallsBelow
+    one-below e =
+        refused-below b (entry ∷ []) value
+        (some-rest _ _ _ (no-limit (entry .sign) (entry .value) (heldAt entry) (entry .value) (heldAt entry) e) (some-none _))
+        (some-here _ _ _ e)
+
+    pub one-moved : (new : ℕ) → MovesAt entry new → entering b (entry ∷ []) value ≡ acceptedCall (withFigures b (set (b .figures) (placed entry) new)) value
+    unfolding passesLimit fallsBelow
+    one-moved new moves =
+        rw (← moved-one entry new moves)
+        (entered-all b (entry ∷ []) value (some-rest _ _ _ (moves .below-limit) (some-none _)) (some-rest _ _ _ (moves .above-zero) (some-none _)))
+
+    module _ (other : Entry) where
+      pub first-above : passes (entry .sign) (entry .value) (heldAt entry) ≡ true → entering b (entry ∷ other ∷ []) value ≡ refusedCall b 8
+      unfolding passesLimit
+      first-above e = refused-above b (entry ∷ other ∷ []) value (some-here _ _ _ e)
+
+      pub first-below : other .sign ≡ entry .sign → falls (entry .sign) (entry .value) (heldAt entry) ≡ true
+          → entering b (entry ∷ other ∷ []) value ≡ refusedCall b 9
+      unfolding passesLimit fallsBelow
+      first-below same e =
+          let none : passes (other .sign) (other .value) (heldAt other) ≡ false =
+          rw same (no-limit (entry .sign) (entry .value) (heldAt entry) (other .value) (heldAt other) e) in
+          refused-below b (entry ∷ other ∷ []) value
+          (some-rest _ _ _ (no-limit (entry .sign) (entry .value) (heldAt entry) (entry .value) (heldAt entry) e) (some-rest _ _ _ none (some-none _)))
+          (some-here _ _ _ e)
+
+      module _ (new : ℕ) (moves : MovesAt entry new) where
+        pub second-above : passes (other .sign) (other .value) (heldAt other) ≡ true → entering b (entry ∷ other ∷ []) value ≡ refusedCall b 8
+        unfolding passesLimit
+        second-above e = refused-above b (entry ∷ other ∷ []) value (some-rest _ _ _ (moves .below-limit) (some-here _ _ _ e))
+
+        pub second-below : falls (other .sign) (other .value) (heldAt other) ≡ true → entering b (entry ∷ other ∷ []) value ≡ refusedCall b 9
+        unfolding passesLimit fallsBelow
+        second-below e =
+            refused-below b (entry ∷ other ∷ []) value
+            (some-rest _ _ _ (moves .below-limit)
+            (some-rest _ _ _ (no-limit (other .sign) (other .value) (heldAt other) (other .value) (heldAt other) e) (some-none _)))
+            (some-rest _ _ _ (moves .above-zero) (some-here _ _ _ e))
+
+        pub both-moved : (newer : ℕ) → placed other ≢ placed entry → MovesAt other newer
+            → entering b (entry ∷ other ∷ []) value
+            ≡ acceptedCall (withFigures b (set (set (b .figures) (placed entry) new) (placed other) newer)) value
+        unfolding passesLimit fallsBelow
+        both-moved newer apart moves-too =
+            rw (← moved-two entry other new newer apart moves moves-too)
+            (entered-all b (entry ∷ other ∷ []) value
+            (some-rest _ _ _ (moves .below-limit) (some-rest _ _ _ (moves-too .below-limit) (some-none _)))
+            (some-rest _ _ _ (moves .above-zero) (some-rest _ _ _ (moves-too .above-zero) (some-none _))))
+
+-- nothing entered, the book stays
+pub nothing-entered : (b : Book) (value : Acceptance) → entering b [] value ≡ acceptedCall b value
+unfolding enterAll
+nothing-entered b value = entered-all b [] value (some-none _) (some-none _)

@@ -1,0 +1,36 @@
+-- What inner functions of the calls give: the checks that calls share, and entries made on a book.
+-- Assumes nothing.
+use Prim.Native.Nat.{ℕ}
+use mathlib.Core.Bool.{Bool, not}
+use mathlib.Core.List.{List, [], _∷_}
+use lib.Dec.{ltb}
+use Rattle.book.specs.declared.Book.{Book}
+use mathlib.Core.Path.{_≡_}
+use Rattle.ledger.specs.declared.Filed.{Filed}
+use Rattle.ledger.specs.declared.Admission.{Admission}
+use Rattle.ledger.specs.declared.Admission.the-variants.{Admitted, Refused}
+use Rattle.calls.specs.Limits.{operators}
+use Rattle.calls.specs.Masks.{has}
+use Rattle.calls.specs.Answers.{Said, refused-by, accepted, firstOf, Acceptance, numberOf, said}
+use Rattle.calls.specs.Call.{Entry}
+use Rattle.book.specs.Book.{figureOf}
+use Rattle.ledger.specs.Table.{some, passesLimit, fallsBelow}
+use Rattle.ledger.specs.Calls.{Outcome, enterAll, outcomeOf}
+
+-- what an inner function gives: the answer and the book
+abbrev pub Gives : Filed → Outcome → Type 0
+Gives r outcome = (said (r .answer) ≡ outcome .said) × (r .book ≡ outcome .book)
+
+-- 4, 5 and 7 of a call that names a member
+unfoldable pub memberLines : ℕ → ℕ → Bool → List (ℕ × Bool)
+memberLines joined operator valid = (4, not (ltb operator operators)) ∷ (5, not valid) ∷ (7, not (has joined operator)) ∷ []
+
+abbrev pub admissionSaid : Admission → Said (Unit {0})
+admissionSaid Admitted = accepted tt
+admissionSaid (Refused refusal) = refused-by (numberOf refusal)
+
+-- entries made where neither 8 nor 9 applies
+unfoldable pub entering : Book → List Entry → Acceptance → Outcome
+entering b list value =
+    outcomeOf b (enterAll b list)
+    (firstOf ((8, some (passesLimit (figureOf b)) list) ∷ (9, some (fallsBelow (figureOf b)) list) ∷ []) value)
