@@ -1,20 +1,19 @@
--- The entries of a call in range stand within the book, at figures that differ; and sums to which entries were added.
+-- The entries of a call in range stand within the book, at figures that differ; and tests over entries.
 -- Assumes nothing.
-use Prim.Native.Nat.{ℕ, _+_, _≤_, _<_}
-use mathlib.Core.Path.{_≡_, refl, sym, ap₂, _∙_}
-use mathlib.Core.Logic.{_⊎_, inl, inr, _≢_}
-use mathlib.Core.Bool.{Bool, true, false, cond, _&&_, _||_, true≢false}
+use Prim.Native.Nat.{ℕ, _≤_, _<_}
+use mathlib.Core.Path.{_≡_, refl, ap₂}
+use mathlib.Core.Logic.{_≢_}
+use mathlib.Core.Bool.{Bool, true, false, cond, not, _&&_, _||_, true≢false}
 use mathlib.Core.List.{List, [], _∷_}
 use native.Mathlib.Omega.{arith}
-use lib.Dec.{eqb}
-use borrow.Author.Tests.{eqb-true, ne-eqb}
+use lib.Dec.{ltb, leb}
+use borrow.Author.Tests.{ltb-true, not-false}
 use Rattle.calls.specs.declared.Call.{Call}
 use Rattle.calls.specs.declared.Call.the-variants.{Join, Setting, Interruption, Amount, Mark, Rates, Index}
-use Rattle.calls.specs.Limits.{years, figureCount}
-use Rattle.calls.specs.Call.{Entry, yearOf, secondsOf, outcome, isCounted, countedEntries, amountEntries, entries}
-use Rattle.ledger.specs.Table.{some}
-use Rattle.history.specs.History.{summed, summedAll}
-use Rattle.calls.proofs.Flags.{and-left, and-right, and-false-right}
+use Rattle.calls.specs.Limits.{operators, years, figureCount}
+use Rattle.calls.specs.Answers.{Acceptance, counted-in, left-out-as-short, left-out-under}
+use Rattle.calls.specs.Call.{named, Entry, yearOf, secondsOf, outcome, interruptionEntries, entries}
+use Rattle.ledger.specs.Table.{isUnknown, lacksOperator, some}
 use Rattle.calls.proofs.RangeLaws.{Ranges}
 
 -- what holds of every entry of a list
@@ -23,45 +22,85 @@ All P [] = Unit {0}
 All P (entry ∷ rest) = P entry × All P rest
 
 -- an entry within the book
-abbrev pub Within : Entry → Type 0
-Within entry = (entry .year < years) × (entry .figure < figureCount)
+pub record Within (entry : Entry) : Type 0 where
+  pub operator-lt : entry .operator < operators
+  pub year-lt : entry .year < years
+  pub figure-lt : entry .figure < figureCount
+  pub sign-le : entry .sign ≤ 1
 
 -- no figure has two entries
 abbrev pub Distinct : List Entry → Type 0
 Distinct [] = Unit {0}
 Distinct (entry ∷ rest) = All (λ (other : Entry). other .figure ≢ entry .figure) rest × Distinct rest
 
-counted-within : (t : Bool) (year level weight seconds : ℕ) → year < years → level ≤ 1 → All Within (cond t (countedEntries year level weight seconds) [])
-unfolding countedEntries
-counted-within true year level weight seconds ly ll = ((ly, omega arith), ((ly, omega arith), tt))
-counted-within false year level weight seconds ly ll = tt
+-- an operator that 4 lets pass
+pub known-lt : (operator : ℕ) → not (ltb operator operators) ≡ false → operator < operators
+known-lt operator e = ltb-true operator operators (not-false _ e)
 
-pub entries-within : (call : Call) → Ranges call → All Within (entries call)
-unfolding entries amountEntries
-entries-within (Join operator) r = tt
-entries-within (Setting operator which value) r = tt
-entries-within (Interruption operator sign level cause start end weight) r =
-    counted-within (isCounted (outcome cause (secondsOf start end) (yearOf end))) (yearOf end) level weight (secondsOf start end) (r .2) (r .1)
-entries-within (Amount operator year figure sign value) r = ((r .0, r .1), tt)
-entries-within (Mark operator indicator mark) r = tt
-entries-within (Rates pot cap) r = tt
-entries-within (Index number value) r = tt
+module _ (operator sign level weight seconds year cause : ℕ) where
+  -- what an interruption comes to, by its two tests
+  abbrev judged : Bool → Bool → Acceptance
+  judged short excused = cond short left-out-as-short (cond excused (left-out-under cause) (counted-in year))
 
-counted-distinct : (t : Bool) (year level weight seconds : ℕ) → Distinct (cond t (countedEntries year level weight seconds) [])
-unfolding countedEntries
-counted-distinct true year level weight seconds = (((λ e. omega (arith, e)), tt), (tt, tt))
-counted-distinct false year level weight seconds = tt
+  judged-within : (t u : Bool) → operator < operators → sign ≤ 1 → level ≤ 1 → year < years
+      → All Within (interruptionEntries operator sign level weight seconds (judged t u))
+  unfolding interruptionEntries
+  judged-within true u lo ls ll ly = tt
+  judged-within false true lo ls ll ly = tt
+  judged-within false false lo ls ll ly = (
+    record { operator-lt = lo; year-lt = ly; figure-lt = omega arith; sign-le = ls },
+    (record { operator-lt = lo; year-lt = ly; figure-lt = omega arith; sign-le = ls }, tt),
+  )
+
+  judged-distinct : (t u : Bool) → Distinct (interruptionEntries operator sign level weight seconds (judged t u))
+  unfolding interruptionEntries
+  judged-distinct true u = tt
+  judged-distinct false true = tt
+  judged-distinct false false = (((λ e. omega (arith, e)), tt), (tt, tt))
+
+  judged-joined : (joined : ℕ → Bool) (t u : Bool) → joined operator ≡ true
+      → All (λ (entry : Entry). joined (entry .operator) ≡ true) (interruptionEntries operator sign level weight seconds (judged t u))
+  unfolding interruptionEntries
+  judged-joined joined true u there = tt
+  judged-joined joined false true there = tt
+  judged-joined joined false false there = (there, (there, tt))
+
+pub entries-within : (call : Call) → isUnknown (named call) ≡ false → Ranges call → All Within (entries call)
+unfolding named isUnknown entries outcome
+entries-within (Join operator) known r = tt
+entries-within (Setting operator which value) known r = tt
+entries-within (Interruption operator sign level cause start end weight) known r =
+    judged-within operator sign level weight (secondsOf start end) (yearOf end) cause (leb (secondsOf start end) 180) (leb 1 cause && leb cause 3)
+    (known-lt operator known) (r .0) (r .1) (r .2)
+entries-within (Amount operator year figure sign value) known r =
+    (record { operator-lt = known-lt operator known; year-lt = r .0; figure-lt = r .1; sign-le = r .2 }, tt)
+entries-within (Mark operator indicator mark) known r = tt
+entries-within (Rates pot cap) known r = tt
+entries-within (Index number value) known r = tt
 
 pub entries-distinct : (call : Call) → Distinct (entries call)
-unfolding entries amountEntries
+unfolding entries outcome
 entries-distinct (Join operator) = tt
 entries-distinct (Setting operator which value) = tt
 entries-distinct (Interruption operator sign level cause start end weight) =
-    counted-distinct (isCounted (outcome cause (secondsOf start end) (yearOf end))) (yearOf end) level weight (secondsOf start end)
+    judged-distinct operator sign level weight (secondsOf start end) (yearOf end) cause (leb (secondsOf start end) 180) (leb 1 cause && leb cause 3)
 entries-distinct (Amount operator year figure sign value) = (tt, tt)
 entries-distinct (Mark operator indicator mark) = tt
 entries-distinct (Rates pot cap) = tt
 entries-distinct (Index number value) = tt
+
+pub entries-joined : (joined : ℕ → Bool) (call : Call) → lacksOperator joined (named call) ≡ false
+    → All (λ (entry : Entry). joined (entry .operator) ≡ true) (entries call)
+unfolding named lacksOperator entries outcome
+entries-joined joined (Join operator) there = tt
+entries-joined joined (Setting operator which value) there = tt
+entries-joined joined (Interruption operator sign level cause start end weight) there =
+    judged-joined operator sign level weight (secondsOf start end) (yearOf end) cause joined (leb (secondsOf start end) 180) (leb 1 cause && leb cause 3)
+    (not-false _ there)
+entries-joined joined (Amount operator year figure sign value) there = (not-false _ there, tt)
+entries-joined joined (Mark operator indicator mark) there = tt
+entries-joined joined (Rates pot cap) there = tt
+entries-joined joined (Index number value) there = tt
 
 -- a test that holds of no entry, and two tests that agree at every entry
 none-of : (s t : Bool) → s || t ≡ false → (s ≡ false) × (t ≡ false)
@@ -85,73 +124,6 @@ pub all-map : (P Q : Entry → Type 0) → ((entry : Entry) → P entry → Q en
 all-map P Q f [] all = tt
 all-map P Q f (entry ∷ rest) all = (f entry (all .0), all-map P Q f rest (all .1))
 
--- an entry of the list was added to the sum at a place, or the sum stayed
-pub record Added (P : Entry → Type 0) (operator k y f before now : ℕ) : Type 0 where
-  pub entry : Entry
-  pub held : P entry
-  pub operator-is : k ≡ operator
-  pub year-is : y ≡ entry .year
-  pub figure-is : f ≡ entry .figure
-  pub grown : now ≡ before + entry .value
-
--- whether an entry is one of this place
-abbrev pub here : ℕ → Entry → ℕ → ℕ → ℕ → Bool
-here operator entry k y f = eqb k operator && eqb y (entry .year) && eqb f (entry .figure)
-
-pub at-place : (operator : ℕ) (entry : Entry) (k y f : ℕ) → here operator entry k y f ≡ true
-    → (k ≡ operator) × (y ≡ entry .year) × (f ≡ entry .figure)
-at-place operator entry k y f e =
-    let place : eqb k operator && eqb y (entry .year) ≡ true = and-left _ (eqb f (entry .figure)) e in (
-      eqb-true k _ (and-left _ (eqb y (entry .year)) place),
-      eqb-true y _ (and-right (eqb k operator) _ place),
-      eqb-true f _ (and-right (eqb k operator && eqb y (entry .year)) _ e),
-    )
-
-pub summed-here : (operator : ℕ) (entry : Entry) (old : ℕ → ℕ → ℕ → ℕ) (k y f : ℕ) → here operator entry k y f ≡ true
-    → summed operator entry old k y f ≡ old k y f + entry .value
-unfolding summed
-summed-here operator entry old k y f e = rw e refl
-
-pub summed-elsewhere : (operator : ℕ) (entry : Entry) (old : ℕ → ℕ → ℕ → ℕ) (k y f : ℕ) → here operator entry k y f ≡ false
-    → summed operator entry old k y f ≡ old k y f
-unfolding summed
-summed-elsewhere operator entry old k y f e = rw e refl
-
-elsewhere : (operator : ℕ) (entry : Entry) (k y f : ℕ) → entry .figure ≢ f → here operator entry k y f ≡ false
-elsewhere operator entry k y f ne = rw (ne-eqb f (entry .figure) (λ e. ne (sym e))) (and-false-right (eqb k operator && eqb y (entry .year)))
-
--- entries at other figures leave a sum
-untouched : (operator : ℕ) (list : List Entry) (old : ℕ → ℕ → ℕ → ℕ) (k y f : ℕ)
-    → All (λ (entry : Entry). entry .figure ≢ f) list → summedAll operator list old k y f ≡ old k y f
-unfolding summedAll
-untouched operator [] old k y f all = refl
-untouched operator (entry ∷ rest) old k y f all =
-    untouched operator rest (summed operator entry old) k y f (all .1)
-    ∙ summed-elsewhere operator entry old k y f (elsewhere operator entry k y f (all .0))
-
-pub summing : (P : Entry → Type 0) (operator : ℕ) (list : List Entry) (old : ℕ → ℕ → ℕ → ℕ) (k y f : ℕ) → Distinct list → All P list
-    → (summedAll operator list old k y f ≡ old k y f) ⊎ Added P operator k y f (old k y f) (summedAll operator list old k y f)
-unfolding summedAll
-summing P operator [] old k y f distinct all = inl refl
-summing P operator (entry ∷ rest) old k y f distinct all =
-    go (here operator entry k y f) refl (summing P operator rest (summed operator entry old) k y f (distinct .1) (all .1))
-  where
-    now : ℕ
-    now = summedAll operator rest (summed operator entry old) k y f
-
-    go : (t : Bool) → here operator entry k y f ≡ t
-        → (now ≡ summed operator entry old k y f) ⊎ Added P operator k y f (summed operator entry old k y f) now
-        → (now ≡ old k y f) ⊎ Added P operator k y f (old k y f) now
-    go true e later =
-        let (operator-is, year-is, figure-is) = at-place operator entry k y f e in
-        inr
-        record {
-          entry = entry;
-          held = all .0;
-          operator-is = operator-is;
-          year-is = year-is;
-          figure-is = figure-is;
-          grown =
-              untouched operator rest (summed operator entry old) k y f (rw (← figure-is) at (distinct .0)) ∙ summed-here operator entry old k y f e;
-        }
-    go false e later = rw (summed-elsewhere operator entry old k y f e) at later
+pub all-both : (P Q : Entry → Type 0) (list : List Entry) → All P list → All Q list → All (λ (entry : Entry). P entry × Q entry) list
+all-both P Q [] all also = tt
+all-both P Q (entry ∷ rest) all also = ((all .0, also .0), all-both P Q rest (all .1) (also .1))

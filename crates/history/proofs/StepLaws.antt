@@ -1,62 +1,71 @@
 -- What one accepted call does to what a book holds is what it does to the history.
 -- Assumes nothing.
-use Prim.Native.Nat.{ℕ, _+_, _-_, _<_}
-use mathlib.Core.Path.{_≡_, refl, ap, _∙_}
-use mathlib.Core.Bool.{Bool, true, false, cond, _&&_, false≢true}
+use Prim.Native.Nat.{ℕ, _+_, _-_, _≤_, _<_}
+use mathlib.Core.Path.{_≡_, refl, sym, ap, _∙_}
+use mathlib.Core.Logic.{_≢_}
+use mathlib.Core.Bool.{Bool, true, false, cond, _&&_}
 use mathlib.Core.List.{List, [], _∷_}
-use native.Mathlib.Nat.{le-trans}
 use native.Mathlib.Omega.{arith}
 use lib.Dec.{eqb}
 use lib.ListN.{getD, set}
-use borrow.Author.Tests.{eqb-true}
+use borrow.Author.Tests.{eqb-true, eqb-false, eq-eqb, ne-eqb, not-false}
 use Rattle.book.specs.declared.Book.{Book}
 use Rattle.calls.specs.declared.Call.{Call}
 use Rattle.calls.specs.declared.Call.the-variants.{Join, Setting, Interruption, Amount, Mark, Rates, Index}
-use Rattle.calls.specs.Limits.{operators, years, figureCount, settingCount, indicatorCount, indexCount}
-use Rattle.calls.specs.Masks.{has, including, excluding}
-use Rattle.book.specs.Book.{isJoined, isMarked, settingOf, figureOf, indexOf, settingSlot, figureSlot}
-use Rattle.calls.specs.Call.{Entry, operatorOf}
+use Rattle.calls.specs.Limits.{operators, years, figureCount, settingCount, indicatorCount, indexCount, figureLimit}
+use Rattle.calls.specs.Masks.{has, including, excluding, remasked}
+use Rattle.calls.specs.Held.{Same}
+use Rattle.calls.specs.Call.{named, Entry, entries}
+use Rattle.book.specs.Book.{isJoined, isMarked, settingOf, figureOf, indexOf, heldBy, settingSlot, figureSlot}
+use Rattle.ledger.specs.Table.{isUnknown, lacksOperator, totalAt}
 use Rattle.ledger.specs.Calls.{withJoined, withMarks, withSettings, withFigures, withRates, withIndices, entered, enterAll, changed}
-use Rattle.calls.specs.Masks.{remasked}
-use Rattle.history.specs.History.{History, total, at1, at2, summedAll, enteredIn, recorded}
-use Rattle.history.specs.Demand.{Holds}
-use Rattle.calls.proofs.Flags.{and-true-right, and-false-right}
+use Rattle.history.specs.History.{History, total, heldIn, at1, at2, summed, withEntry, withEntries, recorded}
+use Rattle.calls.proofs.Flags.{and-left, and-right, and-true-right, and-false-right}
 use Rattle.calls.proofs.MaskLaws.{including-has, excluding-has}
+use Rattle.book.proofs.Bounds.{Bounds}
 use Rattle.book.proofs.SlotLaws.{stored, setting-slot-lt, figure-slot-lt, same-setting-slot, same-figure-slot}
-use Rattle.calls.proofs.RangeLaws.{Ranges}
-use Rattle.history.proofs.EntryLaws.{All, Within, here, at-place, summed-here, summed-elsewhere, entries-within}
-use Rattle.history.proofs.HistoryLaws.{AllCovered, summed-grows}
-use Rattle.history.proofs.ShapeLaws.{Shaped, entered-shaped}
+use Rattle.history.proofs.EntryLaws.{All, Within, Distinct, known-lt, entries-distinct}
+use Rattle.history.proofs.TableLaws.{Passed, Enters, call-enters}
+use Rattle.history.proofs.BoundsKept.{join-bounds, setting-bounds, mark-bounds, rates-bounds, index-bounds, entry-bounds}
 
-module _ (b : Book) (h : History) (shape : Shaped b) (held : Holds b h) where
-  join-holds : (operator : ℕ) → Holds (changed b (Join operator)) (recorded h (Join operator))
+abbrev pub AllCovered : History → Type 0
+AllCovered h = (operator year figure : ℕ) → h .withdrawn operator year figure ≤ h .filed operator year figure
+
+-- what a book and a history keep from call to call
+pub record Agrees (b : Book) (h : History) : Type 0 where
+  pub bounds : Bounds b
+  pub held : Same (heldBy b) (heldIn h)
+  pub covered : AllCovered h
+
+module _ (b : Book) (h : History) (bounds : Bounds b) (held : Same (heldBy b) (heldIn h)) where
+  join-holds : (operator : ℕ) → Same (heldBy (changed b (Join operator))) (heldIn (recorded h (Join operator)))
   unfolding changed recorded withJoined isJoined isMarked settingOf figureOf indexOf total at1
   join-holds operator =
       record {
         joined = λ o lt. including-has (b .joined) operator o ∙ ap (cond (eqb o operator) true) (held .joined o lt);
         setting = held .setting;
         mark = held .mark;
-        pot = held .pot;
-        cap = held .cap;
+        pot-rate = held .pot-rate;
+        cap-rate = held .cap-rate;
         index = held .index;
-        totals = held .totals;
+        total = held .total;
       }
 
   setting-holds : (operator which value : ℕ) → operator < operators → which < settingCount
-      → Holds (changed b (Setting operator which value)) (recorded h (Setting operator which value))
+      → Same (heldBy (changed b (Setting operator which value))) (heldIn (recorded h (Setting operator which value)))
   unfolding changed recorded withSettings isJoined isMarked settingOf figureOf indexOf total at2
   setting-holds operator which value lo lw =
       record {
         joined = held .joined;
         setting =
             λ o w lt lt′.
-            stored (b .settings) (settingSlot operator which) value (settingSlot o w) (rw (shape .settings-long) (setting-slot-lt operator which lo lw))
+            stored (b .settings) (settingSlot operator which) value (settingSlot o w) (rw (bounds .settings-long) (setting-slot-lt operator which lo lw))
             ∙ rw (same-setting-slot o w operator which lt′ lw) (ap (cond (eqb o operator && eqb w which) value) (held .setting o w lt lt′));
         mark = held .mark;
-        pot = held .pot;
-        cap = held .cap;
+        pot-rate = held .pot-rate;
+        cap-rate = held .cap-rate;
         index = held .index;
-        totals = held .totals;
+        total = held .total;
       }
 
   -- the mask of an indicator, with an operator in or out
@@ -64,7 +73,7 @@ module _ (b : Book) (h : History) (shape : Shaped b) (held : Holds b h) where
       → has (getD (set (b .marks) indicator (remasked (getD (b .marks) indicator 0) operator mark)) i 0) o ≡ at2 operator indicator (eqb mark 1) (isMarked b) o i
   unfolding remasked isMarked at2
   remasked-has operator indicator mark li o i =
-      ap (λ (m : ℕ). has m o) (stored (b .marks) indicator _ i (rw (shape .marks-long) li)) ∙ go (eqb i indicator) (eqb mark 1) refl
+      ap (λ (m : ℕ). has m o) (stored (b .marks) indicator _ i (rw (bounds .marks-long) li)) ∙ go (eqb i indicator) (eqb mark 1) refl
     where
       old : ℕ
       old = getD (b .marks) indicator 0
@@ -80,7 +89,7 @@ module _ (b : Book) (h : History) (shape : Shaped b) (held : Holds b h) where
       go false t e = rw and-false-right refl
 
   mark-holds : (operator indicator mark : ℕ) → indicator < indicatorCount
-      → Holds (changed b (Mark operator indicator mark)) (recorded h (Mark operator indicator mark))
+      → Same (heldBy (changed b (Mark operator indicator mark))) (heldIn (recorded h (Mark operator indicator mark)))
   unfolding changed recorded withMarks isJoined isMarked settingOf figureOf indexOf total at2
   mark-holds operator indicator mark li =
       record {
@@ -89,136 +98,220 @@ module _ (b : Book) (h : History) (shape : Shaped b) (held : Holds b h) where
         mark =
             λ o i lt lt′.
             remasked-has operator indicator mark li o i ∙ ap (cond (eqb o operator && eqb i indicator) (eqb mark 1)) (held .mark o i lt lt′);
-        pot = held .pot;
-        cap = held .cap;
+        pot-rate = held .pot-rate;
+        cap-rate = held .cap-rate;
         index = held .index;
-        totals = held .totals;
+        total = held .total;
       }
 
-  rates-holds : (pot cap : ℕ) → Holds (changed b (Rates pot cap)) (recorded h (Rates pot cap))
+  rates-holds : (pot cap : ℕ) → Same (heldBy (changed b (Rates pot cap))) (heldIn (recorded h (Rates pot cap)))
   unfolding changed recorded withRates isJoined isMarked settingOf figureOf indexOf total
   rates-holds pot cap =
       record {
         joined = held .joined;
         setting = held .setting;
         mark = held .mark;
-        pot = refl;
-        cap = refl;
+        pot-rate = refl;
+        cap-rate = refl;
         index = held .index;
-        totals = held .totals;
+        total = held .total;
       }
 
-  index-holds : (number value : ℕ) → number < indexCount → Holds (changed b (Index number value)) (recorded h (Index number value))
+  index-holds : (number value : ℕ) → number < indexCount → Same (heldBy (changed b (Index number value))) (heldIn (recorded h (Index number value)))
   unfolding changed recorded withIndices isJoined isMarked settingOf figureOf indexOf total at1
   index-holds number value ln =
       record {
         joined = held .joined;
         setting = held .setting;
         mark = held .mark;
-        pot = held .pot;
-        cap = held .cap;
+        pot-rate = held .pot-rate;
+        cap-rate = held .cap-rate;
         index =
             λ n lt.
-            stored (b .indices) number value n (rw (shape .indices-long) ln) ∙ ap (cond (eqb n number) value) (held .index n lt);
-        totals = held .totals;
+            stored (b .indices) number value n (rw (bounds .indices-long) ln) ∙ ap (cond (eqb n number) value) (held .index n lt);
+        total = held .total;
       }
 
--- entries with sign 0, where t is true, go to the filed sums, else to the withdrawn ones
-abbrev moved : Bool → ℕ → List Entry → History → History
-moved t operator list h =
-    record {
-      joined = h .joined;
-      setting = h .setting;
-      mark = h .mark;
-      pot = h .pot;
-      cap = h .cap;
-      index = h .index;
-      filed = cond t (summedAll operator list (h .filed)) (h .filed);
-      withdrawn = cond t (h .withdrawn) (summedAll operator list (h .withdrawn));
-    }
+-- whether an entry is one of this place
+abbrev here : Entry → ℕ → ℕ → ℕ → Bool
+here entry k y f = eqb k (entry .operator) && eqb y (entry .year) && eqb f (entry .figure)
 
--- to file needs no more withdrawn than filed
-abbrev Backed : Bool → History → Type 0
-Backed t h = t ≡ true → AllCovered h
+at-place : (entry : Entry) (k y f : ℕ) → here entry k y f ≡ true → (k ≡ entry .operator) × (y ≡ entry .year) × (f ≡ entry .figure)
+at-place entry k y f e =
+    let place : eqb k (entry .operator) && eqb y (entry .year) ≡ true = and-left _ (eqb f (entry .figure)) e in (
+      eqb-true k _ (and-left _ (eqb y (entry .year)) place),
+      eqb-true y _ (and-right (eqb k (entry .operator)) _ place),
+      eqb-true f _ (and-right (eqb k (entry .operator) && eqb y (entry .year)) _ e),
+    )
 
-module _ (operator sign : ℕ) (lo : operator < operators) where
-  -- a figure after an entry
-  entered-figure : (b : Book) (entry : Entry) → Shaped b → Within entry → (o y f : ℕ) → y < years → f < figureCount
-      → figureOf (entered operator sign b entry) o y f
-      ≡ cond (here operator entry o y f)
-      (cond (eqb sign 0)
-      (figureOf b operator (entry .year) (entry .figure) + entry .value)
-      (figureOf b operator (entry .year) (entry .figure) - entry .value))
+-- one entry
+module _ (b : Book) (h : History) (now : Agrees b h) (entry : Entry) (enters : Enters (h .joined) (total h) entry) where
+  abbrev w : Within entry
+  w = enters .within
+
+  held-here : (o y f : ℕ) → here entry o y f ≡ true → totalAt (total h) entry ≡ h .filed o y f - h .withdrawn o y f
+  unfolding total
+  held-here o y f e =
+      let (operator-is, year-is, figure-is) = at-place entry o y f e in
+      rw (operator-is, year-is, figure-is) refl
+
+  -- the history's total after it
+  entry-total : (o y f : ℕ) (t u : Bool) → eqb (entry .sign) 0 ≡ t → here entry o y f ≡ u
+      → cond u (cond t (totalAt (total h) entry + entry .value) (totalAt (total h) entry - entry .value)) (total h o y f)
+      ≡ cond t (cond u (h .filed o y f + entry .value) (h .filed o y f)) (h .filed o y f)
+      - cond t (h .withdrawn o y f) (cond u (h .withdrawn o y f + entry .value) (h .withdrawn o y f))
+  unfolding total
+  entry-total o y f true true s e = omega (arith, held-here o y f e, now .covered o y f)
+  entry-total o y f false true s e = omega (arith, held-here o y f e)
+  entry-total o y f true false s e = refl
+  entry-total o y f false false s e = refl
+
+  summed-total : (o y f : ℕ) → total (withEntry h entry) o y f
+      ≡ cond (here entry o y f)
+      (cond (eqb (entry .sign) 0) (totalAt (total h) entry + entry .value) (totalAt (total h) entry - entry .value))
+      (total h o y f)
+  unfolding total withEntry summed
+  summed-total o y f = sym (go (eqb (entry .sign) 0)) ∙ sym (entry-total o y f (eqb (entry .sign) 0) (here entry o y f) refl refl)
+    where
+      go : (t : Bool)
+          → cond t (cond (here entry o y f) (h .filed o y f + entry .value) (h .filed o y f)) (h .filed o y f)
+          - cond t (h .withdrawn o y f) (cond (here entry o y f) (h .withdrawn o y f + entry .value) (h .withdrawn o y f))
+          ≡ cond t (summed entry (h .filed)) (h .filed) o y f - cond t (h .withdrawn) (summed entry (h .withdrawn)) o y f
+      go true = refl
+      go false = refl
+
+  -- the book's figure is the history's total
+  figure-is : figureOf b (entry .operator) (entry .year) (entry .figure) ≡ totalAt (total h) entry
+  figure-is = now .held .total _ _ _ (w .operator-lt) (w .year-lt) (w .figure-lt)
+
+  enters-book : Enters (isJoined b) (figureOf b) entry
+  enters-book =
+      record {
+        within = w;
+        there = now .held .joined _ (w .operator-lt) ∙ enters .there;
+        fits = λ filed. rw figure-is (enters .fits filed);
+        covers = λ withdrawn. rw figure-is (enters .covers withdrawn);
+      }
+
+  -- the book's figure after it
+  entered-figure : (o y f : ℕ) → y < years → f < figureCount
+      → figureOf (entered b entry) o y f
+      ≡ cond (here entry o y f)
+      (cond (eqb (entry .sign) 0)
+      (figureOf b (entry .operator) (entry .year) (entry .figure) + entry .value)
+      (figureOf b (entry .operator) (entry .year) (entry .figure) - entry .value))
       (figureOf b o y f)
   unfolding entered withFigures figureOf
-  entered-figure b entry shape within o y f ly lf =
-      stored (b .figures) (figureSlot operator (entry .year) (entry .figure)) _ (figureSlot o y f)
-      (rw (shape .figures-long) (figure-slot-lt operator (entry .year) (entry .figure) lo (within .0) (within .1)))
-      ∙ rw (same-figure-slot o y f operator (entry .year) (entry .figure) ly lf (within .0) (within .1)) refl
+  entered-figure o y f ly lf =
+      stored (b .figures) (figureSlot (entry .operator) (entry .year) (entry .figure)) _ (figureSlot o y f)
+      (rw (now .bounds .figures-long) (figure-slot-lt (entry .operator) (entry .year) (entry .figure) (w .operator-lt) (w .year-lt) (w .figure-lt)))
+      ∙ rw (same-figure-slot o y f (entry .operator) (entry .year) (entry .figure) ly lf (w .year-lt) (w .figure-lt)) refl
 
-  module _ (b : Book) (h : History) (entry : Entry) (shape : Shaped b) (held : Holds b h) (within : Within entry) where
-    entry-place : (o y f : ℕ) → here operator entry o y f ≡ true
-        → figureOf b operator (entry .year) (entry .figure) ≡ h .filed o y f - h .withdrawn o y f
-    unfolding total
-    entry-place o y f e =
-        let (operator-is, year-is, figure-is) = at-place operator entry o y f e in
-        rw (operator-is, year-is, figure-is) (held .totals operator (entry .year) (entry .figure) lo (within .0) (within .1))
+  entry-holds : Same (heldBy (entered b entry)) (heldIn (withEntry h entry))
+  unfolding entered withFigures withEntry isJoined isMarked settingOf indexOf
+  entry-holds =
+      record {
+        joined = now .held .joined;
+        setting = now .held .setting;
+        mark = now .held .mark;
+        pot-rate = now .held .pot-rate;
+        cap-rate = now .held .cap-rate;
+        index = now .held .index;
+        total = λ o y f lo ly lf.
+            entered-figure o y f ly lf ∙ rw (figure-is, now .held .total o y f lo ly lf) (sym (summed-total o y f));
+      }
 
-    entry-total : (t : Bool) → Backed t h → (o y f : ℕ) → o < operators → y < years → f < figureCount → (u : Bool) → here operator entry o y f ≡ u
-        → cond u
-        (cond t
-        (figureOf b operator (entry .year) (entry .figure) + entry .value)
-        (figureOf b operator (entry .year) (entry .figure) - entry .value))
-        (figureOf b o y f)
-        ≡ total (moved t operator (entry ∷ []) h) o y f
-    unfolding total summedAll
-    entry-total true backed o y f lto ly lf true e =
-        rw (summed-here operator entry (h .filed) o y f e) (omega (arith, entry-place o y f e, backed refl o y f))
-    entry-total false backed o y f lto ly lf true e =
-        rw (summed-here operator entry (h .withdrawn) o y f e) (omega (arith, entry-place o y f e))
-    entry-total true backed o y f lto ly lf false e = rw (summed-elsewhere operator entry (h .filed) o y f e) (held .totals o y f lto ly lf)
-    entry-total false backed o y f lto ly lf false e = rw (summed-elsewhere operator entry (h .withdrawn) o y f e) (held .totals o y f lto ly lf)
+  -- what is withdrawn has been filed
+  entry-covered : AllCovered (withEntry h entry)
+  unfolding withEntry summed total
+  entry-covered o y f = go (eqb (entry .sign) 0) (here entry o y f) refl refl
+    where
+      go : (t u : Bool) → eqb (entry .sign) 0 ≡ t → here entry o y f ≡ u
+          → cond t (h .withdrawn) (λ k x g. cond (here entry k x g) (h .withdrawn k x g + entry .value) (h .withdrawn k x g)) o y f
+          ≤ cond t (λ k x g. cond (here entry k x g) (h .filed k x g + entry .value) (h .filed k x g)) (h .filed) o y f
+      go true true s e = rw e (omega (arith, now .covered o y f))
+      go true false s e = rw e (now .covered o y f)
+      go false true s e =
+          let one : eqb (entry .sign) 1 ≡ true = eq-eqb (entry .sign) 1 (omega (arith, w .sign-le, eqb-false (entry .sign) 0 s)) in
+          rw e (omega (arith, enters .covers one, held-here o y f e, now .covered o y f))
+      go false false s e = rw e (now .covered o y f)
 
-    entry-holds : (t : Bool) → eqb sign 0 ≡ t → Backed t h → Holds (entered operator sign b entry) (moved t operator (entry ∷ []) h)
-    unfolding entered withFigures isJoined isMarked settingOf indexOf
-    entry-holds t e backed =
-        record {
-          joined = held .joined;
-          setting = held .setting;
-          mark = held .mark;
-          pot = held .pot;
-          cap = held .cap;
-          index = held .index;
-          totals = λ o y f lto ly lf. entered-figure b entry shape within o y f ly lf ∙ rw e (entry-total t backed o y f lto ly lf _ refl);
-        }
+  entry-agrees : Agrees (entered b entry) (withEntry h entry)
+  entry-agrees = record { bounds = entry-bounds b (now .bounds) entry enters-book; held = entry-holds; covered = entry-covered }
 
-    entry-backed : (t : Bool) → Backed t h → Backed t (moved t operator (entry ∷ []) h)
-    unfolding summedAll
-    entry-backed true backed e k y f = le-trans (backed refl k y f) (summed-grows operator entry (h .filed) k y f)
-    entry-backed false backed e k y f = absurd (false≢true e)
+  -- entries at other figures can be made as before
+  still-total : (other : Entry) → other .figure ≢ entry .figure → totalAt (total (withEntry h entry)) other ≡ totalAt (total h) other
+  still-total other apart =
+      summed-total (other .operator) (other .year) (other .figure)
+      ∙ rw (ne-eqb (other .figure) (entry .figure) apart, and-false-right) refl
 
-  entries-hold : (t : Bool) → eqb sign 0 ≡ t → (b : Book) (h : History) (list : List Entry) → All Within list → Shaped b → Backed t h → Holds b h
-      → Holds (enterAll operator sign b list) (moved t operator list h)
-  unfolding enterAll summedAll
-  entries-hold true e b h [] within shape backed held = held
-  entries-hold false e b h [] within shape backed held = held
-  entries-hold true e b h (entry ∷ rest) within shape backed held =
-      entries-hold true e _ _ rest (within .1) (entered-shaped b shape operator sign entry) (entry-backed b h entry shape held (within .0) true backed)
-      (entry-holds b h entry shape held (within .0) true e backed)
-  entries-hold false e b h (entry ∷ rest) within shape backed held =
-      entries-hold false e _ _ rest (within .1) (entered-shaped b shape operator sign entry) (entry-backed b h entry shape held (within .0) false backed)
-      (entry-holds b h entry shape held (within .0) false e backed)
+  still-enters : (other : Entry) → other .figure ≢ entry .figure → Enters (h .joined) (total h) other
+      → Enters (withEntry h entry .joined) (total (withEntry h entry)) other
+  unfolding withEntry
+  still-enters other apart before =
+      record {
+        within = before .within;
+        there = before .there;
+        fits = λ filed. rw (still-total other apart) (before .fits filed);
+        covers = λ withdrawn. rw (still-total other apart) (before .covers withdrawn);
+      }
+
+  all-still-enter : (list : List Entry) → All (λ (other : Entry). other .figure ≢ entry .figure) list → All (Enters (h .joined) (total h)) list
+      → All (Enters (withEntry h entry .joined) (total (withEntry h entry))) list
+  all-still-enter [] apart all = tt
+  all-still-enter (other ∷ rest) apart all = (still-enters other (apart .0) (all .0), all-still-enter rest (apart .1) (all .1))
+
+-- the entries of a call
+entries-agree : (list : List Entry) (b : Book) (h : History) → Agrees b h → Distinct list → All (Enters (h .joined) (total h)) list
+    → Agrees (enterAll b list) (withEntries h list)
+unfolding enterAll withEntries
+entries-agree [] b h now distinct all = now
+entries-agree (entry ∷ rest) b h now distinct all =
+    entries-agree rest (entered b entry) (withEntry h entry) (entry-agrees b h now entry (all .0)) (distinct .1)
+    (all-still-enter b h now entry (all .0) rest (distinct .0) (all .1))
 
 -- an accepted call
-pub changed-holds : (b : Book) (h : History) (call : Call) → Shaped b → Holds b h → AllCovered h → operatorOf call < operators → Ranges call
-    → Holds (changed b call) (recorded h call)
-unfolding changed recorded enteredIn operatorOf
-changed-holds b h (Join operator) shape held covered lt r = join-holds b h shape held operator
-changed-holds b h (Setting operator which value) shape held covered lt r = setting-holds b h shape held operator which value lt (r .0)
-changed-holds b h (Interruption operator sign level cause start end weight) shape held covered lt r =
-    entries-hold operator sign lt _ refl b h _ (entries-within (Interruption operator sign level cause start end weight) r) shape (λ e. covered) held
-changed-holds b h (Amount operator year figure sign value) shape held covered lt r =
-    entries-hold operator sign lt _ refl b h _ (entries-within (Amount operator year figure sign value) r) shape (λ e. covered) held
-changed-holds b h (Mark operator indicator mark) shape held covered lt r = mark-holds b h shape held operator indicator mark (r .0)
-changed-holds b h (Rates pot cap) shape held covered lt r = rates-holds b h shape held pot cap
-changed-holds b h (Index number value) shape held covered lt r = index-holds b h shape held number value (r .0)
+module _ (b : Book) (h : History) (now : Agrees b h) where
+  member-joined : (operator : ℕ) → operator < operators → h .joined operator ≡ true → isJoined b operator ≡ true
+  member-joined operator lt there = now .held .joined operator lt ∙ there
+
+  pub changed-agrees : (call : Call) → Passed (h .joined) (total h) call → Agrees (changed b call) (recorded h call)
+  unfolding named isUnknown lacksOperator changed recorded
+  changed-agrees (Join operator) passed =
+      record {
+        bounds = join-bounds b (now .bounds) operator (known-lt operator (passed .known));
+        held = join-holds b h (now .bounds) (now .held) operator;
+        covered = now .covered;
+      }
+  changed-agrees (Setting operator which value) passed =
+      let lt = known-lt operator (passed .known) in
+      record {
+        bounds = setting-bounds b (now .bounds) operator which value (member-joined operator lt (not-false _ (passed .present))) (passed .in-range .0) (passed .in-range .1);
+        held = setting-holds b h (now .bounds) (now .held) operator which value lt (passed .in-range .0);
+        covered = now .covered;
+      }
+  changed-agrees (Interruption operator sign level cause start end weight) passed =
+      let call : Call = Interruption operator sign level cause start end weight in
+      entries-agree (entries call) b h now (entries-distinct call) (call-enters (h .joined) (total h) call passed)
+  changed-agrees (Amount operator year figure sign value) passed =
+      let call : Call = Amount operator year figure sign value in
+      entries-agree (entries call) b h now (entries-distinct call) (call-enters (h .joined) (total h) call passed)
+  changed-agrees (Mark operator indicator mark) passed =
+      let lt = known-lt operator (passed .known) in
+      record {
+        bounds = mark-bounds b (now .bounds) operator indicator mark lt (member-joined operator lt (not-false _ (passed .present))) (passed .in-range .0);
+        held = mark-holds b h (now .bounds) (now .held) operator indicator mark (passed .in-range .0);
+        covered = now .covered;
+      }
+  changed-agrees (Rates pot cap) passed =
+      record {
+        bounds = rates-bounds b (now .bounds) pot cap (passed .in-range .0) (passed .in-range .1);
+        held = rates-holds b h (now .bounds) (now .held) pot cap;
+        covered = now .covered;
+      }
+  changed-agrees (Index number value) passed =
+      record {
+        bounds = index-bounds b (now .bounds) number value (passed .in-range .1) (passed .in-range .2);
+        held = index-holds b h (now .bounds) (now .held) number value (passed .in-range .0);
+        covered = now .covered;
+      }

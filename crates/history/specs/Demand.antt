@@ -1,17 +1,17 @@
 -- The first half of demand 3, over every list of filing calls from a fresh book; and that a call keeps a book in range. Proofs:
--- proofs/Kept.antt, proofs/RangeKept.antt.
+-- proofs/Kept.antt.
 -- Assumes nothing.
-use Prim.Native.Nat.{ℕ, _≤_, _<_}
+use Prim.Native.Nat.{ℕ, _≤_}
 use mathlib.Core.Path.{_≡_}
 use mathlib.Core.Logic.{_↔_}
 use mathlib.Core.Bool.{true}
 use mathlib.Core.List.{List}
 use Rattle.book.specs.declared.Book.{Book}
 use Rattle.calls.specs.declared.Call.{Call}
-use Rattle.calls.specs.Limits.{operators, years, figures, settings, indicators, indexNumbers}
-use Rattle.book.specs.Book.{freshBook, isJoined, isMarked, settingOf, figureOf, indexOf, inRange}
+use Rattle.calls.specs.Held.{Same}
+use Rattle.book.specs.Book.{freshBook, heldBy, inRange}
 use Rattle.ledger.specs.Calls.{apply, filedBook, filedAnswers}
-use Rattle.history.specs.History.{History, plain, total, notedHistory, notedAnswers, Same}
+use Rattle.history.specs.History.{History, plain, heldIn, notedHistory, notedAnswers}
 
 -- a call keeps any book in range, not only those that lists of calls leave
 abbrev pub StaysInRange : Book → Call → Type 0
@@ -24,23 +24,12 @@ bookOf calls = filedBook freshBook calls
 abbrev pub historyOf : List Call → History
 historyOf calls = notedHistory plain calls
 
--- a book holds exactly what a history holds
-pub record Holds (b : Book) (h : History) : Type 0 where
-  pub joined : (operator : ℕ) → operator < operators → isJoined b operator ≡ h .joined operator
-  pub setting : (operator which : ℕ) → operator < operators → which < settings → settingOf b operator which ≡ h .setting operator which
-  pub mark : (operator indicator : ℕ) → operator < operators → indicator < indicators → isMarked b operator indicator ≡ h .mark operator indicator
-  pub pot : b .pot ≡ h .pot
-  pub cap : b .cap ≡ h .cap
-  pub index : (number : ℕ) → number < indexNumbers → indexOf b number ≡ h .index number
-  pub totals : (operator year figure : ℕ) → operator < operators → year < years → figure < figures
-      → figureOf b operator year figure ≡ total h operator year figure
-
 -- for every list of calls, refused ones included
 pub record Kept (calls : List Call) : Type 0 where
   -- the answers are the history's
   pub answers : filedAnswers freshBook calls ≡ notedAnswers plain calls
   -- the final book holds exactly the history's operators, settings, marks, rates, indices and totals
-  pub held : Holds (bookOf calls) (historyOf calls)
+  pub held : Same (heldBy (bookOf calls)) (heldIn (historyOf calls))
   -- no figure has more withdrawn than filed, so that its total is their difference
   pub covered : (operator year figure : ℕ) → historyOf calls .withdrawn operator year figure ≤ historyOf calls .filed operator year figure
   -- the final book is in range, so no call was answered by the book's own 5
@@ -48,4 +37,4 @@ pub record Kept (calls : List Call) : Type 0 where
 
 -- for every two lists the final books are equal exactly when the histories are the same
 abbrev pub EqualAsHistories : List Call → List Call → Type 0
-EqualAsHistories calls others = (bookOf calls ≡ bookOf others) ↔ Same (historyOf calls) (historyOf others)
+EqualAsHistories calls others = (bookOf calls ≡ bookOf others) ↔ Same (heldIn (historyOf calls)) (heldIn (historyOf others))

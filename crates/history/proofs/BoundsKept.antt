@@ -1,0 +1,205 @@
+-- Each change of a book in range leaves a book in range: the values that stay, and the one that moves.
+-- Assumes nothing.
+use Prim.Native.Nat.{ℕ, _+_, _-_, _^_, _≤_, _<_}
+use mathlib.Core.Path.{_≡_, refl, _∙_}
+use mathlib.Core.Logic.{_≢_}
+use mathlib.Core.Bool.{Bool, true, false, cond}
+use native.Mathlib.Omega.{arith}
+use native.Mathlib.Decide.{ℕ-discrete}
+use lib.Dec.{eqb}
+use lib.ListN.{getD, length-set}
+use Rattle.book.specs.declared.Book.{Book}
+use Rattle.calls.specs.declared.Call.the-variants.{Join, Setting, Mark, Rates, Index}
+use Rattle.calls.specs.Limits.{operators, settingCount, indicatorCount, settingLimit, figureLimit, rateLimit, indexLeast, indexMost}
+use Rattle.calls.specs.Masks.{has, including, excluding, remasked}
+use Rattle.calls.specs.Call.{Entry}
+use Rattle.book.specs.Book.{isJoined, isMarked, settingOf, figureOf, indexOf, settingSlot, figureSlot, most}
+use Rattle.ledger.specs.Calls.{withJoined, withMarks, withSettings, withFigures, withRates, withIndices, entered, changed}
+use Rattle.calls.proofs.MaskLaws.{including-has, including-other, including-lt, excluding-other, excluding-le}
+use Rattle.book.proofs.Bounds.{Bounds}
+use Rattle.book.proofs.SlotLaws.{store-holds}
+use Rattle.history.proofs.EntryLaws.{Within}
+use Rattle.history.proofs.TableLaws.{Enters}
+
+-- the mark of one operator leaves the others'
+remasked-other : (mask operator mark o : ℕ) → o ≢ operator → has (remasked mask operator mark) o ≡ has mask o
+unfolding remasked
+remasked-other mask operator mark o other = go (eqb mark 1)
+  where
+    go : (t : Bool) → has (cond t (including mask operator) (excluding mask operator)) o ≡ has mask o
+    go true = including-other mask operator o other
+    go false = excluding-other mask operator o other
+
+remasked-lt : (mask operator mark : ℕ) → operator < operators → mask < 2 ^ 16 → remasked mask operator mark < 2 ^ 16
+unfolding remasked
+remasked-lt mask operator mark lo small = go (eqb mark 1)
+  where
+    go : (t : Bool) → cond t (including mask operator) (excluding mask operator) < 2 ^ 16
+    go true = including-lt mask operator 16 small lo
+    go false = omega (arith, excluding-le mask operator, small)
+
+-- a mask with a number more has what it had
+including-keeps : (mask operator o : ℕ) → has mask o ≡ true → has (including mask operator) o ≡ true
+including-keeps mask operator o held = rw (including-has mask operator o, held) (go (eqb o operator))
+  where
+    go : (t : Bool) → cond t true true ≡ true
+    go true = refl
+    go false = refl
+
+-- an operator more lets no value out of its range
+allowed : (n limit : ℕ) (before now : Bool) → (before ≡ true → now ≡ true) → n ≤ cond before limit 0 → n ≤ cond now limit 0
+allowed n limit true now still le = rw (still refl) le
+allowed n limit false true still le = omega arith
+allowed n limit false false still le = le
+
+-- what a joined operator may hold
+most-joined : (b : Book) (operator limit n : ℕ) → isJoined b operator ≡ true → n ≤ limit → n ≤ most b operator limit
+unfolding most
+most-joined b operator limit n joined le = rw joined le
+
+module _ (b : Book) (bounds : Bounds b) where
+  pub join-bounds : (operator : ℕ) → operator < operators → Bounds (changed b (Join operator))
+  unfolding changed withJoined settingOf figureOf isMarked indexOf isJoined most
+  join-bounds operator lo =
+      record {
+        marks-long = bounds .marks-long;
+        settings-long = bounds .settings-long;
+        figures-long = bounds .figures-long;
+        indices-long = bounds .indices-long;
+        joined-small = including-lt (b .joined) operator 16 (bounds .joined-small) lo;
+        marks-small = bounds .marks-small;
+        setting = λ o w lo′ lw. allowed _ _ (isJoined b o) _ (still-joined o) (bounds .setting o w lo′ lw);
+        figure = λ o y f lo′ ly lf. allowed _ _ (isJoined b o) _ (still-joined o) (bounds .figure o y f lo′ ly lf);
+        mark = λ o i lo′ li marked. still-joined o (bounds .mark o i lo′ li marked);
+        pot-rate = bounds .pot-rate;
+        cap-rate = bounds .cap-rate;
+        index = bounds .index;
+      }
+    where
+      still-joined : (o : ℕ) → isJoined b o ≡ true → isJoined (withJoined b (including (b .joined) operator)) o ≡ true
+      still-joined o joined = including-keeps (b .joined) operator o joined
+
+  pub setting-bounds : (operator which value : ℕ) → isJoined b operator ≡ true → which < settingCount → value ≤ settingLimit which
+      → Bounds (changed b (Setting operator which value))
+  unfolding changed withSettings settingOf figureOf isMarked indexOf isJoined most settingSlot
+  setting-bounds operator which value joined lw le =
+      record {
+        marks-long = bounds .marks-long;
+        settings-long = length-set (b .settings) _ _ ∙ bounds .settings-long;
+        figures-long = bounds .figures-long;
+        indices-long = bounds .indices-long;
+        joined-small = bounds .joined-small;
+        marks-small = bounds .marks-small;
+        setting = λ o w lo lw′.
+            store-holds (λ n. n ≤ most b o (settingLimit w)) (b .settings) (settingSlot operator which) value (settingSlot o w)
+            (λ same.
+            let operator-is : o ≡ operator = omega (arith, same) in
+            let which-is : w ≡ which = omega (arith, same) in
+            rw (operator-is, which-is) (most-joined b operator (settingLimit which) value joined le))
+            (bounds .setting o w lo lw′);
+        figure = bounds .figure;
+        mark = bounds .mark;
+        pot-rate = bounds .pot-rate;
+        cap-rate = bounds .cap-rate;
+        index = bounds .index;
+      }
+
+  pub mark-bounds : (operator indicator mark : ℕ) → operator < operators → isJoined b operator ≡ true → indicator < indicatorCount
+      → Bounds (changed b (Mark operator indicator mark))
+  unfolding changed withMarks settingOf figureOf isMarked indexOf isJoined most
+  mark-bounds operator indicator mark lo joined li =
+      record {
+        marks-long = length-set (b .marks) _ _ ∙ bounds .marks-long;
+        settings-long = bounds .settings-long;
+        figures-long = bounds .figures-long;
+        indices-long = bounds .indices-long;
+        joined-small = bounds .joined-small;
+        marks-small = λ i li′.
+            store-holds (λ m. m < 2 ^ 16) (b .marks) indicator (remasked (getD (b .marks) indicator 0) operator mark) i
+            (λ same. remasked-lt (getD (b .marks) indicator 0) operator mark lo (bounds .marks-small indicator li))
+            (bounds .marks-small i li′);
+        setting = bounds .setting;
+        figure = bounds .figure;
+        mark = λ o i lo′ li′.
+            store-holds (λ m. has m o ≡ true → isJoined b o ≡ true) (b .marks) indicator (remasked (getD (b .marks) indicator 0) operator mark) i
+            (λ same. remarked o lo′ (ℕ-discrete o operator))
+            (bounds .mark o i lo′ li′);
+        pot-rate = bounds .pot-rate;
+        cap-rate = bounds .cap-rate;
+        index = bounds .index;
+      }
+    where
+      -- the operator itself has joined, another's mark is as it was
+      remarked : (o : ℕ) → o < operators → Dec (o ≡ operator) → has (remasked (getD (b .marks) indicator 0) operator mark) o ≡ true → isJoined b o ≡ true
+      remarked o lo′ (yes same) marked = rw same joined
+      remarked o lo′ (no other) marked = bounds .mark o indicator lo′ li (rw (remasked-other (getD (b .marks) indicator 0) operator mark o other) at marked)
+
+  pub rates-bounds : (pot cap : ℕ) → pot ≤ rateLimit → cap ≤ rateLimit → Bounds (changed b (Rates pot cap))
+  unfolding changed withRates settingOf figureOf isMarked indexOf isJoined most
+  rates-bounds pot cap pot-le cap-le =
+      record {
+        marks-long = bounds .marks-long;
+        settings-long = bounds .settings-long;
+        figures-long = bounds .figures-long;
+        indices-long = bounds .indices-long;
+        joined-small = bounds .joined-small;
+        marks-small = bounds .marks-small;
+        setting = bounds .setting;
+        figure = bounds .figure;
+        mark = bounds .mark;
+        pot-rate = pot-le;
+        cap-rate = cap-le;
+        index = bounds .index;
+      }
+
+  pub index-bounds : (number value : ℕ) → indexLeast ≤ value → value ≤ indexMost → Bounds (changed b (Index number value))
+  unfolding changed withIndices settingOf figureOf isMarked indexOf isJoined most
+  index-bounds number value least greatest =
+      record {
+        marks-long = bounds .marks-long;
+        settings-long = bounds .settings-long;
+        figures-long = bounds .figures-long;
+        indices-long = length-set (b .indices) _ _ ∙ bounds .indices-long;
+        joined-small = bounds .joined-small;
+        marks-small = bounds .marks-small;
+        setting = bounds .setting;
+        figure = bounds .figure;
+        mark = bounds .mark;
+        pot-rate = bounds .pot-rate;
+        cap-rate = bounds .cap-rate;
+        index = λ n lt. store-holds (λ v. (indexLeast ≤ v) × (v ≤ indexMost)) (b .indices) number value n (λ same. (least, greatest)) (bounds .index n lt);
+      }
+
+  -- the figure that an entry makes
+  moved-le : (entry : Entry) → Enters (isJoined b) (figureOf b) entry → (t : Bool) → eqb (entry .sign) 0 ≡ t
+      → cond t
+      (figureOf b (entry .operator) (entry .year) (entry .figure) + entry .value)
+      (figureOf b (entry .operator) (entry .year) (entry .figure) - entry .value)
+      ≤ most b (entry .operator) figureLimit
+  moved-le entry enters true filed = most-joined b (entry .operator) figureLimit _ (enters .there) (enters .fits filed)
+  moved-le entry enters false filed =
+      let w = enters .within in
+      omega (arith, bounds .figure (entry .operator) (entry .year) (entry .figure) (w .operator-lt) (w .year-lt) (w .figure-lt))
+
+  pub entry-bounds : (entry : Entry) → Enters (isJoined b) (figureOf b) entry → Bounds (entered b entry)
+  unfolding entered withFigures settingOf figureOf isMarked indexOf isJoined most figureSlot
+  entry-bounds entry enters =
+      record {
+        marks-long = bounds .marks-long;
+        settings-long = bounds .settings-long;
+        figures-long = length-set (b .figures) _ _ ∙ bounds .figures-long;
+        indices-long = bounds .indices-long;
+        joined-small = bounds .joined-small;
+        marks-small = bounds .marks-small;
+        setting = bounds .setting;
+        figure = λ o y f lo ly lf.
+            store-holds (λ n. n ≤ most b o figureLimit) (b .figures) (figureSlot (entry .operator) (entry .year) (entry .figure)) _ (figureSlot o y f)
+            (λ same.
+            let operator-is : o ≡ entry .operator = omega (arith, same, enters .within .year-lt, enters .within .figure-lt) in
+            rw operator-is (moved-le entry enters (eqb (entry .sign) 0) refl))
+            (bounds .figure o y f lo ly lf);
+        mark = bounds .mark;
+        pot-rate = bounds .pot-rate;
+        cap-rate = bounds .cap-rate;
+        index = bounds .index;
+      }
