@@ -9,16 +9,14 @@ use lib.Dec.{eqb, ltb}
 use lib.ListN.{length, take, drop}
 use borrow.Author.Tests.{lt-ltb, le-ltb, eq-eqb, ne-eqb, ltb-false, eqb-true}
 use Rattle.calls.specs.declared.Call.{Call}
-use Rattle.calls.specs.declared.Refusal.the-variants.{Truncated, UnknownTag, WrongLength}
-use Rattle.fields.specs.declared.Field.{Field}
-use Rattle.fields.specs.declared.Field.the-variants.{Filing, End, Refused}
-use Rattle.fields.specs.Field.{byte, unsigned, isKnown, tagged, fieldAt}
+use Rattle.calls.specs.Answers.{Said, refused-by, accepted, firstOf}
+use Rattle.fields.specs.Field.{byte, unsigned, isKnown, tagged, Found, at-end, call-then, fieldLines, callAt, fieldAt}
 
 -- how an answer leaves the offset: a call ends 3 bytes on or more and does not pass the end
-abbrev pub Stands : List ℕ → ℕ → Field → Type 0
-Stands bytes at (Filing call next) = (at + 3 ≤ next) × (next ≤ length bytes)
-Stands bytes at End = length bytes ≤ at
-Stands bytes at (Refused refusal) = Unit {0}
+abbrev pub Stands : List ℕ → ℕ → Said Found → Type 0
+Stands bytes at (accepted (call-then call next)) = (at + 3 ≤ next) × (next ≤ length bytes)
+Stands bytes at (accepted at-end) = length bytes ≤ at
+Stands bytes at (refused-by number) = Unit {0}
 
 module _ (bytes : List ℕ) (at : ℕ) where
   abbrev left : ℕ
@@ -30,48 +28,48 @@ module _ (bytes : List ℕ) (at : ℕ) where
   abbrev tag : ℕ
   tag = byte bytes at
 
-  pub at-end : length bytes ≤ at → fieldAt bytes at ≡ End
-  unfolding fieldAt
-  at-end le = rw (eq-eqb left 0 (omega arith)) refl
+  pub ends : length bytes ≤ at → fieldAt bytes at ≡ accepted at-end
+  unfolding fieldAt fieldLines firstOf callAt
+  ends le = rw (eq-eqb left 0 (omega arith)) refl
 
   module _ (more : at < length bytes) where
     some-left : eqb left 0 ≡ false
     some-left = ne-eqb left 0 (λ e. omega arith)
 
-    pub no-length : left < 3 → fieldAt bytes at ≡ Refused Truncated
-    unfolding fieldAt
+    pub no-length : left < 3 → fieldAt bytes at ≡ refused-by 1
+    unfolding fieldAt fieldLines firstOf callAt
     no-length lt = rw (some-left, lt-ltb left 3 lt) refl
 
     module _ (whole : 3 ≤ left) where
-      pub passes-end : left - 3 < size → fieldAt bytes at ≡ Refused Truncated
-      unfolding fieldAt
+      pub passes-end : left - 3 < size → fieldAt bytes at ≡ refused-by 1
+      unfolding fieldAt fieldLines firstOf callAt
       passes-end lt = rw (some-left, le-ltb left 3 whole, lt-ltb (left - 3) size lt) refl
 
       module _ (within : size ≤ left - 3) where
-        pub unknown-tag : isKnown tag ≡ false → fieldAt bytes at ≡ Refused UnknownTag
-        unfolding fieldAt
+        pub unknown-tag : isKnown tag ≡ false → fieldAt bytes at ≡ refused-by 2
+        unfolding fieldAt fieldLines firstOf callAt
         unknown-tag e = rw (some-left, le-ltb left 3 whole, le-ltb (left - 3) size within, e) refl
 
         module _ (known : isKnown tag ≡ true) where
-          pub wrong-length : (size ≡ tagged tag .size → ⊥) → fieldAt bytes at ≡ Refused WrongLength
-          unfolding fieldAt
+          pub wrong-length : (size ≡ tagged tag .size → ⊥) → fieldAt bytes at ≡ refused-by 3
+          unfolding fieldAt fieldLines firstOf callAt
           wrong-length differs =
               rw (some-left, le-ltb left 3 whole, le-ltb (left - 3) size within, known, ne-eqb size (tagged tag .size) differs) refl
 
-          pub filed : size ≡ tagged tag .size → fieldAt bytes at ≡ Filing (tagged tag .call (take size (drop (at + 3) bytes))) (at + 3 + size)
-          unfolding fieldAt
+          pub filed : size ≡ tagged tag .size → fieldAt bytes at ≡ accepted (call-then (tagged tag .call (take size (drop (at + 3) bytes))) (at + 3 + size))
+          unfolding fieldAt fieldLines firstOf callAt
           filed same = rw (some-left, le-ltb left 3 whole, le-ltb (left - 3) size within, known, eq-eqb size (tagged tag .size) same) refl
 
   pub stands : Stands bytes at (fieldAt bytes at)
-  unfolding fieldAt
+  unfolding fieldAt fieldLines firstOf callAt
   stands =
       go (eqb left 0) (ltb left 3) (ltb (left - 3) size) (not (isKnown tag)) (not (eqb size (tagged tag .size))) _ refl refl refl
     where
       go : (none short long unknown wrong : Bool) (call : Call) → eqb left 0 ≡ none → ltb left 3 ≡ short → ltb (left - 3) size ≡ long
           → Stands bytes at
-          (cond none End
-          (cond (short || long) (Refused Truncated)
-          (cond unknown (Refused UnknownTag) (cond wrong (Refused WrongLength) (Filing call (at + 3 + size))))))
+          (cond none (accepted at-end)
+          (cond (short || long) (refused-by 1)
+          (cond unknown (refused-by 2) (cond wrong (refused-by 3) (accepted (call-then call (at + 3 + size)))))))
       go true short long unknown wrong call none-left s l = omega (arith, eqb-true left 0 none-left)
       go false true long unknown wrong call n s l = tt
       go false false true unknown wrong call n s l = tt

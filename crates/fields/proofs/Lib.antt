@@ -2,3 +2,4 @@
 pub mod NumberLaws
 pub mod TagLaws
 pub mod FieldLaws
+pub mod LowestOfFields

@@ -8,7 +8,7 @@ use lib.IntN.{ℤ, pos, subℕ}
 use lib.ListN.{length, getD, take, drop}
 use Rattle.calls.specs.declared.Call.{Call}
 use Rattle.calls.specs.declared.Call.the-variants.{Join, Setting, Interruption, Amount, Mark, Rates, Index}
-use Rattle.calls.specs.declared.Refusal.the-variants.{Truncated, UnknownTag, WrongLength}
+use Rattle.calls.specs.Answers.{Said, refused-by, accepted, firstOf, numberOf}
 use Rattle.fields.specs.declared.Field.{Field}
 use Rattle.fields.specs.declared.Field.the-variants.{Filing, End, Refused}
 
@@ -56,14 +56,31 @@ isKnown tag = leb 1 tag && leb tag (length tags)
 unfoldable pub tagged : ℕ → Tag
 tagged tag = getD tags (tag - 1) (record { size = 0; call = λ (c : List ℕ). Join 0 })
 
--- what stands in a filing at an offset: a call and the offset after it, the end, or the lowest of 1, 2 and 3 that applies
-unfoldable pub fieldAt : List ℕ → ℕ → Field
-fieldAt bytes at =
+-- what stands in a filing at an offset: the end, or a call and the offset after it
+pub data Found : Type 0 where
+  at-end : Found
+  call-then : Call → ℕ → Found
+
+-- 1, 2 and 3, each with whether it applies to the field at an offset
+unfoldable pub fieldLines : List ℕ → ℕ → List (ℕ × Bool)
+fieldLines bytes at =
     let left : ℕ = length bytes - at in
-    let tag : ℕ = byte bytes at in
     let size : ℕ = unsigned 2 bytes (at + 1) in
-    cond (eqb left 0) End
-    (cond (ltb left 3 || ltb (left - 3) size) (Refused Truncated)
-    (cond (not (isKnown tag)) (Refused UnknownTag)
-    (cond (not (eqb size (tagged tag .size))) (Refused WrongLength)
-    (Filing (tagged tag .call (take size (drop (at + 3) bytes))) (at + 3 + size)))))
+    (1, ltb left 3 || ltb (left - 3) size)
+    ∷ (2, not (isKnown (byte bytes at)))
+    ∷ (3, not (eqb size (tagged (byte bytes at) .size)))
+    ∷ []
+
+unfoldable pub callAt : List ℕ → ℕ → Found
+callAt bytes at =
+    let size : ℕ = unsigned 2 bytes (at + 1) in
+    call-then (tagged (byte bytes at) .call (take size (drop (at + 3) bytes))) (at + 3 + size)
+
+unfoldable pub fieldAt : List ℕ → ℕ → Said Found
+fieldAt bytes at = cond (eqb (length bytes - at) 0) (accepted at-end) (firstOf (fieldLines bytes at) (callAt bytes at))
+
+-- what the code's answer says
+abbrev pub fieldSaid : Field → Said Found
+fieldSaid (Filing call next) = accepted (call-then call next)
+fieldSaid End = accepted at-end
+fieldSaid (Refused refusal) = refused-by (numberOf refusal)

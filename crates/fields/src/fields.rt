@@ -1,6 +1,6 @@
 // What stands in a filing at an offset: a field and the call that it files, the end, or a field that 1, 2 or 3 refuses.
 ghost use mathlib.Core.Path.{_≡_};
-ghost use Rattle.fields.specs.Field.{fieldAt};
+ghost use Rattle.fields.specs.Field.{fieldAt, fieldSaid};
 use crate::Field;
 use crate::contents::call_at;
 use crate::contents::content_size;
@@ -9,7 +9,7 @@ use crate::numbers::unsigned_at;
 use calls::Refusal;
 
 pub fn field_at(bytes: &[u8], at: usize) -> Field
-    ensures { λ r. ⌜ r ≡ fieldAt (now (bytes .entry)) at ⌝ }
+    ensures { λ r. ⌜ fieldSaid r ≡ fieldAt (now (bytes .entry)) at ⌝ }
 {
     if bytes.len() <= at {
         return Field::End;

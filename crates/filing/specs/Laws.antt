@@ -1,40 +1,38 @@
--- Reading is running the calls that the bytes decode to, up to the first refusal: so the theorem over lists of calls speaks of filings
--- too. Proofs: proofs/ReadLaws.antt.
+-- Reading a filing is filing the calls that its bytes decode to, one by one, up to the first refusal: so the theorem over lists of calls
+-- speaks of filings too. Proofs: proofs/ReadLaws.antt.
 -- Assumes nothing.
 use Prim.Native.Nat.{ℕ, _≤_, _<_}
 use mathlib.Core.Path.{_≡_}
 use mathlib.Core.Bool.{true, false}
-use mathlib.Core.List.{List, [], _∷_, _++_}
+use mathlib.Core.List.{List, [], _∷_}
 use lib.ListN.{length, getD, take}
 use Rattle.calls.specs.declared.Call.{Call}
 use Rattle.calls.specs.declared.Call.the-variants.{Join}
-use Rattle.calls.specs.declared.Answer.{Answer}
-use Rattle.calls.specs.declared.Answer.the-variants.{Yes, Refused}
-use Rattle.ledger.specs.Calls.{file, filedAnswers}
-use Rattle.history.specs.Demand.{bookOf}
-use Rattle.filing.specs.declared.Reading.{Reading}
-use Rattle.filing.specs.Reader.{Fields, field, ended, broken, fieldsOf, isRefused, read}
+use Rattle.calls.specs.Answers.{Said, refused-by, accepted, isRefused, Acceptance, yes-said}
+use Rattle.book.specs.declared.Book.{Book}
+use Rattle.book.specs.Book.{inRange}
+use Rattle.ledger.specs.Calls.{file, filedBook, filedAnswers}
+use Rattle.filing.specs.Reader.{Fields, field, ended, broken, fieldsOf, Outcome, read}
 
 -- the calls of a run of fields, the offsets of their tags with that of the end or of the broken field, and what stands there
 unfoldable pub callsIn : Fields → List Call
 callsIn (field call at rest) = call ∷ callsIn rest
 callsIn (ended at) = []
-callsIn (broken refusal at) = []
+callsIn (broken number at) = []
 
 unfoldable pub offsetsIn : Fields → List ℕ
 offsetsIn (field call at rest) = at ∷ offsetsIn rest
 offsetsIn (ended at) = at ∷ []
-offsetsIn (broken refusal at) = at ∷ []
+offsetsIn (broken number at) = at ∷ []
 
-unfoldable pub ending : Fields → Answer
+unfoldable pub ending : Fields → Said Acceptance
 ending (field call at rest) = ending rest
-ending (ended at) = Yes
-ending (broken refusal at) = Refused refusal
+ending (ended at) = accepted yes-said
+ending (broken number at) = refused-by number
 
--- reading bytes into the book that a list of calls left
-module _ (calls : List Call) (bytes : List ℕ) where
-  abbrev pub readInto : Reading
-  readInto = read (bookOf calls) bytes
+module _ (b : Book) (bytes : List ℕ) where
+  abbrev pub readInto : Outcome
+  readInto = read b bytes
 
   -- the calls of the filing, and those that were applied
   abbrev pub filed : List Call
@@ -45,13 +43,17 @@ module _ (calls : List Call) (bytes : List ℕ) where
 
   pub record ReadAsCalls : Type 0 where
     pub counted : readInto .applied ≤ length filed
-    pub left-book : readInto .book ≡ bookOf (calls ++ applied)
-    pub none-refused : (place : ℕ) → place < readInto .applied → isRefused (getD (filedAnswers (bookOf calls) applied) place Yes) ≡ false
+    pub left-book : readInto .book ≡ filedBook b applied
+    pub none-refused : (place : ℕ) → place < readInto .applied → isRefused (getD (filedAnswers b applied) place (accepted yes-said)) ≡ false
     -- stopped by a call: its answer is the call's on the book left
     pub by-call : readInto .applied < length filed
-        → (readInto .answer ≡ file (readInto .book) (getD filed (readInto .applied) (Join 0)) .answer) × (isRefused (readInto .answer) ≡ true)
+        → (readInto .said ≡ file (readInto .book) (getD filed (readInto .applied) (Join 0)) .said) × (isRefused (readInto .said) ≡ true)
     -- stopped by nothing, or by the bytes
-    pub by-bytes : readInto .applied ≡ length filed → readInto .answer ≡ ending (fieldsOf bytes)
+    pub by-bytes : readInto .applied ≡ length filed → readInto .said ≡ ending (fieldsOf bytes)
     pub at-offset : readInto .offset ≡ getD (offsetsIn (fieldsOf bytes)) (readInto .applied) 0
     -- "the filing's length if none"
-    pub at-length : isRefused (readInto .answer) ≡ false → readInto .offset ≡ length bytes
+    pub at-length : isRefused (readInto .said) ≡ false → readInto .offset ≡ length bytes
+
+-- for every book in range
+abbrev pub ReadAsCallsIfInRange : Book → List ℕ → Type 0
+ReadAsCallsIfInRange b bytes = inRange b ≡ true → ReadAsCalls b bytes

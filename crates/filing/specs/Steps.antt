@@ -1,32 +1,35 @@
 -- One step of a reading: what the field at the offset makes of what the reading has reached.
 -- Assumes nothing.
 use Prim.Native.Nat.{ℕ, _+_}
-use mathlib.Core.Bool.{true, false, cond}
-use Rattle.calls.specs.declared.Answer.{Answer}
-use Rattle.calls.specs.declared.Answer.the-variants.{Yes, Refused as Refusing}
-use Rattle.ledger.specs.declared.Filed.{Filed}
-use Rattle.ledger.specs.Calls.{apply}
-use Rattle.fields.specs.declared.Field.{Field}
-use Rattle.fields.specs.declared.Field.the-variants.{Filing, End, Refused}
-use Rattle.filing.specs.declared.Reading.{Reading}
+use mathlib.Core.Bool.{Bool, true, false, cond}
+use Rattle.calls.specs.Answers.{Said, refused-by, accepted, onAnswer, isRefused, Acceptance, yes-said}
+use Rattle.ledger.specs.Calls.{apply, Outcome as Given}
+use Rattle.fields.specs.Field.{Found, at-end, call-then}
 use Rattle.filing.specs.declared.reader.Walk.{Walk}
-use Rattle.filing.specs.Reader.{isRefused, reading}
+use Rattle.filing.specs.Reader.{Outcome, reading, told}
 
--- the end, or a field that its bytes refuse
-unfoldable pub stopped : Reading → Answer → Walk
-stopped r answer = record { reading = reading (r .book) (r .applied) (r .offset) answer; continues = false }
+-- a reading under way
+pub record Progress : Type 0 where
+  pub reached : Outcome
+  pub continues : Bool
 
--- a call applied: refused, it ends the reading at its tag; else the next field follows
-unfoldable pub held : Reading → Filed → Walk
-held r filed = record { reading = reading (filed .book) (r .applied) (r .offset) (filed .answer); continues = false }
+abbrev pub toldWalk : Walk → Progress
+toldWalk walk = record { reached = told (walk .reading); continues = walk .continues }
 
-unfoldable pub moved : Reading → ℕ → Filed → Walk
-moved r next filed = record { reading = reading (filed .book) (r .applied + 1) next (filed .answer); continues = true }
+-- the end, or a field that is refused by its bytes or by its call
+unfoldable pub stopped : Outcome → Said Acceptance → Progress
+stopped r answer = record { reached = reading (r .book) (r .applied) (r .offset) answer; continues = false }
 
-unfoldable pub advanced : Reading → ℕ → Filed → Walk
-advanced r next filed = cond (isRefused (filed .answer)) (held r filed) (moved r next filed)
+-- a call that was applied: the next field follows
+unfoldable pub moved : Outcome → ℕ → Given → Progress
+moved r next given = record { reached = reading (given .book) (r .applied + 1) next (given .said); continues = true }
 
-unfoldable pub stepped : Reading → Field → Walk
-stepped r (Filing call next) = advanced r next (apply (r .book) call)
-stepped r End = stopped r Yes
-stepped r (Refused refusal) = stopped r (Refusing refusal)
+unfoldable pub advanced : Outcome → ℕ → Given → Progress
+advanced r next given = cond (isRefused (given .said)) (stopped r (given .said)) (moved r next given)
+
+unfoldable pub steppedOn : Outcome → Found → Progress
+steppedOn r at-end = stopped r (accepted yes-said)
+steppedOn r (call-then call next) = advanced r next (apply (r .book) call)
+
+unfoldable pub stepped : Outcome → Said Found → Progress
+stepped r found = onAnswer (λ (number : ℕ). stopped r (refused-by number)) (steppedOn r) found

@@ -6,8 +6,9 @@ ghost use lib.ListN.{length};
 ghost use Rattle.book.specs.Book.{inRange};
 ghost use Rattle.ledger.specs.Calls.{apply as Calls·apply};
 ghost use Rattle.fields.specs.Field.{fieldAt};
-ghost use Rattle.filing.specs.Reader.{isRefused, read as Reader·read};
-ghost use Rattle.filing.specs.Steps.{stopped, advanced, stepped};
+ghost use Rattle.calls.specs.Answers.{isRefused, said};
+ghost use Rattle.filing.specs.Reader.{told, read as Reader·read};
+ghost use Rattle.filing.specs.Steps.{toldWalk, stopped, advanced, stepped};
 use crate::Reading;
 use book::Book;
 use book::in_range;
@@ -25,7 +26,7 @@ struct Walk {
 }
 
 pub fn read(b: Book, bytes: &[u8]) -> Reading
-    ensures { λ r. ⌜ r ≡ Reader·read b (now (bytes .entry)) ⌝ }
+    ensures { λ r. ⌜ told r ≡ Reader·read b (now (bytes .entry)) ⌝ }
 {
     if !in_range(b) {
         return Reading {
@@ -53,7 +54,7 @@ pub fn read(b: Book, bytes: &[u8]) -> Reading
 // The field at the offset.
 fn step(reached: Reading, bytes: &[u8]) -> Walk
     requires { ⌜ (reached .applied ≤ reached .offset) × (reached .offset ≤ length (now bytes)) × (inRange (reached .book) ≡ true) ⌝ }
-    ensures { λ r. ⌜ r ≡ stepped reached (fieldAt (now (bytes .entry)) (reached .offset)) ⌝ }
+    ensures { λ r. ⌜ toldWalk r ≡ stepped (told reached) (fieldAt (now (bytes .entry)) (reached .offset)) ⌝ }
 {
     match field_at(bytes, reached.offset) {
         Field::Filing { filing_call, next } => advance(reached, filing_call, next),
@@ -65,7 +66,7 @@ fn step(reached: Reading, bytes: &[u8]) -> Walk
 // A call applied; one that is refused leaves the book, the number applied and the offset.
 fn advance(reached: Reading, filing_call: Call, next: usize) -> Walk
     requires { ⌜ (reached .applied < next) × (inRange (reached .book) ≡ true) ⌝ }
-    ensures { λ r. ⌜ r ≡ advanced reached next (Calls·apply (reached .book) «filing_call») ⌝ }
+    ensures { λ r. ⌜ toldWalk r ≡ advanced (told reached) next (Calls·apply (reached .book) «filing_call») ⌝ }
 {
     let filed = apply(reached.book, filing_call);
     let book = filed.book;
@@ -94,7 +95,7 @@ fn advance(reached: Reading, filing_call: Call, next: usize) -> Walk
 
 // The end, or a field that its bytes refuse.
 fn stop(reached: Reading, answer: Answer) -> Walk
-    ensures { λ r. ⌜ r ≡ stopped reached answer ⌝ }
+    ensures { λ r. ⌜ toldWalk r ≡ stopped (told reached) (said answer) ⌝ }
 {
     let book = reached.book;
     Walk {
@@ -109,7 +110,7 @@ fn stop(reached: Reading, answer: Answer) -> Walk
 }
 
 fn is_refused(answer: Answer) -> bool
-    ensures { λ r. ⌜ r ≡ isRefused answer ⌝ }
+    ensures { λ r. ⌜ r ≡ isRefused (said answer) ⌝ }
 {
     match answer {
         Answer::Refused(refusal) => true,

@@ -5,15 +5,15 @@ use Prim.Native.Nat.{ℕ, _+_}
 use native.Mathlib.Omega.{arith}
 use lib.ListN.{getD, take, drop}
 use Rattle.calls.proofs.Flags.{denied, granted}
-use Rattle.fields.specs.declared.Field.the-variants.{Filing}
-use Rattle.fields.specs.Field.{tagged}
-use Rattle.fields.proofs.FieldLaws.{at-end, no-length, passes-end, unknown-tag, wrong-length, filed}
+use Rattle.calls.specs.Answers.{accepted}
+use Rattle.fields.specs.Field.{tagged, call-then}
+use Rattle.fields.proofs.FieldLaws.{ends, no-length, passes-end, unknown-tag, wrong-length, filed}
 use borrow.Author.Needs.{needs}
 use Rattle.fields.proofs.fields.field_at.Statement.{statement}
 use Rattle.fields.proofs.fields.field_at.Tie as tie
 
 returns : tie.Need-returns
-returns c = let start = c .before .before in sym (at-end (start .args .bytes .now) (start .args .at) (c .if1 .taken))
+returns c = let start = c .before .before in sym (ends (start .args .bytes .now) (start .args .at) (c .if1 .taken))
 
 sub-left : tie.Need-sub-left
 sub-left c = search needs
@@ -98,9 +98,10 @@ returns-6 c =
     let within = rw (read .unsigned-at .ensures .0) at (sized .if3 .left) in
     let size = read .unsigned-at .ensures .0 in
     let same = sym size ∙ c .before .if5 .left ∙ c .before .before .content-size .ensures in
-    ap₂ Filing
+    ap accepted
+    (ap₂ call-then
     (c .call-at .ensures ∙ ap (λ (n : ℕ). tagged (getD bytes at 0) .call (take n (drop (at + 3) bytes))) (sym same))
-    (ap (λ (n : ℕ). at + 3 + n) size)
+    (ap (λ (n : ℕ). at + 3 + n) size))
     ∙ sym (filed bytes at (more .if1 .left) (whole .if2 .left) within (granted (known .before .is-known .ensures) (known .if4 .left)) same)
 
 pub field-at-spec : {M : Type 1} → statement M

@@ -2,7 +2,7 @@
 -- Assumes nothing.
 use borrow.Author.Needs.{needs}
 use mathlib.Core.Path.{refl}
-use Rattle.filing.specs.Reader.{isRefused}
+use Rattle.calls.specs.Answers.{onAnswer, isRefused}
 use Rattle.filing.proofs.reader.is_refused.Statement.{statement}
 use Rattle.filing.proofs.reader.is_refused.Tie as tie
 
@@ -19,19 +19,19 @@ enum-known-answer-3 : tie.Need-enum-known-answer-3
 enum-known-answer-3 c = search needs
 
 returns : tie.Need-returns
-unfolding isRefused
+unfolding isRefused onAnswer
 returns c = rw (c .before .answer .given .1) refl
 
 returns-2 : tie.Need-returns-2
-unfolding isRefused
+unfolding isRefused onAnswer
 returns-2 c = rw (c .enum-told .given .1) refl
 
 returns-3 : tie.Need-returns-3
-unfolding isRefused
+unfolding isRefused onAnswer
 returns-3 c = rw (c .before .answer2 .given .1) refl
 
 returns-4 : tie.Need-returns-4
-unfolding isRefused
+unfolding isRefused onAnswer
 returns-4 c = rw (c .before .answer3 .given .1) refl
 
 pub is-refused-spec : {M : Type 1} → statement M

@@ -1,9 +1,11 @@
 -- `filing::reader::step` meets its contract.
 -- Assumes nothing.
 use borrow.Author.Needs.{needs}
-use mathlib.Core.Path.{sym, _∙_}
+use mathlib.Core.Path.{sym, ap, _∙_}
 use native.Mathlib.Omega.{arith}
-use Rattle.filing.specs.Steps.{stepped}
+use Rattle.calls.specs.Answers.{onAnswer}
+use Rattle.fields.specs.Field.{fieldSaid}
+use Rattle.filing.specs.Steps.{steppedOn, stepped}
 use Rattle.fields.proofs.FieldLaws.{stands}
 use Rattle.filing.proofs.reader.step.Statement.{statement}
 use Rattle.filing.proofs.reader.step.Tie as tie
@@ -18,7 +20,7 @@ advance-requires : tie.Need-advance-requires
 advance-requires c κs =
     let read = c .before .before .before in
     let start = read .before .before in
-    let filing = sym (read .field-at .ensures) ∙ c .before .filing-call .given .1 in
+    let filing = sym (read .field-at .ensures) ∙ ap fieldSaid (c .before .filing-call .given .1) in
     let placed = rw filing at (stands (start .args .bytes .now) (start .args .reached .offset)) in
     (omega (arith, placed .0), start .pre .2)
 
@@ -35,16 +37,16 @@ stop-requires-2 : tie.Need-stop-requires-2
 stop-requires-2 c κs = search needs
 
 returns : tie.Need-returns
-unfolding stepped
-returns c = rw (sym (c .before .before .before .before .field-at .ensures) ∙ c .before .before .filing-call .given .1) (c .advance .ensures)
+unfolding stepped steppedOn onAnswer
+returns c = rw (sym (c .before .before .before .before .field-at .ensures) ∙ ap fieldSaid (c .before .before .filing-call .given .1)) (c .advance .ensures)
 
 returns-2 : tie.Need-returns-2
-unfolding stepped
-returns-2 c = rw (sym (c .before .before .before .field-at .ensures) ∙ c .before .enum-told .given .1) (c .stop .ensures)
+unfolding stepped steppedOn onAnswer
+returns-2 c = rw (sym (c .before .before .before .field-at .ensures) ∙ ap fieldSaid (c .before .enum-told .given .1)) (c .stop .ensures)
 
 returns-3 : tie.Need-returns-3
-unfolding stepped
-returns-3 c = rw (sym (c .before .before .before .before .field-at .ensures) ∙ c .before .before .refusal .given .1) (c .stop2 .ensures)
+unfolding stepped steppedOn onAnswer
+returns-3 c = rw (sym (c .before .before .before .before .field-at .ensures) ∙ ap fieldSaid (c .before .before .refusal .given .1)) (c .stop2 .ensures)
 
 pub step-spec : {M : Type 1} → statement M
 step-spec =

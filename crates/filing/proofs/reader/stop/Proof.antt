@@ -1,13 +1,12 @@
 -- `filing::reader::stop` meets its contract.
 -- Assumes nothing.
 use mathlib.Core.Path.{refl}
-use Rattle.filing.specs.Reader.{reading}
 use Rattle.filing.specs.Steps.{stopped}
 use Rattle.filing.proofs.reader.stop.Statement.{statement}
 use Rattle.filing.proofs.reader.stop.Tie as tie
 
 returns : tie.Need-returns
-unfolding stopped reading
+unfolding stopped
 returns c = refl
 
 pub stop-spec : {M : Type 1} → statement M
