@@ -1,4 +1,4 @@
--- Laws of the exponent weights, from their recurrence.
+-- Laws of the exponent weights, from their recurrence (specs/Laws.antt).
 -- Assumes nothing.
 use Prim.Native.Nat.{ℕ, zero, suc, _≤_, _<_}
 use mathlib.Core.Logic.{⊎-elim}
@@ -6,6 +6,7 @@ use native.Mathlib.Nat.{eq-or-lt-of-le, lt-of-lt-of-le}
 use lib.Dec.{lit<}
 use native.Mathlib.Omega.{arith}
 use Rattle.exponent.specs.Weight.{next, weightOf}
+use Rattle.exponent.specs.Laws.{WeightsFall}
 
 next-le : (weight : ℕ) → next weight ≤ weight
 unfolding next
@@ -42,3 +43,6 @@ pub weight-falls : (j k : ℕ) → j < k → k ≤ 1000 → weightOf k < weightO
 unfolding weightOf
 weight-falls j zero lt le = absurd (omega arith)
 weight-falls j (suc k) lt le = omega (arith, next-lt (weightOf k) (weight-positive k (omega arith)), weight-mono j k (omega arith))
+
+pub weights-fall : WeightsFall
+weights-fall = record { falls = weight-falls; most = weight-most; least = weight-least; positive = weight-positive }

@@ -1,2 +1,3 @@
 -- The definitions of `exponent`.
 pub mod Weight
+pub mod Laws

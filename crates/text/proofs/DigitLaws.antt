@@ -11,7 +11,7 @@ use lib.IntN.{ℤ, pos, negsuc, natAbs}
 use lib.ListN.{length, getD, drop, length-append}
 use borrow.Author.Tests.{lt-ltb, le-ltb, ltb-true, ltb-false}
 use Rattle.text.specs.Text.{bytesOf, digits, decimal, signedDecimal}
-use Rattle.text.specs.Laws.{DigitsTell}
+use Rattle.text.specs.Laws.{denoted, AreDigits, DigitsTell}
 
 -- that many or more digits allowed: the same digits
 enough : (most more n : ℕ) → n < most → n < more → digits most (ltb n 10) n ≡ digits more (ltb n 10) n
@@ -47,28 +47,43 @@ unfolding signedDecimal bytesOf
 signed-length (pos n) lt = omega (arith, decimal-length 19 n lt)
 signed-length (negsuc n) lt = omega (arith, decimal-length 19 (suc n) lt)
 
--- the number that digits tell, after those before them
-told : ℕ → List ℕ → ℕ
-told before [] = before
-told before (digit ∷ rest) = told (before * 10 + (digit - 48)) rest
+-- the last digit
+denoted-last : (xs : List ℕ) (before digit : ℕ) → denoted before (xs ++ (digit ∷ [])) ≡ denoted before xs * 10 + (digit - 48)
+unfolding denoted
+denoted-last [] before digit = refl
+denoted-last (x ∷ xs) before digit = denoted-last xs (before * 10 + (x - 48)) digit
 
-told-last : (xs : List ℕ) (before digit : ℕ) → told before (xs ++ (digit ∷ [])) ≡ told before xs * 10 + (digit - 48)
-unfolding told
-told-last [] before digit = refl
-told-last (x ∷ xs) before digit = told-last xs (before * 10 + (x - 48)) digit
-
-digits-told : (most n : ℕ) → n < most → told 0 (digits most (ltb n 10) n) ≡ n
-unfolding digits told
-digits-told zero n lt = absurd (omega arith)
-digits-told (suc most) n lt = go (ltb n 10) refl (λ large. digits-told most (n / 10) (omega arith))
+digits-denote : (most n : ℕ) → n < most → denoted 0 (digits most (ltb n 10) n) ≡ n
+unfolding digits denoted
+digits-denote zero n lt = absurd (omega arith)
+digits-denote (suc most) n lt = go (ltb n 10) refl (λ large. digits-denote most (n / 10) (omega arith))
   where
-    go : (t : Bool) → ltb n 10 ≡ t → (10 ≤ n → told 0 (digits most (ltb (n / 10) 10) (n / 10)) ≡ n / 10) → told 0 (digits (suc most) t n) ≡ n
+    go : (t : Bool) → ltb n 10 ≡ t → (10 ≤ n → denoted 0 (digits most (ltb (n / 10) 10) (n / 10)) ≡ n / 10) → denoted 0 (digits (suc most) t n) ≡ n
     go true small before = omega arith
-    go false large before = told-last (digits most (ltb (n / 10) 10) (n / 10)) 0 (48 + n % 10) ∙ omega (arith, before (ltb-false n 10 large))
+    go false large before = denoted-last (digits most (ltb (n / 10) 10) (n / 10)) 0 (48 + n % 10) ∙ omega (arith, before (ltb-false n 10 large))
+
+denotes : (n : ℕ) → denoted 0 (decimal n) ≡ n
+unfolding decimal
+denotes n = digits-denote (suc n) n (omega arith)
 
 unsigned-told : (n m : ℕ) → decimal n ≡ decimal m → n ≡ m
+unsigned-told n m same = sym (denotes n) ∙ ap (denoted 0) same ∙ denotes m
+
+-- one digit more
+with-digit : (xs : List ℕ) (digit : ℕ) → AreDigits xs → 48 ≤ digit → digit ≤ 57 → AreDigits (xs ++ (digit ∷ []))
+with-digit [] digit all least greatest = (least, greatest, tt)
+with-digit (x ∷ xs) digit all least greatest = (all .0, all .1, with-digit xs digit (all .2) least greatest)
+
+only-digits : (most n : ℕ) (small : Bool) → ltb n 10 ≡ small → AreDigits (digits most small n)
+unfolding digits
+only-digits zero n small e = tt
+only-digits (suc most) n true e = (omega arith, omega (arith, ltb-true n 10 e), tt)
+only-digits (suc most) n false e =
+    with-digit (digits most (ltb (n / 10) 10) (n / 10)) (48 + n % 10) (only-digits most (n / 10) (ltb (n / 10) 10) refl) (omega arith) (omega arith)
+
+digits-only : (n : ℕ) → AreDigits (decimal n)
 unfolding decimal
-unsigned-told n m same = sym (digits-told (suc n) n (omega arith)) ∙ ap (told 0) same ∙ digits-told (suc m) m (omega arith)
+digits-only n = only-digits (suc n) n (ltb n 10) refl
 
 -- no digit is a sign
 first-digit : (most : ℕ) (small : Bool) (n : ℕ) → 48 ≤ getD (digits most small n) 0 48
@@ -99,4 +114,4 @@ signed-told (negsuc n) (pos m) same = absurd (no-sign m _ (sym same))
 signed-told (negsuc n) (negsuc m) same = ap negsuc (after-sign n m same)
 
 pub digits-tell : DigitsTell
-digits-tell = record { unsigned-told = unsigned-told; signed-told = signed-told }
+digits-tell = record { digits-only = digits-only; denotes = denotes; unsigned-told = unsigned-told; signed-told = signed-told }
