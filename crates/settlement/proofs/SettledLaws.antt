@@ -13,7 +13,7 @@ use borrow.Author.Tests.{eqb-false, not-false}
 use Rattle.apportion.specs.Sum.{sum}
 use Rattle.apportion.specs.Share.{share}
 use Rattle.apportion.proofs.Shared.{shared}
-use Rattle.calls.specs.Answers.{yes-said, onAnswer}
+use Rattle.calls.specs.Answers.{Acceptance, accepted, yes-said, onAnswer, firstOf}
 use Rattle.calls.specs.Laws.{applies, risesFrom}
 use Rattle.calls.proofs.Flags.{or-right, and-other}
 use Rattle.calls.proofs.Lowest.{lowest}
@@ -38,6 +38,13 @@ pub worth-electricity : Worth electricity
 unfolding electricity
 worth-electricity = (lit< tt, (lit< tt, (lit< tt, (lit< tt, (lit< tt, (lit< tt, tt))))))
 
+-- a table refuses, or gives its value
+only-value : (lines : List (ℕ × Bool)) → onAnswer (λ (number : ℕ). yes-said) (λ (said : Acceptance). said) (firstOf lines yes-said) ≡ yes-said
+unfolding firstOf onAnswer
+only-value [] = refl
+only-value ((number, true) ∷ rest) = refl
+only-value ((number, false) ∷ rest) = only-value rest
+
 module _ (b : Book) (indicators : List Indicator) where
   pub lowest-of-settling : LowestOfSettling b indicators
   unfolding risesFrom settlingLines
@@ -46,6 +53,11 @@ module _ (b : Book) (indicators : List Indicator) where
   pub settles-exactly : SettlesExactly b indicators
   unfolding settledBy
   settles-exactly = (lowest-of-settling .answered .1, lowest-of-settling .answered .0)
+
+  -- settling accepts with nothing but yes
+  pub accepted-yes : (value : Acceptance) → settledBy b indicators .said ≡ accepted value → value ≡ yes-said
+  unfolding settledBy onAnswer
+  accepted-yes value e = sym (ap (onAnswer (λ (number : ℕ). yes-said) (λ (said : Acceptance). said)) e) ∙ only-value (settlingLines b indicators)
 
   -- a book that settles passes the four tests, and is given its settlement
   module _ (settles : Settles b indicators) where
