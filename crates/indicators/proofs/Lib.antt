@@ -1,6 +1,6 @@
 -- The laws that the proofs of `indicators`, and of the crates above it, use.
 pub mod Largest
-pub mod Weighting
 pub mod OnesLaws
 pub mod WeightLaws
+pub mod Weighting
 pub mod PointLaws

@@ -3,6 +3,7 @@
 use Prim.Native.Nat.{ℕ, _+_, _*_, _^_, _≤_, _<_}
 use mathlib.Core.Path.{_≡_, refl, sym, ap, _∙_}
 use mathlib.Core.Bool.{Bool, true, false, not, _&&_}
+use mathlib.Core.List.{List}
 use native.Mathlib.Nat.{mul-zero, mul-comm, mul-le-mul-left, mul-le-mul, lt-of-le-of-lt, le-div-iff-mul-le}
 use native.Mathlib.Omega.{arith}
 use native.Mathlib.Decide.{decLt}
@@ -12,16 +13,18 @@ use lib.ListN.{length, getD}
 use Rattle.calls.specs.Masks.{has}
 use Rattle.calls.proofs.Flags.{and-left}
 use Rattle.book.specs.declared.Book.{Book}
-use Rattle.book.specs.Book.{isJoined, isMarked}
+use Rattle.book.specs.Book.{isJoined, isMarked, inRange}
+use Rattle.book.proofs.Bounds.{bounded}
 use Rattle.apportion.specs.Sum.{sum}
 use Rattle.apportion.specs.Share.{share}
 use Rattle.apportion.specs.Laws.{Shared}
 use Rattle.apportion.proofs.Sums.{element-le}
 use Rattle.apportion.proofs.Shared.{shared}
 use Rattle.values.specs.Operators.{count}
-use Rattle.values.specs.Indicator.{Indicator, reliableMask, isReliable, joinedCount, reliableCount, pool}
-use Rattle.indicators.specs.Points.{isBetter, isLevelled, weights, points}
-use Rattle.indicators.specs.Laws.{PointsMadeUp}
+use Rattle.values.specs.Indicator.{Indicator, reliableMask, isReliable, joinedCount, reliableCount, pool, scores}
+use Rattle.indicators.specs.Points.{exponentWeight, isBetter, isLevelled, weights, points}
+use Rattle.indicators.specs.Laws.{PointsMadeUpIfInRange}
+use Rattle.values.proofs.InRange.{mark-set-small}
 use Rattle.values.proofs.Tables.{sum-none}
 use Rattle.values.proofs.CountLaws.{count-positive, count-mono, some-passes}
 use Rattle.indicators.proofs.OnesLaws.{ones-counted, and-has, complement}
@@ -33,26 +36,23 @@ module _ (b : Book) (indicator : Indicator) where
   unfolding isReliable reliableMask isJoined
   reliable-joined operator reliable = and-left _ _ (sym (and-has _ _ operator) ∙ reliable)
 
-  -- "those without a mark at this indicator"
-  pub reliable-exactly : getD (b .marks) (indicator .number) 0 < 2 ^ 16 → (operator : ℕ) → operator < 16
-      → isReliable b indicator operator ≡ isJoined b operator && not (isMarked b operator (indicator .number))
-  unfolding isReliable reliableMask isJoined isMarked
-  reliable-exactly small operator lt = and-has _ _ operator ∙ ap (λ (t : Bool). has (b .joined) operator && t) (complement 16 _ operator small lt)
+  abbrev weighed : List ℕ
+  weighed = weights (indicator .measure) (reliableMask b indicator) (scores b indicator)
 
   -- the points are shares of the pool
-  pub points-shared : Shared (pool b indicator) (weights b indicator)
-  points-shared = shared (pool b indicator) (weights b indicator)
+  points-shared : Shared (pool b indicator) weighed
+  points-shared = shared (pool b indicator) weighed
 
   pub points-length : length (points b indicator) ≡ 16
   unfolding points
-  points-length = points-shared .long ∙ weights-length b indicator
+  points-length = points-shared .long ∙ weights-length _ _ _
 
-  place : (operator : ℕ) → operator < 16 → operator < length (weights b indicator)
+  place : (operator : ℕ) → operator < 16 → operator < length weighed
   place operator lt = rw weights-length lt
 
   pub points-none : (operator : ℕ) → operator < 16 → isReliable b indicator operator ≡ false → getD (points b indicator) operator 0 ≡ 0
-  unfolding points
-  points-none operator lt marked = points-shared .none operator (place operator lt) (weight-none b indicator operator lt marked)
+  unfolding points isReliable
+  points-none operator lt marked = points-shared .none operator (place operator lt) (weight-none _ _ _ operator lt marked)
 
   -- an operator with points takes part
   pub points-reliable : (operator : ℕ) → operator < 16 → 0 < getD (points b indicator) operator 0 → isReliable b indicator operator ≡ true
@@ -62,7 +62,16 @@ module _ (b : Book) (indicator : Indicator) where
       go true reliable = reliable
       go false marked = absurd (omega (arith, pos, points-none operator lt marked))
 
-  module _ (small : b .joined < 2 ^ 16) where
+  module _ (ranged : inRange b ≡ true) where
+    -- "those without a mark at this indicator"
+    pub reliable-exactly : (operator : ℕ) → operator < 16 → isReliable b indicator operator ≡ isJoined b operator && not (isMarked b operator (indicator .number))
+    unfolding isReliable reliableMask isJoined isMarked
+    reliable-exactly operator lt =
+        and-has _ _ operator ∙ ap (λ (t : Bool). has (b .joined) operator && t) (complement 16 _ operator (mark-set-small b ranged (indicator .number)) lt)
+
+    small : b .joined < 2 ^ 16
+    small = bounded b ranged .joined-small
+
     pub joined-counted : joinedCount b ≡ count 16 (isJoined b)
     unfolding joinedCount isJoined
     joined-counted = ones-counted 16 (b .joined) small
@@ -104,25 +113,26 @@ module _ (b : Book) (indicator : Indicator) where
         let dividend : 300 * indicator .points * reliableCount b indicator ≡ 0 = rw none (mul-zero _) in
         omega (arith, over-most (300 * indicator .points * reliableCount b indicator) (joinedCount b) 0 (omega (arith, dividend)))
 
-    nobody-weighs : ((i : ℕ) → getD (weights b indicator) i 0 ≡ 0) → reliableCount b indicator ≡ 0
+    nobody-weighs : ((i : ℕ) → getD weighed i 0 ≡ 0) → reliableCount b indicator ≡ 0
+    unfolding isReliable
     nobody-weighs noughts = rw reliable-counted (go (decLt 0 (count 16 (isReliable b indicator))))
       where
         go : Dec (0 < count 16 (isReliable b indicator)) → count 16 (isReliable b indicator) ≡ 0
         go (yes some) =
             let found = some-passes 16 (isReliable b indicator) some in
-            absurd (omega (arith, noughts (found .0), weight-better b indicator (found .0) (found .1) (found .2)))
+            absurd (omega (arith, noughts (found .0), weight-better (indicator .measure) (reliableMask b indicator) (scores b indicator) (found .0) (found .1) (found .2)))
         go (no none) = omega (arith, none)
 
     whole : sum (points b indicator) ≡ pool b indicator
     unfolding points
-    whole = go (decLt 0 (sum (weights b indicator)))
+    whole = go (decLt 0 (sum weighed))
       where
-        go : Dec (0 < sum (weights b indicator)) → sum (share (pool b indicator) (weights b indicator)) ≡ pool b indicator
+        go : Dec (0 < sum weighed) → sum (share (pool b indicator) weighed) ≡ pool b indicator
         go (yes pos) = points-shared .whole pos
         go (no none) =
-            let noughts : (i : ℕ) → getD (weights b indicator) i 0 ≡ 0 = λ i. omega (arith, none, element-le (weights b indicator) i) in
+            let noughts : (i : ℕ) → getD weighed i 0 ≡ 0 = λ i. omega (arith, none, element-le weighed i) in
             let nobody : reliableCount b indicator ≡ 0 = nobody-weighs noughts in
-            let shares : sum (share (pool b indicator) (weights b indicator)) ≡ 0 =
+            let shares : sum (share (pool b indicator) weighed) ≡ 0 =
             sum-none _ (λ i lt. points-shared .none i (rw (points-shared .long) at lt) (noughts i)) in
             shares ∙ sym (pool-none nobody)
 
@@ -130,24 +140,27 @@ module _ (b : Book) (indicator : Indicator) where
     pub points-most : (operator : ℕ) → getD (points b indicator) operator 0 ≤ 300 * indicator .points
     points-most operator = omega (arith, element-le (points b indicator) operator, whole, pool-most)
 
+    abbrev better : ℕ → Bool
+    better = isBetter (reliableMask b indicator) (scores b indicator)
+
     better-alike : isLevelled (indicator .measure) ≡ true → (operator other : ℕ) → operator < 16 → other < 16
-        → isBetter b indicator operator ≡ true → isBetter b indicator other ≡ true
+        → better operator ≡ true → better other ≡ true
         → getD (points b indicator) operator 0 ≤ getD (points b indicator) other 0 + 1
     unfolding points
-    better-alike levels operator other lt lt' better better' =
-        points-shared .alike operator other (place operator lt) (place other lt')
-        (better-weight operator lt better ∙ sym (better-weight other lt' better'))
+    better-alike levels operator other lt lt' is is' =
+        points-shared .alike operator other (place operator lt) (place other lt') (better-weight operator lt is ∙ sym (better-weight other lt' is'))
       where
-        better-weight : (k : ℕ) → k < 16 → isBetter b indicator k ≡ true → getD (weights b indicator) k 0 ≡ together b indicator
-        better-weight k small better = weight-reliable b indicator k small (better-reliable b indicator k better) ∙ one-better b indicator levels k small better
+        better-weight : (k : ℕ) → k < 16 → better k ≡ true → getD weighed k 0 ≡ together better (exponentWeight (scores b indicator))
+        better-weight k inside is =
+            weight-reliable _ _ _ k inside (better-reliable _ _ k is) ∙ one-better _ _ _ levels k inside is
 
-    pub points-made-up : PointsMadeUp b indicator
-    points-made-up =
-        record {
-          joined-counted = joined-counted;
-          reliable-counted = reliable-counted;
-          reliable-exactly = reliable-exactly;
-          whole = whole;
-          others-none = points-none;
-          better-alike = better-alike;
-        }
+pub points-made-up : (b : Book) (indicator : Indicator) → PointsMadeUpIfInRange b indicator
+points-made-up b indicator ranged =
+    record {
+      joined-counted = joined-counted b indicator ranged;
+      reliable-counted = reliable-counted b indicator ranged;
+      reliable-exactly = reliable-exactly b indicator ranged;
+      whole = whole b indicator ranged;
+      others-none = points-none b indicator;
+      better-alike = better-alike b indicator ranged;
+    }

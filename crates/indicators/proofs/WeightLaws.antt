@@ -10,13 +10,12 @@ use lib.ListN.{length, getD}
 use lib.Dec.{eqb}
 use borrow.Author.Tests.{eqb-false, ne-eqb}
 use Rattle.apportion.specs.Sum.{sum}
-use Rattle.book.specs.declared.Book.{Book}
 use Rattle.exponent.proofs.Laws.{weight-positive, weight-most}
+use Rattle.calls.specs.Masks.{has}
 use Rattle.calls.proofs.Flags.{and-left}
-use Rattle.values.specs.Operators.{count}
-use Rattle.values.specs.Indicator.{Indicator, over, isReliable}
-use Rattle.values.specs.Indicator.{scores}
-use Rattle.indicators.specs.Points.{largest, normalised, exponentWeight, isBetter, betterWeight, levelled, levelledWeight, linearWeight, isLevelled, weightOfOne, weights}
+use Rattle.values.specs.Operators.{each, count}
+use Rattle.values.specs.Indicator.{Measure, over}
+use Rattle.indicators.specs.Points.{largest, normalised, exponentWeight, isBetter, levelled, linearWeight, isLevelled, weightOfOne, weights}
 use Rattle.values.proofs.Tables.{length-each, each-at, each-le-sum, sum-each-le}
 use Rattle.values.proofs.CountLaws.{cond-le, count-le, count-positive}
 use Rattle.indicators.proofs.Largest.{largest-ge}
@@ -53,91 +52,84 @@ module _ (list : List ℕ) (operator : ℕ) where
   unfolding linearWeight
   linear-most = omega arith
 
--- levelling keeps a weight above 0, and at most sixteen times the most
-levelled-positive : (g together : ℕ) (better : Bool) (own : ℕ) → 0 < own → (better ≡ true → own ≤ together) → 0 < levelled g together better own
-unfolding levelled
-levelled-positive g together better own pos reaches = go (eqb g 0) refl better refl
-  where
-    go : (t : Bool) → eqb g 0 ≡ t → (s : Bool) → better ≡ s → 0 < cond t own (cond s together (g * own))
-    go true e s a = pos
-    go false e true a = omega (arith, reaches a)
-    go false e false a = mul-pos (omega (arith, eqb-false g 0 e)) pos
+-- the weights of the better in one
+abbrev pub together : (ℕ → Bool) → (ℕ → ℕ) → ℕ
+together better own = sum (each (λ (other : ℕ). cond (better other) (own other) 0))
 
-levelled-most : (g together : ℕ) (better : Bool) (own most : ℕ) → g ≤ 16 → own ≤ most → together ≤ 16 * most → levelled g together better own ≤ 16 * most
-unfolding levelled
-levelled-most g together better own most few small bound =
-    cond-le (eqb g 0) (omega arith) (cond-le better bound (mul-le-mul few small))
+-- levelling keeps weights above 0 and makes the better alike
+module _ (better : ℕ → Bool) (own : ℕ → ℕ) (operator : ℕ) (lt : operator < 16) where
+  reached : better operator ≡ true → own operator ≤ together better own
+  reached passed = rw passed at (each-le-sum (λ (other : ℕ). cond (better other) (own other) 0) operator lt)
 
-module _ (b : Book) (indicator : Indicator) where
-  -- the weights of the better in one
-  abbrev pub together : ℕ
-  together = betterWeight (isBetter b indicator) (exponentWeight (scores b indicator))
-
-  -- who is better takes part, and the sum of the better weights reaches its own
-  pub better-reliable : (operator : ℕ) → isBetter b indicator operator ≡ true → isReliable b indicator operator ≡ true
-  unfolding isBetter
-  better-reliable operator better = and-left _ _ better
-
-  better-reaches : (operator : ℕ) → operator < 16 → isBetter b indicator operator ≡ true
-      → exponentWeight (scores b indicator) operator ≤ together
-  unfolding betterWeight
-  better-reaches operator lt better =
-      rw better at (each-le-sum (λ (k : ℕ). cond (isBetter b indicator k) (exponentWeight (scores b indicator) k) 0) operator lt)
-
-  better-most : together ≤ 16 * 1000000000
-  unfolding betterWeight
-  better-most = sum-each-le _ 1000000000 (λ k lt. cond-le (isBetter b indicator k) (exponent-most _ k) zero-le)
-
-  pub better-few : count 16 (isBetter b indicator) ≤ 16
-  better-few = count-le 16 _
-
-  pub one-positive : (operator : ℕ) → operator < 16 → 0 < weightOfOne b indicator operator
-  unfolding weightOfOne levelledWeight
-  one-positive operator lt = go (isLevelled (indicator .measure))
+  levelled-positive : 0 < own operator → 0 < levelled better own operator
+  unfolding levelled
+  levelled-positive pos = go (eqb (count 16 better) 0) refl (better operator) refl
     where
-      go : (t : Bool) → 0 < cond t (levelledWeight (isBetter b indicator) (exponentWeight (scores b indicator)) operator) (linearWeight (scores b indicator) operator)
-      go true = levelled-positive _ _ _ _ (exponent-positive _ operator) (better-reaches operator lt)
-      go false = omega (arith, linear-least (scores b indicator) operator)
+      go : (t : Bool) → eqb (count 16 better) 0 ≡ t → (s : Bool) → better operator ≡ s
+          → 0 < cond t (own operator) (cond s (together better own) (count 16 better * own operator))
+      go true e s a = pos
+      go false e true a = omega (arith, reached a)
+      go false e false a = mul-pos (omega (arith, eqb-false (count 16 better) 0 e)) pos
+
+  levelled-better : better operator ≡ true → levelled better own operator ≡ together better own
+  unfolding levelled
+  levelled-better passed =
+      let some : 0 < count 16 better = count-positive 16 better operator lt passed in
+      rw (passed, ne-eqb (count 16 better) 0 (λ e. omega (arith, e, some))) refl
+
+-- and at most sixteen times the most
+levelled-most : (better : ℕ → Bool) (own : ℕ → ℕ) (most : ℕ) → ((k : ℕ) → own k ≤ most) → (operator : ℕ) → levelled better own operator ≤ 16 * most
+unfolding levelled
+levelled-most better own most small operator =
+    cond-le (eqb (count 16 better) 0) (omega (arith, small operator))
+    (cond-le (better operator) (sum-each-le _ most (λ k lt. cond-le (better k) (small k) zero-le)) (mul-le-mul (count-le 16 better) (small operator)))
+
+-- who is better takes part
+pub better-reliable : (mask : ℕ) (scores : List ℕ) (operator : ℕ) → isBetter mask scores operator ≡ true → has mask operator ≡ true
+unfolding isBetter
+better-reliable mask scores operator better = and-left _ _ better
+
+module _ (measure : Measure) (mask : ℕ) (scores : List ℕ) where
+  one-positive : (operator : ℕ) → operator < 16 → 0 < weightOfOne measure mask scores operator
+  unfolding weightOfOne
+  one-positive operator lt = go (isLevelled measure)
+    where
+      go : (t : Bool) → 0 < cond t (levelled (isBetter mask scores) (exponentWeight scores) operator) (linearWeight scores operator)
+      go true = levelled-positive _ _ operator lt (exponent-positive scores operator)
+      go false = omega (arith, linear-least scores operator)
 
   -- the better all weigh the same
-  pub one-better : isLevelled (indicator .measure) ≡ true → (operator : ℕ) → operator < 16 → isBetter b indicator operator ≡ true
-      → weightOfOne b indicator operator ≡ together
-  unfolding weightOfOne levelledWeight levelled
-  one-better levels operator lt better =
-      let some : 0 < count 16 (isBetter b indicator) = count-positive 16 (isBetter b indicator) operator lt better in
-      rw (levels, better, ne-eqb (count 16 (isBetter b indicator)) 0 (λ e. omega (arith, e, some))) refl
+  pub one-better : isLevelled measure ≡ true → (operator : ℕ) → operator < 16 → isBetter mask scores operator ≡ true
+      → weightOfOne measure mask scores operator ≡ together (isBetter mask scores) (exponentWeight scores)
+  unfolding weightOfOne
+  one-better levels operator lt better = rw levels (levelled-better _ _ operator lt better)
 
-  pub one-most : (operator : ℕ) → weightOfOne b indicator operator ≤ 16000000000
-  unfolding weightOfOne levelledWeight
+  one-most : (operator : ℕ) → weightOfOne measure mask scores operator ≤ 16000000000
+  unfolding weightOfOne
   one-most operator =
-      cond-le (isLevelled (indicator .measure))
-      (levelled-most (count 16 (isBetter b indicator)) together (isBetter b indicator operator) _ 1000000000 better-few (exponent-most _ operator) better-most)
-      (omega (arith, linear-most (scores b indicator) operator))
+      cond-le (isLevelled measure) (levelled-most _ _ 1000000000 (exponent-most scores) operator) (omega (arith, linear-most scores operator))
 
   -- the list of weights
-  pub weights-length : length (weights b indicator) ≡ 16
+  pub weights-length : length (weights measure mask scores) ≡ 16
   unfolding weights
   weights-length = length-each _
 
-  pub weight-at : (operator : ℕ) → operator < 16
-      → getD (weights b indicator) operator 0 ≡ cond (isReliable b indicator operator) (weightOfOne b indicator operator) 0
+  weight-at : (operator : ℕ) → operator < 16
+      → getD (weights measure mask scores) operator 0 ≡ cond (has mask operator) (weightOfOne measure mask scores operator) 0
   unfolding weights
   weight-at operator lt = each-at _ operator lt
 
-  pub weight-reliable : (operator : ℕ) → operator < 16 → isReliable b indicator operator ≡ true
-      → getD (weights b indicator) operator 0 ≡ weightOfOne b indicator operator
+  pub weight-reliable : (operator : ℕ) → operator < 16 → has mask operator ≡ true
+      → getD (weights measure mask scores) operator 0 ≡ weightOfOne measure mask scores operator
   weight-reliable operator lt reliable = weight-at operator lt ∙ rw reliable refl
 
-  pub weight-none : (operator : ℕ) → operator < 16 → isReliable b indicator operator ≡ false → getD (weights b indicator) operator 0 ≡ 0
+  pub weight-none : (operator : ℕ) → operator < 16 → has mask operator ≡ false → getD (weights measure mask scores) operator 0 ≡ 0
   weight-none operator lt marked = weight-at operator lt ∙ rw marked refl
 
   -- whoever takes part has a weight above 0
-  pub weight-better : (operator : ℕ) → operator < 16 → isReliable b indicator operator ≡ true → 0 < getD (weights b indicator) operator 0
+  pub weight-better : (operator : ℕ) → operator < 16 → has mask operator ≡ true → 0 < getD (weights measure mask scores) operator 0
   weight-better operator lt reliable = rw (weight-reliable operator lt reliable) (one-positive operator lt)
 
-  pub weight-most-at : (operator : ℕ) → operator < 16 → getD (weights b indicator) operator 0 ≤ 16000000000
-  weight-most-at operator lt = rw (weight-at operator lt) (cond-le (isReliable b indicator operator) (one-most operator) zero-le)
-
-  pub weights-sum-most : sum (weights b indicator) ≤ 256000000000
+  pub weights-sum-most : sum (weights measure mask scores) ≤ 256000000000
   unfolding weights
-  weights-sum-most = sum-each-le _ 16000000000 (λ k lt. cond-le (isReliable b indicator k) (one-most k) zero-le)
+  weights-sum-most = sum-each-le _ 16000000000 (λ k lt. cond-le (has mask k) (one-most k) zero-le)

@@ -1,17 +1,18 @@
--- The weights of a book's indicator are those made from its mask and scores.
+-- Which indicators are levelled and which linear, and the weights of either kind.
 -- Assumes nothing.
 use mathlib.Core.Path.{_≡_, refl, ap}
-use mathlib.Core.Bool.{true, false}
+use mathlib.Core.Bool.{true, false, cond}
+use mathlib.Core.List.{List}
 use Prim.Native.Nat.{ℕ, zero, suc, _≤_, _<_}
 use native.Mathlib.Omega.{arith}
-use Rattle.book.specs.declared.Book.{Book}
+use lib.ListN.{getD}
+use Rattle.calls.specs.Masks.{has}
 use Rattle.apportion.specs.Sum.{sum}
 use Rattle.values.specs.Operators.{each}
-use Rattle.values.specs.Indicator.{Indicator, electricity, numbered, reliableMask, isReliable, reliableCount}
-use Rattle.values.specs.Indicator.{scores}
-use Rattle.indicators.specs.Points.{exponentWeight, isBetter, betterWeight, levelledWeight, isLevelled, weightOfOne, weights}
-use Rattle.indicators.specs.Steps.{betterIn, weightIfBetter, betterSum, levelledAt, levelledIn, linearAt, linearIn}
+use Rattle.values.specs.Indicator.{Measure, electricity, numbered}
+use Rattle.indicators.specs.Points.{exponentWeight, linearWeight, isBetter, levelled, isLevelled, weightOfOne, weights}
 use Rattle.values.proofs.Tables.{each-at, each-same}
+use Rattle.indicators.proofs.WeightLaws.{together}
 
 -- the first four indicators are levelled, the others linear
 pub levels : (number : ℕ) → number < 4 → isLevelled (numbered number .measure) ≡ true
@@ -32,15 +33,19 @@ linears (suc (suc (suc (suc zero)))) le lt = refl
 linears (suc (suc (suc (suc (suc zero))))) le lt = refl
 linears (suc (suc (suc (suc (suc (suc n)))))) le lt = absurd (omega arith)
 
-module _ (b : Book) (indicator : Indicator) where
-  together-same : betterWeight (isBetter b indicator) (exponentWeight (scores b indicator)) ≡ betterSum (reliableMask b indicator) (scores b indicator) (each (exponentWeight (scores b indicator)))
-  unfolding betterWeight betterSum weightIfBetter isBetter isReliable reliableCount betterIn
-  together-same = ap sum (each-same _ _ (λ k lt. rw (each-at (exponentWeight (scores b indicator)) k lt) refl))
+module _ (mask : ℕ) (scores : List ℕ) where
+  -- the better operators' weights taken from a list
+  pub together-same : sum (each (λ (operator : ℕ). cond (isBetter mask scores operator) (getD (each (exponentWeight scores)) operator 0) 0))
+      ≡ together (isBetter mask scores) (exponentWeight scores)
+  together-same = ap sum (each-same _ _ (λ k lt. rw (each-at (exponentWeight scores) k lt) refl))
 
-  pub levelled-same : isLevelled (indicator .measure) ≡ true → weights b indicator ≡ levelledIn (reliableMask b indicator) (scores b indicator)
-  unfolding weights levelledIn levelledAt weightOfOne levelledWeight isBetter isReliable reliableCount betterIn
-  levelled-same e = each-same _ _ (λ k lt. rw (e, together-same) refl)
+  -- the weights of either kind of measure
+  module _ (measure : Measure) where
+    pub levelled-same : isLevelled measure ≡ true
+        → weights measure mask scores ≡ each (λ (operator : ℕ). cond (has mask operator) (levelled (isBetter mask scores) (exponentWeight scores) operator) 0)
+    unfolding weights weightOfOne
+    levelled-same e = rw e refl
 
-  pub linear-same : isLevelled (indicator .measure) ≡ false → weights b indicator ≡ linearIn (reliableMask b indicator) (scores b indicator)
-  unfolding weights linearIn linearAt weightOfOne isReliable
-  linear-same e = each-same _ _ (λ k lt. rw e refl)
+    pub linear-same : isLevelled measure ≡ false → weights measure mask scores ≡ each (λ (operator : ℕ). cond (has mask operator) (linearWeight scores operator) 0)
+    unfolding weights weightOfOne
+    linear-same e = rw e refl

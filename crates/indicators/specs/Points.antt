@@ -3,14 +3,17 @@
 use Prim.Native.Nat.{ℕ, _+_, _*_, _-_, max}
 use mathlib.Core.Bool.{Bool, true, false, cond, _&&_}
 use mathlib.Core.List.{List, [], _∷_}
+use lib.Count.{ones}
 use lib.Dec.{ltb, eqb}
 use lib.ListN.{getD}
+use Rattle.calls.specs.Limits.{operators}
+use Rattle.calls.specs.Masks.{has}
 use Rattle.book.specs.declared.Book.{Book}
 use Rattle.apportion.specs.Sum.{sum}
 use Rattle.apportion.specs.Share.{share}
 use Rattle.exponent.specs.Weight.{weightOf}
 use Rattle.values.specs.Operators.{each, count}
-use Rattle.values.specs.Indicator.{Measure, frequency, duration, fee, Indicator, over, isReliable, reliableCount, pool, scores}
+use Rattle.values.specs.Indicator.{Measure, frequency, duration, fee, Indicator, over, reliableMask, pool, scores}
 
 -- the largest of a list
 unfoldable pub largest : List ℕ → ℕ
@@ -19,32 +22,26 @@ largest (x ∷ xs) = max x (largest xs)
 
 -- a score as so many parts of the largest: 01's k (1000 parts) and e (100,000 parts)
 unfoldable pub normalised : ℕ → List ℕ → ℕ → ℕ
-normalised parts list operator = over (parts * getD list operator 0) (largest list)
+normalised parts scores operator = over (parts * getD scores operator 0) (largest scores)
 
 -- A: the table's weight of k
 unfoldable pub exponentWeight : List ℕ → ℕ → ℕ
-exponentWeight list operator = weightOf (normalised 1000 list operator)
-
--- "Better operators have m × s below the sum of all s"
-unfoldable pub isBetter : Book → Indicator → ℕ → Bool
-isBetter b indicator operator =
-    isReliable b indicator operator && ltb (reliableCount b indicator * getD (scores b indicator) operator 0) (sum (scores b indicator))
-
--- the sum of the better operators' weights
-unfoldable pub betterWeight : (ℕ → Bool) → (ℕ → ℕ) → ℕ
-betterWeight better weight = sum (each (λ (operator : ℕ). cond (better operator) (weight operator) 0))
-
--- "each of them takes the sum of their weights and each other takes g times its own"; with no better operator each keeps its own
-unfoldable pub levelled : ℕ → ℕ → Bool → ℕ → ℕ
-levelled g together better own = cond (eqb g 0) own (cond better together (g * own))
-
--- an operator's weight after levelling: "With g better operators .."
-unfoldable pub levelledWeight : (ℕ → Bool) → (ℕ → ℕ) → ℕ → ℕ
-levelledWeight better weight operator = levelled (count 16 better) (betterWeight better weight) (better operator) (weight operator)
+exponentWeight scores operator = weightOf (normalised 1000 scores operator)
 
 -- D: "the weight is 1,000,000 - 6 × e"
 unfoldable pub linearWeight : List ℕ → ℕ → ℕ
-linearWeight list operator = 1000000 - 6 * normalised 100000 list operator
+linearWeight scores operator = 1000000 - 6 * normalised 100000 scores operator
+
+-- among those of a mask: "Better operators have m × s below the sum of all s"
+unfoldable pub isBetter : ℕ → List ℕ → ℕ → Bool
+isBetter mask scores operator = has mask operator && ltb (ones mask * getD scores operator 0) (sum scores)
+
+-- "With g better operators, g above 0, each of them takes the sum of their weights and each other takes g times its own"
+unfoldable pub levelled : (ℕ → Bool) → (ℕ → ℕ) → ℕ → ℕ
+levelled better own operator =
+    let g : ℕ = count operators better in
+    let together : ℕ = sum (each (λ (other : ℕ). cond (better other) (own other) 0)) in
+    cond (eqb g 0) (own operator) (cond (better operator) together (g * own operator))
 
 -- A indicators are levelled, D indicators are linear
 unfoldable pub isLevelled : Measure → Bool
@@ -53,19 +50,16 @@ isLevelled (duration seconds weight) = true
 isLevelled (fee fees connections) = false
 
 -- the weight of one that takes part
-unfoldable pub weightOfOne : Book → Indicator → ℕ → ℕ
-weightOfOne b indicator operator =
-    cond (isLevelled (indicator .measure))
-    (levelledWeight (isBetter b indicator) (exponentWeight (scores b indicator)) operator)
-    (linearWeight (scores b indicator) operator)
+unfoldable pub weightOfOne : Measure → ℕ → List ℕ → ℕ → ℕ
+weightOfOne measure mask scores operator =
+    cond (isLevelled measure) (levelled (isBetter mask scores) (exponentWeight scores) operator) (linearWeight scores operator)
 
-unfoldable pub weights : Book → Indicator → List ℕ
-weights b indicator =
-    each (λ (operator : ℕ). cond (isReliable b indicator operator) (weightOfOne b indicator operator) 0)
+unfoldable pub weights : Measure → ℕ → List ℕ → List ℕ
+weights measure mask scores = each (λ (operator : ℕ). cond (has mask operator) (weightOfOne measure mask scores operator) 0)
 
 -- the pool shared by the weights
 unfoldable pub points : Book → Indicator → List ℕ
-points b indicator = share (pool b indicator) (weights b indicator)
+points b indicator = share (pool b indicator) (weights (indicator .measure) (reliableMask b indicator) (scores b indicator))
 
 -- an operator's points over a list of indicators
 unfoldable pub allPoints : Book → List Indicator → ℕ → ℕ

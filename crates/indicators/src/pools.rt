@@ -3,7 +3,7 @@ ghost use mathlib.Core.Path.{_≡_};
 ghost use mathlib.Core.Bool.{true};
 ghost use Prim.Native.Nat.{_≤_, _<_};
 ghost use Rattle.book.specs.Book.{inRange};
-ghost use Rattle.values.specs.Indicator.{pool, numbered};
+ghost use Rattle.values.specs.Indicator.{reliableMask, scores, pool, numbered};
 ghost use Rattle.indicators.specs.Points.{weights, points};
 use crate::weights::levelled_weights;
 use crate::weights::linear_weights;
@@ -23,7 +23,7 @@ pub fn points_of(b: Book, number: u8) -> [u64; 16]
 
 fn weights_of(b: Book, number: u8) -> [u64; 16]
     requires { ⌜ (inRange b ≡ true) × (number < 6) ⌝ }
-    ensures { λ r. ⌜ r ≡ weights b (numbered number) ⌝ }
+    ensures { λ r. ⌜ r ≡ weights (numbered number .measure) (reliableMask b (numbered number)) (scores b (numbered number)) ⌝ }
 {
     let mask = reliable_mask(b, number);
     let scores = scores_of(b, number);

@@ -1,22 +1,23 @@
 // Weights of an indicator from the scores of those that take part: normalised, weighed and, for A indicators, levelled.
 ghost use mathlib.Core.Path.{_≡_};
 ghost use mathlib.Core.Bool.{cond, _&&_};
-ghost use Prim.Native.Nat.{_-_, _*_, _≤_, max};
+ghost use Prim.Native.Nat.{ℕ, _-_, _*_, _≤_, max};
 ghost use lib.Count.{ones};
-ghost use lib.Dec.{ltb};
+ghost use lib.Dec.{ltb, eqb};
+ghost use lib.ListN.{getD};
+ghost use Rattle.calls.specs.Limits.{operators};
 ghost use Rattle.calls.specs.Masks.{has};
 ghost use Rattle.apportion.specs.Sum.{sum as Sum·sum};
 ghost use Rattle.values.specs.Operators.{each, count};
 ghost use Rattle.values.specs.Indicator.{over};
-ghost use Rattle.indicators.specs.Points.{largest, exponentWeight, levelled};
 ghost use Rattle.values.specs.Steps.{Scored};
-ghost use Rattle.indicators.specs.Steps.{Weighed, betterIn, betterSum, levelledIn, linearIn};
+ghost use Rattle.indicators.specs.Points.{largest, exponentWeight, linearWeight, isBetter, levelled};
 use calls::has_bit;
 
 // A indicators: better operators share alike.
 pub(crate) fn levelled_weights(mask: u16, scores: [u64; 16]) -> [u64; 16]
     requires { ⌜ Scored scores ⌝ }
-    ensures { λ r. ⌜ r ≡ levelledIn mask scores ⌝ }
+    ensures { λ r. ⌜ r ≡ each (λ (operator : ℕ). cond (has mask operator) (levelled (isBetter mask scores) (exponentWeight scores) operator) 0) ⌝ }
 {
     let own = exponent_weights(scores);
     let sum = apportion::total(scores);
@@ -34,7 +35,7 @@ pub(crate) fn levelled_weights(mask: u16, scores: [u64; 16]) -> [u64; 16]
 // D indicators.
 pub(crate) fn linear_weights(mask: u16, scores: [u64; 16]) -> [u64; 16]
     requires { ⌜ Scored scores ⌝ }
-    ensures { λ r. ⌜ r ≡ linearIn mask scores ⌝ }
+    ensures { λ r. ⌜ r ≡ each (λ (operator : ℕ). cond (has mask operator) (linearWeight scores operator) 0) ⌝ }
 {
     let top = largest_of(scores);
     let mut weights = [0u64; 16];
@@ -114,7 +115,7 @@ pub(crate) fn ones_of(mask: u16) -> u64
 
 fn count_better(mask: u16, scores: [u64; 16], sum: u64) -> u64
     requires { ⌜ (Scored scores) × (sum ≡ Sum·sum scores) ⌝ }
-    ensures { λ r. ⌜ (r ≡ count 16 (betterIn mask scores)) × (r ≤ 16) ⌝ }
+    ensures { λ r. ⌜ (r ≡ count operators (isBetter mask scores)) × (r ≤ 16) ⌝ }
 {
     let mut g = 0;
     let mut i = 0;
@@ -129,8 +130,8 @@ fn count_better(mask: u16, scores: [u64; 16], sum: u64) -> u64
 
 // The better operators' weights together.
 fn weigh_better(mask: u16, scores: [u64; 16], sum: u64, own: [u64; 16]) -> u64
-    requires { ⌜ (Scored scores) × (sum ≡ Sum·sum scores) × Weighed own ⌝ }
-    ensures { λ r. ⌜ r ≡ betterSum mask scores own ⌝ }
+    requires { ⌜ (Scored scores) × (sum ≡ Sum·sum scores) × ((k : ℕ) → getD own k 0 ≤ 1000000000) ⌝ }
+    ensures { λ r. ⌜ r ≡ Sum·sum (each (λ (operator : ℕ). cond (isBetter mask scores operator) (getD own operator 0) 0)) ⌝ }
 {
     let mut counted = [0u64; 16];
     let mut i = 0;
@@ -162,7 +163,7 @@ fn levelled_weight(
     own: u64,
 ) -> u64
     requires { ⌜ (score ≤ 300000000000000000) × (g ≤ 16) × (own ≤ 1000000000) ⌝ }
-    ensures { λ r. ⌜ r ≡ cond (has mask operator) (levelled g together (has mask operator && ltb (ones mask * score) sum) own) 0 ⌝ }
+    ensures { λ r. ⌜ r ≡ cond (has mask operator) (cond (eqb g 0) own (cond (has mask operator && ltb (ones mask * score) sum) together (g * own))) 0 ⌝ }
 {
     if !has_bit(mask, operator) {
         return 0;

@@ -5,6 +5,7 @@ use mathlib.Core.Bool.{cond}
 use mathlib.Core.List.{List, [], _∷_, _++_}
 use lib.IntN.{pos}
 use lib.ListN.{getD}
+use Rattle.calls.specs.Limits.{operators, indicatorCount}
 use Rattle.book.specs.declared.Book.{Book}
 use Rattle.book.specs.Book.{isJoined}
 use Rattle.apportion.specs.Sum.{sum}
@@ -23,7 +24,7 @@ header = line (bytesOf "operator") (bytesOf "points") (bytesOf "out") (bytesOf "
 
 -- an operator's points over all indicators
 unfoldable pub pointsOfOperator : Settlement → ℕ → ℕ
-pointsOfOperator s operator = sum (table 6 (λ (number : ℕ). getD (s .points) (16 * number + operator) 0))
+pointsOfOperator s operator = sum (table indicatorCount (λ (number : ℕ). getD (s .points) (operators * number + operator) 0))
 
 -- "Points in hundredths, money in cents, "in" and "out" before the limit"
 unfoldable pub operatorLine : Settlement → ℕ → List ℕ
@@ -49,4 +50,4 @@ lastLine s =
     (signedDecimal (sumℤ (s .adjustments)))
 
 unfoldable pub printed : Book → Settlement → List ℕ
-printed b s = header ++ operatorLines b s 16 ++ lastLine s
+printed b s = header ++ operatorLines b s operators ++ lastLine s

@@ -41,8 +41,8 @@ fn full_book() -> Book {
     b.settings = list;
     let amounts = figures();
     b.figures = amounts;
-    b.pot = 20000;
-    b.cap = 10000;
+    b.pot_rate = 20000;
+    b.cap_rate = 10000;
     b
 }
 

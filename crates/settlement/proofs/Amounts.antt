@@ -48,7 +48,7 @@ module _ (b : Book) (ranged : inRange b ≡ true) where
 
   pub limit-most : (k : ℕ) → k < 16 → getD (limits b) k 0 ≤ 2000000000
   unfolding limits
-  limit-most k lt = rw (each-at (λ (operator : ℕ). b .cap * settingOf b operator 2 / 1000000) k lt) (omega (arith, limit-product-le b ranged k lt))
+  limit-most k lt = rw (each-at (λ (operator : ℕ). b .«cap_rate» * settingOf b operator 2 / 1000000) k lt) (omega (arith, limit-product-le b ranged k lt))
 
 -- the weights of returns, as the code makes them
 pub weights-same : (b : Book) (indicators : List Indicator) (access totals : List ℕ) → access ≡ accessPoints b → totals ≡ each (allPoints b indicators)

@@ -18,7 +18,7 @@ use Rattle.apportion.proofs.Sums.{element-le}
 use Rattle.apportion.proofs.Shared.{shared}
 use Rattle.values.specs.Operators.{table, each}
 use Rattle.values.specs.Indicator.{Indicator, electricity, numbered, reliableMask, reliableCount, pool}
-use Rattle.indicators.specs.Points.{weights, points, allPoints}
+use Rattle.indicators.specs.Points.{points, allPoints}
 use Rattle.values.proofs.Scores.{over-le}
 use Rattle.indicators.proofs.PointLaws.{points-length}
 use Rattle.settlement.specs.declared.gather.Gathered.{Gathered}
@@ -58,7 +58,7 @@ pool-le b number lt =
 
 pub point-le : (b : Book) (number : ℕ) → number < 6 → (operator : ℕ) → getD (points b (numbered number)) operator 0 ≤ 739200
 unfolding points
-point-le b number lt operator = le-trans (share-le _ (weights b (numbered number)) operator) (pool-le b number lt)
+point-le b number lt operator = le-trans (share-le _ _ operator) (pool-le b number lt)
 
 -- one indicator more, at the end of the list
 points-snoc : (b : Book) (list : List Indicator) (indicator : Indicator) → pointsOfAll b (list ++ (indicator ∷ [])) ≡ pointsOfAll b list ++ points b indicator

@@ -11,7 +11,7 @@ use Rattle.book.specs.Book.{settingOf, inRange}
 use Rattle.apportion.specs.Sum.{sum}
 use Rattle.apportion.proofs.Sums.{sum-bound}
 use Rattle.settlement.specs.Money.{accessPoints, incomes, pot}
-use Rattle.values.proofs.InRange.{income-le, pot-le as pot-rate-le, cap-le as cap-rate-le}
+use Rattle.values.proofs.InRange.{income-le, pot-rate-le, cap-rate-le}
 use Rattle.values.proofs.Tables.{length-each, each-at}
 
 pub access-at : (b : Book) (operator : ℕ) → operator < 16 → getD (accessPoints b) operator 0 ≡ settingOf b operator 1
@@ -29,12 +29,12 @@ module _ (b : Book) (in-range : inRange b ≡ true) where
       let long : length (incomes b) ≡ 16 = length-each _ in
       omega (arith, sum-bound (incomes b) 100000000000 (λ i lt. rw (income-at b i (omega arith)) (income-le b in-range i (omega arith))))
 
-  pub pot-product-le : b .pot * sum (incomes b) ≤ 32000000000000000
+  pub pot-product-le : b .«pot_rate» * sum (incomes b) ≤ 32000000000000000
   pot-product-le = mul-le-mul (pot-rate-le b in-range) incomes-le
 
   pub pot-le : pot b ≤ 32000000000
   unfolding pot
   pot-le = omega (arith, pot-product-le)
 
-  pub limit-product-le : (operator : ℕ) → operator < 16 → b .cap * settingOf b operator 2 ≤ 2000000000000000
+  pub limit-product-le : (operator : ℕ) → operator < 16 → b .«cap_rate» * settingOf b operator 2 ≤ 2000000000000000
   limit-product-le operator lt = mul-le-mul (cap-rate-le b in-range) (income-le b in-range operator lt)

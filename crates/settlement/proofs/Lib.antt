@@ -3,7 +3,9 @@ pub mod InRange
 pub mod Signs
 pub mod DifferenceLaws
 pub mod BalanceLaws
-pub mod SettledLaws
+pub mod AdjustmentLaws
+pub mod MarkLaws
 pub mod UnjoinedLaws
+pub mod SettledLaws
 pub mod Gathering
 pub mod Amounts

@@ -1,94 +1,113 @@
--- When a book settles, and that what it then settles is balanced, as specs/Laws.antt says.
+-- When a book settles, and that what it is then given is balanced, as specs/Laws.antt says.
 -- Assumes nothing.
-use Prim.Native.Nat.{ℕ, _+_, _^_, _≤_, _<_}
-use mathlib.Core.Path.{_≡_, refl, sym, ap, ap₂, _∙_}
-use mathlib.Core.Bool.{Bool, true, false, cond, not, _&&_, _||_, false≢true}
-use mathlib.Core.Logic.{_↔_}
-use mathlib.Core.List.{List, [], _∷_}
+use Prim.Native.Nat.{ℕ, zero, suc, _+_, _*_, _<_}
+use mathlib.Core.Path.{_≡_, refl, sym, ap, _∙_}
+use mathlib.Core.Bool.{Bool, true, false, not, _&&_, _||_, false≢true}
+use mathlib.Core.List.{List, [], _∷_, map}
 use native.Mathlib.Nat.{mul-pos}
 use native.Mathlib.Omega.{arith}
 use lib.Dec.{eqb, lit<}
-use lib.IntN.{pos, subℕ, natAbs}
-use lib.ListN.{length, getD}
-use borrow.Author.Tests.{eqb-false, not-true, not-false}
+use lib.ListN.{length, getD, take, drop}
+use lib.Seq.{take-at, drop-append-add}
+use borrow.Author.Tests.{eqb-false, not-false}
 use Rattle.apportion.specs.Sum.{sum}
 use Rattle.apportion.specs.Share.{share}
 use Rattle.apportion.proofs.Shared.{shared}
+use Rattle.calls.specs.Answers.{Acceptance, accepted, yes-said, onAnswer, firstOf}
+use Rattle.calls.specs.Laws.{applies, risesFrom}
+use Rattle.calls.proofs.Flags.{or-right, and-other}
+use Rattle.calls.proofs.Lowest.{lowest}
 use Rattle.book.specs.declared.Book.{Book}
 use Rattle.book.specs.Book.{isJoined, settingOf, inRange}
-use Rattle.book.proofs.EveryLaws.{each-of-every}
-use Rattle.calls.specs.declared.Refusal.{Refusal}
-use Rattle.calls.specs.declared.Refusal.the-variants.{OutOfRange, NoneJoined, NetworkMissing, AllMarked}
-use Rattle.calls.specs.declared.Answer.the-variants.{Yes, Refused}
-use Rattle.calls.proofs.Flags.{or-right, and-other}
+use Rattle.book.proofs.Bounds.{bounded}
 use Rattle.values.specs.Operators.{each}
 use Rattle.values.specs.Indicator.{Indicator, electricity, reliableMask, isReliable, pool}
+use Rattle.values.proofs.AnyLaws.{or-left, each-of-none}
+use Rattle.values.proofs.Tables.{each-le-sum, some-place}
 use Rattle.indicators.specs.Points.{points, allPoints}
-use Rattle.values.proofs.Tables.{each-le-sum, table-at, some-place}
 use Rattle.indicators.proofs.OnesLaws.{some-one}
 use Rattle.indicators.proofs.PointLaws.{points-made-up, points-length, points-reliable, reliable-joined, reliable-small, pool-above}
-use Rattle.settlement.specs.Money.{accessPoints, pot, contributions, returnWeights, returns, limits, bonuses, maluses, balanced, adjustments}
-use Rattle.settlement.specs.Settlement.{networkMissing, allMarked, settlementBy, refusing, settledBy, settled}
-use Rattle.settlement.specs.Laws.{sumℤ, Worth, Settles, SettleAlike, BalancedIfSettles}
-use Rattle.settlement.proofs.DifferenceLaws.{none-left, difference-most, differences-sum, table-of}
-use Rattle.settlement.proofs.BalanceLaws.{capped-length, capped-most, balanced-length, balanced-sum, balanced-within}
+use Rattle.settlement.specs.Money.{accessPoints, pot, contributions, returnWeights, returns}
+use Rattle.settlement.specs.Settlement.{networkMissing, allMarked, pointsOfAll, settlementBy, settlingLines, settledBy, settled}
+use Rattle.settlement.specs.Laws.{Worth, Settles, SettlesExactly, LowestOfSettling, pointsAt, Balanced, BalancedIfSettles, SettleAlike}
+use Rattle.settlement.proofs.MarkLaws.{marked-none, marked-more}
+use Rattle.settlement.proofs.AdjustmentLaws.{adjustments-cancel, within-limits}
+use Rattle.settlement.proofs.UnjoinedLaws.{points-unjoined, contribution-none, return-none, limit-none, adjustment-none}
 
 pub worth-electricity : Worth electricity
 unfolding electricity
 worth-electricity = (lit< tt, (lit< tt, (lit< tt, (lit< tt, (lit< tt, (lit< tt, tt))))))
 
--- a refusal is no acceptance
-refused : (refusal : Refusal) → Refused refusal ≡ Yes → ⊥
-refused refusal accepted = let z : _≡_ {A = ℕ} 0 1 = cc in omega arith
+-- a table refuses, or gives its value
+only-value : (lines : List (ℕ × Bool)) → onAnswer (λ (number : ℕ). yes-said) (λ (said : Acceptance). said) (firstOf lines yes-said) ≡ yes-said
+unfolding firstOf onAnswer
+only-value [] = refl
+only-value ((number, true) ∷ rest) = refl
+only-value ((number, false) ∷ rest) = only-value rest
 
--- the four tests say whether a book settles
-pub settles-exactly : (b : Book) (indicators : List Indicator) → (settledBy b indicators .answer ≡ Yes) ↔ Settles b indicators
-unfolding settledBy refusing
-settles-exactly b indicators = (
-  go (inRange b) refl (eqb (b .joined) 0) refl (networkMissing b) refl (allMarked b indicators) refl,
-  λ settles. rw (settles .in-range, settles .somebody, settles .network, settles .reliable) refl,
-)
-  where
-    go : (r : Bool) → inRange b ≡ r → (s : Bool) → eqb (b .joined) 0 ≡ s → (n : Bool) → networkMissing b ≡ n → (a : Bool) → allMarked b indicators ≡ a
-        → cond (not r) (refusing OutOfRange)
-        (cond s (refusing NoneJoined)
-        (cond n (refusing NetworkMissing)
-        (cond a (refusing AllMarked)
-        (record { settlement = settlementBy b indicators; answer = Yes }))))
-        .answer ≡ Yes → Settles b indicators
-    go false er s es n en a ea accepted = absurd (refused _ accepted)
-    go true er true es n en a ea accepted = absurd (refused _ accepted)
-    go true er false es true en a ea accepted = absurd (refused _ accepted)
-    go true er false es false en true ea accepted = absurd (refused _ accepted)
-    go true er false es false en false ea accepted = record { in-range = er; somebody = es; network = en; reliable = ea }
+module _ (b : Book) (indicators : List Indicator) where
+  pub lowest-of-settling : LowestOfSettling b indicators
+  unfolding risesFrom settlingLines
+  lowest-of-settling = lowest yes-said (settlingLines b indicators) refl
+
+  pub settles-exactly : SettlesExactly b indicators
+  unfolding settledBy
+  settles-exactly = (lowest-of-settling .answered .1, lowest-of-settling .answered .0)
+
+  -- settling accepts with nothing but yes
+  pub accepted-yes : (value : Acceptance) → settledBy b indicators .said ≡ accepted value → value ≡ yes-said
+  unfolding settledBy onAnswer
+  accepted-yes value e = sym (ap (onAnswer (λ (number : ℕ). yes-said) (λ (said : Acceptance). said)) e) ∙ only-value (settlingLines b indicators)
+
+  -- a book that settles passes the four tests, and is given its settlement
+  module _ (settles : Settles b indicators) where
+    pub settles-ranged : inRange b ≡ true
+    unfolding applies settlingLines
+    settles-ranged = not-false _ (or-left (not (inRange b)) _ (settles 5))
+
+    settles-somebody : eqb (b .joined) 0 ≡ false
+    unfolding applies settlingLines
+    settles-somebody = or-left (eqb (b .joined) 0) _ (settles 10)
+
+    settles-network : networkMissing b ≡ false
+    unfolding applies settlingLines
+    settles-network = or-left (networkMissing b) _ (settles 11)
+
+    settles-reliable : allMarked b indicators ≡ false
+    unfolding applies settlingLines
+    settles-reliable = or-left (allMarked b indicators) _ (settles 12)
+
+    pub settled-so : settledBy b indicators .settlement ≡ settlementBy b indicators
+    unfolding settledBy onAnswer
+    settled-so = rw (lowest-of-settling .answered .1 settles) refl
 
 -- a joined operator has access points
 joined-access : (b : Book) → networkMissing b ≡ false → (operator : ℕ) → operator < 16 → isJoined b operator ≡ true → 0 < settingOf b operator 1
 unfolding networkMissing
 joined-access b network operator lt joined =
-    let tests : isJoined b operator && (eqb (settingOf b operator 0) 0 || eqb (settingOf b operator 1) 0) ≡ false =
-    not-true _ (each-of-every 16 _ (not-false _ network) operator lt) in
+    let tests : isJoined b operator && (eqb (settingOf b operator 0) 0 || eqb (settingOf b operator 1) 0) ≡ false = each-of-none 16 _ network operator lt in
     let access : eqb (settingOf b operator 1) 0 ≡ false = or-right (eqb (settingOf b operator 0) 0) _ (and-other _ _ joined tests) in
     omega (arith, eqb-false (settingOf b operator 1) 0 access)
 
-module _ (b : Book) (small : b .joined < 2 ^ 16) where
+module _ (b : Book) (ranged : inRange b ≡ true) where
   -- where somebody takes part, a joined operator has points
   indicator-points : (indicator : Indicator) → 0 < indicator .points → 0 < reliableMask b indicator
       → (operator : ℕ) × (operator < 16) × (isJoined b operator ≡ true) × (0 < getD (points b indicator) operator 0)
   unfolding isReliable
   indicator-points indicator worth somebody =
-      let one = some-one 16 (reliableMask b indicator) (reliable-small b indicator small) somebody in
-      let above : 0 < pool b indicator = pool-above b indicator small worth (one .0) (one .1) (one .2) in
-      let found = some-place (points b indicator) (rw (points-made-up b indicator small .whole) above) in
+      let one = some-one 16 (reliableMask b indicator) (reliable-small b indicator ranged) somebody in
+      let above : 0 < pool b indicator = pool-above b indicator ranged worth (one .0) (one .1) (one .2) in
+      let found = some-place (points b indicator) (rw (points-made-up b indicator ranged .whole) above) in
       let place : found .0 < 16 = rw points-length at (found .1) in
       (found .0, place, reliable-joined b indicator (found .0) (points-reliable b indicator (found .0) place (found .2)), found .2)
 
   -- and so over a list of indicators
   some-points : (indicators : List Indicator) → Worth indicators → allMarked b indicators ≡ false
       → (operator : ℕ) × (operator < 16) × (isJoined b operator ≡ true) × (0 < allPoints b indicators operator)
-  unfolding allMarked allPoints
-  some-points [] worth reliable = absurd (false≢true (sym reliable))
-  some-points (indicator ∷ rest) worth reliable = go (eqb (reliableMask b indicator) 0) refl reliable (some-points rest (worth .1))
+  unfolding allPoints
+  some-points [] worth reliable = absurd (false≢true (sym reliable ∙ marked-none b))
+  some-points (indicator ∷ rest) worth reliable =
+      go (eqb (reliableMask b indicator) 0) refl (sym (marked-more b ranged indicator rest) ∙ reliable) (some-points rest (worth .1))
     where
       go : (t : Bool) → eqb (reliableMask b indicator) 0 ≡ t → t && allMarked b rest ≡ false
           → (allMarked b rest ≡ false → (operator : ℕ) × (operator < 16) × (isJoined b operator ≡ true) × (0 < allPoints b rest operator))
@@ -104,65 +123,57 @@ module _ (b : Book) (small : b .joined < 2 ^ 16) where
 shared-whole : (T : ℕ) (f : ℕ → ℕ) (k : ℕ) → k < 16 → 0 < f k → sum (share T (each f)) ≡ T
 shared-whole T f k lt above = shared T (each f) .whole (omega (arith, above, each-le-sum f k lt))
 
-contributions-whole : (b : Book) → b .joined < 2 ^ 16 → eqb (b .joined) 0 ≡ false → networkMissing b ≡ false → sum (contributions b) ≡ pot b
+contributions-whole : (b : Book) → inRange b ≡ true → eqb (b .joined) 0 ≡ false → networkMissing b ≡ false → sum (contributions b) ≡ pot b
 unfolding contributions accessPoints isJoined
-contributions-whole b small somebody network =
-    let found = some-one 16 (b .joined) small (omega (arith, eqb-false (b .joined) 0 somebody)) in
+contributions-whole b ranged somebody network =
+    let found = some-one 16 (b .joined) (bounded b ranged .joined-small) (omega (arith, eqb-false (b .joined) 0 somebody)) in
     shared-whole (pot b) _ (found .0) (found .1) (joined-access b network (found .0) (found .1) (found .2))
 
-returns-whole : (b : Book) (indicators : List Indicator) → b .joined < 2 ^ 16 → Worth indicators → networkMissing b ≡ false
+returns-whole : (b : Book) (indicators : List Indicator) → inRange b ≡ true → Worth indicators → networkMissing b ≡ false
     → allMarked b indicators ≡ false → sum (returns b indicators) ≡ pot b
 unfolding returns returnWeights
-returns-whole b indicators small worth network reliable =
-    let found = some-points b small indicators worth reliable in
+returns-whole b indicators ranged worth network reliable =
+    let found = some-points b ranged indicators worth reliable in
     shared-whole (pot b) _ (found .0) (found .1) (mul-pos (joined-access b network (found .0) (found .1) (found .2)) (found .3))
 
--- gains and losses after both sides are balanced
-module _ (b : Book) (indicators : List Indicator) where
-  abbrev gains : List ℕ
-  gains = balanced (bonuses b indicators) (maluses b indicators)
+-- the points and the pool at a place of the list are those of one indicator
+placed : (b : Book) (indicators : List Indicator) (place : ℕ) → place < length indicators
+    → (indicator : Indicator) × (take 16 (drop (16 * place) (pointsOfAll b indicators)) ≡ points b indicator)
+    × (getD (map (pool b) indicators) place 0 ≡ pool b indicator)
+unfolding pointsOfAll
+placed b [] place lt = absurd (omega arith)
+placed b (indicator ∷ rest) zero lt = (indicator, take-at (points b indicator) _ 16 (points-length b indicator), refl)
+placed b (indicator ∷ rest) (suc place) lt =
+    let found = placed b rest place (omega arith) in
+    let further : 16 * suc place ≡ length (points b indicator) + 16 * place = omega (arith, points-length b indicator) in
+    (found .0, rw (further, drop-append-add (points b indicator) (pointsOfAll b rest) (16 * place)) (found .1), found .2)
 
-  abbrev losses : List ℕ
-  losses = balanced (maluses b indicators) (bonuses b indicators)
-
-  bonuses-length : length (bonuses b indicators) ≡ 16
-  unfolding bonuses
-  bonuses-length = capped-length _ _ _
-
-  maluses-length : length (maluses b indicators) ≡ 16
-  unfolding maluses
-  maluses-length = capped-length _ _ _
-
-  pub adjustments-cancel : sumℤ (adjustments b indicators) ≡ pos 0
-  unfolding adjustments
-  adjustments-cancel =
-      let sums : sum gains ≡ sum losses = balanced-sum _ _ ∙ omega arith ∙ sym (balanced-sum _ _) in
-      differences-sum _ _ 16
-      ∙ ap₂ (λ (l k : List ℕ). subℕ (sum l) (sum k)) (table-of gains 16 (balanced-length _ _ ∙ bonuses-length)) (table-of losses 16 (balanced-length _ _ ∙ maluses-length))
-      ∙ ap (λ (n : ℕ). subℕ n (sum losses)) sums
-      ∙ none-left (sum losses)
-
-  pub within-limits : (operator : ℕ) → operator < 16 → natAbs (getD (adjustments b indicators) operator (pos 0)) ≤ getD (limits b) operator 0
-  unfolding adjustments bonuses maluses
-  within-limits operator lt =
-      rw (table-at _ 16 operator (pos 0) lt)
-      (omega (
-        arith,
-        difference-most (getD gains operator 0) (getD losses operator 0),
-        balanced-within (bonuses b indicators) (maluses b indicators) operator (rw bonuses-length lt),
-        balanced-within (maluses b indicators) (bonuses b indicators) operator (rw maluses-length lt),
-        capped-most (returns b indicators) (contributions b) (limits b) operator lt,
-        capped-most (contributions b) (returns b indicators) (limits b) operator lt,
-      ))
-
-pub balanced-if-settles : (b : Book) (indicators : List Indicator) → BalancedIfSettles b indicators
-balanced-if-settles b indicators small worth settles =
+balanced-settlement : (b : Book) (indicators : List Indicator) → Worth indicators → Settles b indicators → Balanced b indicators (settlementBy b indicators)
+unfolding settlementBy pointsAt
+balanced-settlement b indicators worth settles =
+    let ranged = settles-ranged b indicators settles in
+    let network = settles-network b indicators settles in
     record {
-      contributions-whole = contributions-whole b small (settles .somebody) (settles .network);
-      returns-whole = returns-whole b indicators small worth (settles .network) (settles .reliable);
+      points-whole = λ place lt.
+          let at = placed b indicators place lt in
+          ap sum (at .1) ∙ points-made-up b (at .0) ranged .whole ∙ sym (at .2);
+      contributions-whole = contributions-whole b ranged (settles-somebody b indicators settles) network;
+      returns-whole = returns-whole b indicators ranged worth network (settles-reliable b indicators settles);
       adjustments-cancel = adjustments-cancel b indicators;
       within-limits = within-limits b indicators;
+      unjoined-nought = λ operator lt apart. (
+        λ place inside.
+            let at = placed b indicators place inside in
+            ap (λ (l : List ℕ). getD l operator 0) (at .1) ∙ points-unjoined b ranged operator lt apart (at .0),
+        contribution-none b ranged operator lt apart,
+        return-none b ranged operator lt apart indicators,
+        limit-none b ranged operator lt apart,
+        adjustment-none b ranged operator lt apart indicators,
+      );
     }
+
+pub balanced-if-settles : (b : Book) (indicators : List Indicator) → BalancedIfSettles b indicators
+balanced-if-settles b indicators worth settles = rw (settled-so b indicators settles) (balanced-settlement b indicators worth settles)
 
 pub settle-alike : (b other : Book) → SettleAlike b other
 settle-alike b other same = ap settled same

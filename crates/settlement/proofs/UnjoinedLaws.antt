@@ -19,8 +19,7 @@ use Rattle.indicators.specs.Points.{points}
 use Rattle.values.proofs.Tables.{length-each, each-at}
 use Rattle.indicators.proofs.PointLaws.{reliable-joined, points-none}
 use Rattle.settlement.specs.Money.{accessPoints, pot, contributions, returnWeights, returns, limits, adjustments}
-use Rattle.settlement.specs.Laws.{AllNought, NoughtIfApart}
-use Rattle.settlement.proofs.SettledLaws.{within-limits}
+use Rattle.settlement.proofs.AdjustmentLaws.{within-limits}
 
 -- a share by a weight of 0
 none-shared : (T : ℕ) (f : ℕ → ℕ) (k : ℕ) → k < 16 → f k ≡ 0 → getD (share T (each f)) k 0 ≡ 0
@@ -38,38 +37,25 @@ module _ (b : Book) (ranged : inRange b ≡ true) (operator : ℕ) (lt : operato
       let none : settingOf b operator which ≤ 0 = rw apart at (bounded b ranged .setting operator which lt small) in
       omega (arith, none)
 
-  points-unjoined : (indicator : Indicator) → getD (points b indicator) operator 0 ≡ 0
+  pub points-unjoined : (indicator : Indicator) → getD (points b indicator) operator 0 ≡ 0
   points-unjoined indicator = points-none b indicator operator lt (go (isReliable b indicator operator) refl)
     where
       go : (t : Bool) → isReliable b indicator operator ≡ t → isReliable b indicator operator ≡ false
       go true reliable = absurd (false≢true (sym apart ∙ reliable-joined b indicator operator reliable))
       go false marked = marked
 
-  contribution-none : getD (contributions b) operator 0 ≡ 0
+  pub contribution-none : getD (contributions b) operator 0 ≡ 0
   unfolding contributions accessPoints
   contribution-none = none-shared (pot b) _ operator lt (setting-none 1 (omega arith))
 
-  limit-none : getD (limits b) operator 0 ≡ 0
+  pub limit-none : getD (limits b) operator 0 ≡ 0
   unfolding limits
   limit-none = each-at _ operator lt ∙ rw (setting-none 2 (omega arith), mul-zero) (zero-div 1000000)
 
   module _ (indicators : List Indicator) where
-    return-none : getD (returns b indicators) operator 0 ≡ 0
+    pub return-none : getD (returns b indicators) operator 0 ≡ 0
     unfolding returns returnWeights
     return-none = none-shared (pot b) _ operator lt (rw (setting-none 1 (omega arith)) (zero-mul _))
 
-    adjustment-none : getD (adjustments b indicators) operator (pos 0) ≡ pos 0
+    pub adjustment-none : getD (adjustments b indicators) operator (pos 0) ≡ pos 0
     adjustment-none = no-size _ (omega (arith, within-limits b indicators operator lt, limit-none))
-
-    nought : AllNought b indicators operator
-    nought =
-        record {
-          points-nought = points-unjoined;
-          contribution-nought = contribution-none;
-          return-nought = return-none;
-          limit-nought = limit-none;
-          adjustment-nought = adjustment-none;
-        }
-
-pub all-nought : (b : Book) (indicators : List Indicator) (operator : ℕ) → NoughtIfApart b indicators operator
-all-nought b indicators operator ranged lt apart = nought b ranged operator lt apart indicators

@@ -6,6 +6,7 @@ use mathlib.Core.List.{List}
 use lib.Dec.{ltb}
 use lib.IntN.{ℤ, subℕ}
 use lib.ListN.{getD}
+use Rattle.calls.specs.Limits.{operators}
 use Rattle.book.specs.declared.Book.{Book}
 use Rattle.book.specs.Book.{settingOf}
 use Rattle.apportion.specs.Sum.{sum}
@@ -22,7 +23,7 @@ incomes b = settingsOf b 2
 
 -- "Pot = pot rate × (sum of incomes) / 1,000,000, rounded down"
 unfoldable pub pot : Book → ℕ
-pot b = b .pot * sum (incomes b) / 1000000
+pot b = b .«pot_rate» * sum (incomes b) / 1000000
 
 -- "Contributions share the pot by access points. Returns share it by access points × points."
 unfoldable pub contributions : Book → List ℕ
@@ -36,7 +37,7 @@ returns b indicators = share (pot b) (returnWeights b indicators)
 
 -- "Limit = cap rate × income / 1,000,000, rounded down"
 unfoldable pub limits : Book → List ℕ
-limits b = each (λ (operator : ℕ). b .cap * settingOf b operator 2 / 1000000)
+limits b = each (λ (operator : ℕ). b .«cap_rate» * settingOf b operator 2 / 1000000)
 
 -- what one list has more than another, each cut to its limit
 unfoldable pub capped : List ℕ → List ℕ → List ℕ → List ℕ
@@ -46,16 +47,12 @@ capped more less limit = each (λ (operator : ℕ). min (getD more operator 0 - 
 unfoldable pub balanced : List ℕ → List ℕ → List ℕ
 balanced side other = cond (ltb (sum other) (sum side)) (share (sum other) side) side
 
--- bonuses and maluses, before and after
-unfoldable pub bonuses : Book → List Indicator → List ℕ
-bonuses b indicators = capped (returns b indicators) (contributions b) (limits b)
+-- "That is the adjustment": a bonus, where more is received than paid, is above 0, a malus below
+unfoldable pub adjustedBy : List ℕ → List ℕ → List ℕ → List ℤ
+adjustedBy received paid limit =
+    let bonuses : List ℕ = capped received paid limit in
+    let maluses : List ℕ = capped paid received limit in
+    table operators (λ (operator : ℕ). subℕ (getD (balanced bonuses maluses) operator 0) (getD (balanced maluses bonuses) operator 0))
 
-unfoldable pub maluses : Book → List Indicator → List ℕ
-maluses b indicators = capped (contributions b) (returns b indicators) (limits b)
-
--- "That is the adjustment": a bonus is above 0, a malus below
 unfoldable pub adjustments : Book → List Indicator → List ℤ
-adjustments b indicators =
-    let gains : List ℕ = balanced (bonuses b indicators) (maluses b indicators) in
-    let losses : List ℕ = balanced (maluses b indicators) (bonuses b indicators) in
-    table 16 (λ (operator : ℕ). subℕ (getD gains operator 0) (getD losses operator 0))
+adjustments b indicators = adjustedBy (returns b indicators) (contributions b) (limits b)

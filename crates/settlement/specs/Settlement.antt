@@ -1,32 +1,34 @@
 -- The whole settlement of a book, or its refusal (01, "Settlement" and numbers 5, 10, 11, 12).
 -- Assumes nothing.
-use Prim.Native.Nat.{ℕ}
-use mathlib.Core.Bool.{Bool, true, cond, not, _&&_, _||_}
+use Prim.Native.Nat.{ℕ, _*_}
+use mathlib.Core.Bool.{Bool, true, not, _&&_, _||_}
 use mathlib.Core.List.{List, [], _∷_, _++_, map}
 use lib.Dec.{eqb}
 use lib.IntN.{pos}
 use lib.ListN.{replicate}
 use Rattle.settlement.specs.declared.Settlement.{Settlement}
-use Rattle.settlement.specs.declared.Settled.{Settled}
+use Rattle.calls.specs.Limits.{operators, indicatorCount}
+use Rattle.calls.specs.Answers.{Said, Acceptance, yes-said, onAnswer, firstOf}
 use Rattle.book.specs.declared.Book.{Book}
 use Rattle.book.specs.Every.{every}
-use Rattle.book.specs.Book.{isJoined, settingOf, inRange}
-use Rattle.calls.specs.declared.Refusal.{Refusal}
-use Rattle.calls.specs.declared.Refusal.the-variants.{OutOfRange, NoneJoined, NetworkMissing, AllMarked}
-use Rattle.calls.specs.declared.Answer.the-variants.{Yes, Refused}
-use Rattle.values.specs.Indicator.{Indicator, electricity, reliableMask, pool}
+use Rattle.book.specs.Book.{isJoined, isMarked, settingOf, inRange}
+use Rattle.values.specs.Operators.{any}
+use Rattle.values.specs.Indicator.{Indicator, electricity, pool}
 use Rattle.indicators.specs.Points.{points}
 use Rattle.settlement.specs.Money.{pot, contributions, returns, limits, adjustments}
 
 -- 11: "a joined operator has 0 cabins or access points"
 unfoldable pub networkMissing : Book → Bool
 networkMissing b =
-    not (every 16 (λ (operator : ℕ). not (isJoined b operator && (eqb (settingOf b operator 0) 0 || eqb (settingOf b operator 1) 0))))
+    any operators (λ (operator : ℕ). isJoined b operator && (eqb (settingOf b operator 0) 0 || eqb (settingOf b operator 1) 0))
 
--- 12: "every joined operator marked" at all indicators: nobody takes part anywhere
+-- 12: "every joined operator marked at all six indicators", here at all of a list
+unfoldable pub isMarkedAtAll : Book → List Indicator → ℕ → Bool
+isMarkedAtAll b [] operator = true
+isMarkedAtAll b (indicator ∷ rest) operator = isMarked b operator (indicator .number) && isMarkedAtAll b rest operator
+
 unfoldable pub allMarked : Book → List Indicator → Bool
-allMarked b [] = true
-allMarked b (indicator ∷ rest) = eqb (reliableMask b indicator) 0 && allMarked b rest
+allMarked b indicators = every operators (λ (operator : ℕ). not (isJoined b operator) || isMarkedAtAll b indicators operator)
 
 -- the lists of all indicators, one after the other
 unfoldable pub pointsOfAll : Book → List Indicator → List ℕ
@@ -49,26 +51,29 @@ settlementBy b indicators =
 unfoldable pub nothing : Settlement
 nothing =
     record {
-      pools = replicate 6 0;
-      points = replicate 96 0;
+      pools = replicate indicatorCount 0;
+      points = replicate (operators * indicatorCount) 0;
       pot = 0;
-      contributions = replicate 16 0;
-      returns = replicate 16 0;
-      limits = replicate 16 0;
-      adjustments = replicate 16 (pos 0);
+      contributions = replicate operators 0;
+      returns = replicate operators 0;
+      limits = replicate operators 0;
+      adjustments = replicate operators (pos 0);
     }
 
-unfoldable pub refusing : Refusal → Settled
-refusing refusal = record { settlement = nothing; answer = Refused refusal }
+-- the numbers by which settling refuses
+unfoldable pub settlingLines : Book → List Indicator → List (ℕ × Bool)
+settlingLines b indicators =
+    (5, not (inRange b)) ∷ (10, eqb (b .joined) 0) ∷ (11, networkMissing b) ∷ (12, allMarked b indicators) ∷ []
 
--- "The lowest number that applies is given"
-unfoldable pub settledBy : Book → List Indicator → Settled
+-- what settling gives
+pub record Outcome : Type 0 where
+  pub settlement : Settlement
+  pub said : Said Acceptance
+
+unfoldable pub settledBy : Book → List Indicator → Outcome
 settledBy b indicators =
-    cond (not (inRange b)) (refusing OutOfRange)
-    (cond (eqb (b .joined) 0) (refusing NoneJoined)
-    (cond (networkMissing b) (refusing NetworkMissing)
-    (cond (allMarked b indicators) (refusing AllMarked)
-    (record { settlement = settlementBy b indicators; answer = Yes }))))
+    let answer : Said Acceptance = firstOf (settlingLines b indicators) yes-said in
+    record { settlement = onAnswer (λ (number : ℕ). nothing) (λ (value : Acceptance). settlementBy b indicators) answer; said = answer }
 
-unfoldable pub settled : Book → Settled
+unfoldable pub settled : Book → Outcome
 settled b = settledBy b electricity

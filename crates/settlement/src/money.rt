@@ -4,6 +4,7 @@ ghost use mathlib.Core.Bool.{true};
 ghost use Prim.Native.Nat.{ℕ, _*_, _-_, _^_, _≤_, _<_, min};
 ghost use lib.IntN.{subℕ};
 ghost use lib.ListN.{getD};
+ghost use Rattle.calls.specs.Limits.{operators};
 ghost use Rattle.apportion.specs.Sum.{sum};
 ghost use Rattle.book.specs.Book.{inRange};
 ghost use Rattle.values.specs.Operators.{table, each};
@@ -31,7 +32,7 @@ pub(crate) fn pot_of(b: Book) -> u64
     requires { ⌜ inRange b ≡ true ⌝ }
     ensures { λ r. ⌜ (r ≡ pot b) × (r ≤ 32000000000) ⌝ }
 {
-    b.pot as u64 * total(incomes_of(b)) / MILLION
+    b.pot_rate as u64 * total(incomes_of(b)) / MILLION
 }
 
 pub(crate) fn limits_of(b: Book) -> [u64; 16]
@@ -39,7 +40,7 @@ pub(crate) fn limits_of(b: Book) -> [u64; 16]
     ensures { λ r. ⌜ r ≡ limits b ⌝ }
 {
     let incomes = incomes_of(b);
-    let cap = b.cap as u64;
+    let cap = b.cap_rate as u64;
     let mut out = [0u64; 16];
     let mut operator = 0;
     while operator < 16 {
@@ -103,7 +104,7 @@ pub(crate) fn balanced_side(side: [u64; 16], other: [u64; 16]) -> [u64; 16]
 // The gain of each operator less its loss.
 pub(crate) fn differences(gains: [u64; 16], losses: [u64; 16]) -> [i64; 16]
     requires { ⌜ ((k : ℕ) → k < 16 → getD gains k 0 < 2 ^ 62) × ((k : ℕ) → k < 16 → getD losses k 0 < 2 ^ 62) ⌝ }
-    ensures { λ r. ⌜ r ≡ table 16 (λ (operator : ℕ). subℕ (getD gains operator 0) (getD losses operator 0)) ⌝ }
+    ensures { λ r. ⌜ r ≡ table operators (λ (operator : ℕ). subℕ (getD gains operator 0) (getD losses operator 0)) ⌝ }
 {
     let mut out = [0i64; 16];
     let mut operator = 0;

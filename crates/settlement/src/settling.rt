@@ -4,10 +4,11 @@ ghost use mathlib.Core.Bool.{true, _&&_, _||_};
 ghost use lib.Dec.{eqb};
 ghost use Prim.Native.Nat.{ℕ, _≤_, _<_};
 ghost use lib.ListN.{getD};
+ghost use Rattle.calls.specs.Answers.{refused-by, numberOf, said};
 ghost use Rattle.book.specs.Book.{isJoined, settingOf, inRange};
 ghost use Rattle.values.specs.Indicator.{electricity};
-ghost use Rattle.settlement.specs.Settlement.{networkMissing, allMarked, settlementBy, refusing, settled};
-ghost use Rattle.settlement.specs.Steps.{adjustedBy};
+ghost use Rattle.settlement.specs.Money.{adjustedBy};
+ghost use Rattle.settlement.specs.Settlement.{networkMissing, allMarked, settlementBy, nothing, settled};
 use crate::Settled;
 use crate::Settlement;
 use crate::gather::gather;
@@ -29,7 +30,7 @@ use values::reliable_mask;
 
 // The settlement of a book, or its refusal with all numbers 0. The book is unchanged.
 pub fn settle(b: Book) -> Settled
-    ensures { λ r. ⌜ r ≡ settled b ⌝ }
+    ensures { λ r. ⌜ (said (r .answer) ≡ settled b .said) × (r .settlement ≡ settled b .settlement) ⌝ }
 {
     if !in_range(b) {
         return refuse(Refusal::OutOfRange);
@@ -50,7 +51,7 @@ pub fn settle(b: Book) -> Settled
 }
 
 fn refuse(refusal: Refusal) -> Settled
-    ensures { λ r. ⌜ r ≡ refusing refusal ⌝ }
+    ensures { λ r. ⌜ (said (r .answer) ≡ refused-by (numberOf refusal)) × (r .settlement ≡ nothing) ⌝ }
 {
     Settled {
         settlement: Settlement {
@@ -81,6 +82,7 @@ fn network_missing(b: Book) -> bool
 }
 
 fn lacks_network(b: Book, operator: u8) -> bool
+    requires { ⌜ operator < 16 ⌝ }
     ensures { λ r. ⌜ r ≡ isJoined b operator && (eqb (settingOf b operator 0) 0 || eqb (settingOf b operator 1) 0) ⌝ }
 {
     if !is_joined(b, operator) {
@@ -94,6 +96,7 @@ fn lacks_network(b: Book, operator: u8) -> bool
 
 // Whether nobody takes part at any indicator.
 fn all_marked(b: Book) -> bool
+    requires { ⌜ inRange b ≡ true ⌝ }
     ensures { λ r. ⌜ r ≡ allMarked b electricity ⌝ }
 {
     let mut number = 0;

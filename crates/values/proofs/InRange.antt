@@ -1,11 +1,12 @@
 -- What a book in range holds: each value between its limits.
 -- Assumes nothing.
-use Prim.Native.Nat.{ℕ, zero, suc, _≤_, _<_}
+use Prim.Native.Nat.{ℕ, zero, suc, _^_, _≤_, _<_}
 use mathlib.Core.Path.{_≡_}
 use mathlib.Core.Bool.{Bool, true, false, cond}
 use native.Mathlib.Omega.{arith}
+use native.Mathlib.Decide.{decLt}
 use native.Mathlib.Nat.{le-trans}
-use lib.ListN.{getD}
+use lib.ListN.{length, getD, List·getD-eq-default}
 use Rattle.book.specs.declared.Book.{Book}
 use Rattle.calls.specs.Limits.{settingLimit, figureLimit}
 use Rattle.book.specs.Book.{isJoined, settingOf, figureOf, indexOf, most, inRange}
@@ -51,8 +52,18 @@ module _ (b : Book) (ranged : inRange b ≡ true) where
   pub index-between : (number : ℕ) → number < 4 → (1 ≤ indexOf b number) × (indexOf b number ≤ 100000)
   index-between number lt = bounded b ranged .index number lt
 
-  pub pot-le : b .pot ≤ 20000
-  pot-le = bounded b ranged .pot
+  -- the marks of any indicator number, there or not, are sixteen bits
+  pub mark-set-small : (indicator : ℕ) → getD (b .marks) indicator 0 < 2 ^ 16
+  mark-set-small indicator = go (decLt indicator 6)
+    where
+      go : Dec (indicator < 6) → getD (b .marks) indicator 0 < 2 ^ 16
+      go (yes inside) = bounded b ranged .marks-small indicator inside
+      go (no outside) =
+          let past : length (b .marks) ≤ indicator = omega (arith, bounded b ranged .marks-long, outside) in
+          rw (List·getD-eq-default (b .marks) 0 past) (omega arith)
 
-  pub cap-le : b .cap ≤ 20000
-  cap-le = bounded b ranged .cap
+  pub pot-rate-le : b .«pot_rate» ≤ 20000
+  pot-rate-le = bounded b ranged .pot-rate
+
+  pub cap-rate-le : b .«cap_rate» ≤ 20000
+  cap-rate-le = bounded b ranged .cap-rate

@@ -4,3 +4,4 @@ pub mod CountLaws
 pub mod InRange
 pub mod Numbered
 pub mod Scores
+pub mod AnyLaws

@@ -1,4 +1,4 @@
--- The six indicators by number: which it is, what it measures, and its yearly values as quotients.
+-- The six indicators by number, and their yearly values as quotients.
 -- Assumes nothing.
 use Prim.Native.Nat.{ℕ, zero, suc, _*_, _<_}
 use mathlib.Core.Path.{_≡_, refl, ap₂}
@@ -6,7 +6,7 @@ use native.Mathlib.Omega.{arith}
 use Rattle.book.specs.declared.Book.{Book}
 use Rattle.book.specs.Book.{settingOf, figureOf, indexOf}
 use Rattle.values.specs.Operators.{settingsOf, figuresOf}
-use Rattle.values.specs.Indicator.{Measure, frequency, duration, fee, electricity, numbered, over, yearlyValue}
+use Rattle.values.specs.Indicator.{frequency, duration, fee, electricity, numbered, over, yearlyValue}
 use Rattle.values.specs.Steps.{yearlyValues, quotientsBy}
 use Rattle.values.proofs.Tables.{each-at, each-same}
 
@@ -19,10 +19,6 @@ number-of (suc (suc (suc zero))) lt = refl
 number-of (suc (suc (suc (suc zero)))) lt = refl
 number-of (suc (suc (suc (suc (suc zero))))) lt = refl
 number-of (suc (suc (suc (suc (suc (suc number)))))) lt = absurd (omega arith)
-
--- what each measures
-pub measure-of : (number k : ℕ) (measure : Measure) → number ≡ k → numbered k .measure ≡ measure → numbered number .measure ≡ measure
-measure-of number k measure e same = rw e same
 
 module _ (b : Book) (year : ℕ) where
   pub frequencies-same : (figure which : ℕ) → quotientsBy 1000000 (figuresOf b year figure) 1 (settingsOf b which) ≡ yearlyValues b (frequency figure which) year

@@ -6,23 +6,14 @@ use mathlib.Core.Bool.{Bool, true, false, cond}
 use native.Mathlib.Nat.{div-le-self, mul-le-mul, le-trans}
 use native.Mathlib.Omega.{arith}
 use lib.Dec.{eqb}
-use lib.ListN.{length, getD}
+use lib.ListN.{getD}
 use Rattle.book.specs.declared.Book.{Book}
 use Rattle.book.specs.Book.{inRange}
-use Rattle.values.specs.Indicator.{Indicator, frequency, duration, fee, electricity, numbered, over, yearlyValue, threeYears, isReliable}
+use Rattle.values.specs.Indicator.{frequency, duration, fee, electricity, numbered, over, yearlyValue, threeYears, isReliable}
 use Rattle.values.specs.Indicator.{scoreOf, scores}
 use Rattle.values.specs.Steps.{Scored, yearlyValues}
-use Rattle.values.proofs.Tables.{length-each, each-at, each-le}
+use Rattle.values.proofs.Tables.{each-le}
 use Rattle.values.proofs.InRange.{figure-le, index-between}
-
-module _ (b : Book) (indicator : Indicator) where
-  pub length-scores : length (scores b indicator) ≡ 16
-  unfolding scores
-  length-scores = length-each (scoreOf b indicator)
-
-  pub score-at : (operator : ℕ) → operator < 16 → getD (scores b indicator) operator 0 ≡ scoreOf b indicator operator
-  unfolding scores
-  score-at operator lt = each-at (scoreOf b indicator) operator lt
 
 pub over-le : (dividend divisor : ℕ) → over dividend divisor ≤ dividend
 unfolding over

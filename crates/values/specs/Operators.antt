@@ -1,8 +1,9 @@
--- Numbers by operator, as a list of sixteen; and counts over the operators.
+-- Numbers by operator, as a list of sixteen; and tests of numbers counted, or passed by any.
 -- Assumes nothing.
 use Prim.Native.Nat.{ℕ, zero, suc, _+_}
-use mathlib.Core.Bool.{Bool, cond}
+use mathlib.Core.Bool.{Bool, false, cond, _||_}
 use mathlib.Core.List.{List, [], _∷_, _++_}
+use Rattle.calls.specs.Limits.{operators}
 use Rattle.book.specs.declared.Book.{Book}
 use Rattle.book.specs.Book.{figureOf, settingOf}
 
@@ -13,7 +14,7 @@ table (suc n) f = table n f ++ (f n ∷ [])
 
 -- a number for each of the sixteen operators
 unfoldable pub each : (ℕ → ℕ) → List ℕ
-each f = table 16 f
+each f = table operators f
 
 -- one setting, and one figure of a year, of each operator
 abbrev pub settingsOf : Book → ℕ → List ℕ
@@ -26,3 +27,8 @@ figuresOf b year figure = each (λ (operator : ℕ). figureOf b operator year fi
 unfoldable pub count : ℕ → (ℕ → Bool) → ℕ
 count zero test = 0
 count (suc n) test = count n test + cond (test n) 1 0
+
+-- whether any of the first n passes a test
+unfoldable pub any : ℕ → (ℕ → Bool) → Bool
+any zero test = false
+any (suc n) test = any n test || test n

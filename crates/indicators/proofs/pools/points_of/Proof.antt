@@ -3,7 +3,7 @@
 use mathlib.Core.Path.{refl, _∙_, ap}
 use native.Mathlib.Omega.{arith}
 use Rattle.apportion.specs.Sum.{sum}
-use Rattle.values.specs.Indicator.{numbered}
+use Rattle.values.specs.Indicator.{numbered, reliableMask, scores}
 use Rattle.indicators.specs.Points.{points}
 use Rattle.indicators.proofs.WeightLaws.{weights-sum-most}
 use borrow.Author.Needs.{needs}
@@ -19,7 +19,8 @@ weights-of-requires c κs = search needs
 share-requires : tie.Need-share-requires
 share-requires c κs =
     let start = c .before .before in
-    omega (arith, c .before .pool-of .ensures .1, ap sum (c .weights-of .ensures), weights-sum-most (start .args .b) (numbered (start .args .number)))
+    let measured = numbered (start .args .number) in
+    omega (arith, c .before .pool-of .ensures .1, ap sum (c .weights-of .ensures), weights-sum-most (measured .measure) (reliableMask (start .args .b) measured) (scores (start .args .b) measured))
 
 returns : tie.Need-returns
 unfolding points

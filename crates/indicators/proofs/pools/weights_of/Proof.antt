@@ -24,7 +24,7 @@ returns c =
     let start = c .before .before .before .before in
     c .levelled-weights .ensures
     ∙ (rw (c .before .before .before .reliable-mask .ensures, c .before .before .scores-of .ensures) refl
-    ∙ sym (levelled-same (start .args .b) (numbered (start .args .number)) (levels (start .args .number) (c .before .if1 .taken))))
+    ∙ sym (levelled-same _ _ (numbered (start .args .number) .measure) (levels (start .args .number) (c .before .if1 .taken))))
 
 linear-weights-requires : tie.Need-linear-weights-requires
 linear-weights-requires c κs =
@@ -36,7 +36,7 @@ returns-2 c =
     let start = c .before .before .before .before in
     c .linear-weights .ensures
     ∙ (rw (c .before .before .before .reliable-mask .ensures, c .before .before .scores-of .ensures) refl
-    ∙ sym (linear-same (start .args .b) (numbered (start .args .number)) (linears (start .args .number) (c .before .if1 .left) (start .pre .1))))
+    ∙ sym (linear-same _ _ (numbered (start .args .number) .measure) (linears (start .args .number) (c .before .if1 .left) (start .pre .1))))
 
 pub weights-of-spec : {M : Type 1} → statement M
 weights-of-spec =

@@ -3,16 +3,15 @@
 use mathlib.Core.Path.{_≡_, refl, _∙_}
 use Prim.Native.Nat.{_-_, _≤_}
 use native.Mathlib.Omega.{arith}
-use Rattle.apportion.specs.Sum.{sum}
 use Rattle.values.specs.Operators.{count}
-use Rattle.indicators.specs.Steps.{betterIn}
+use Rattle.indicators.specs.Points.{isBetter}
 use Rattle.values.proofs.CountLaws.{count-more, count-le}
 use mathlib.Core.Logic.{⊎-elim}
 use Rattle.indicators.proofs.weights.count_better.Statement.{statement}
 use Rattle.indicators.proofs.weights.count_better.Tie as tie
 
 abbrev Inv-loop : tie.InvT-loop
-Inv-loop mask sum scores g₀ i₀ g i = (i ≤ 16) × (g ≡ count i (betterIn mask scores))
+Inv-loop mask sum scores g₀ i₀ g i = (i ≤ 16) × (g ≡ count i (isBetter mask scores))
 
 abbrev μ-loop : tie.MeasureT-loop
 μ-loop mask sum scores g₀ i₀ g i = 16 - i
@@ -34,7 +33,7 @@ is-better-requires : tie.Need-is-better-requires Inv-loop μ-loop
 is-better-requires c κs = c .before .before .pre .0 (c .before .loop .i)
 
 add-g : tie.Need-add-g Inv-loop μ-loop
-add-g c = omega (arith, count-le (c .before .before .before .loop .i) (betterIn (c .before .before .before .before .args .mask) (c .before .before .before .before .args .t2)))
+add-g c = omega (arith, count-le (c .before .before .before .loop .i) (isBetter (c .before .before .before .before .args .mask) (c .before .before .before .before .args .t2)))
 
 add-i : tie.Need-add-i Inv-loop μ-loop
 add-i c = omega arith
@@ -43,11 +42,11 @@ loop-less : tie.Need-loop-less Inv-loop μ-loop
 loop-less c = omega arith
 
 loop-again : tie.Need-loop-again Inv-loop μ-loop
-unfolding betterIn
+unfolding isBetter
 loop-again c =
     let start = c .before .before .before .before in
     let here = c .before .before .before .loop in
-    let test = betterIn (start .args .mask) (start .args .t2) in
+    let test = isBetter (start .args .mask) (start .args .t2) in
     let found : c .before .is-better .result ≡ test (here .i) = rw (start .pre .1) at (c .before .is-better .ensures) in
     ⊎-elim
     (λ w. (omega arith, w .1 ∙ (rw (count-more (here .i) test, ← found, w .0 .taken) (omega arith))))
@@ -58,7 +57,7 @@ returns : tie.Need-returns Inv-loop μ-loop
 returns c =
     let here = c .before .loop in
     let last : here .i ≡ 16 = omega arith in
-    (rw last at (here .inv .1), omega (arith, count-le (here .i) (betterIn (c .before .before .args .mask) (c .before .before .args .t2))))
+    (rw last at (here .inv .1), omega (arith, count-le (here .i) (isBetter (c .before .before .args .mask) (c .before .before .args .t2))))
 
 pub count-better-spec : {M : Type 1} → statement M
 count-better-spec =

@@ -4,7 +4,6 @@ use mathlib.Core.Path.{refl}
 use native.Mathlib.Omega.{arith}
 use borrow.Author.Tests.{eq-eqb, ne-eqb}
 use Rattle.calls.proofs.Flags.{denied, granted}
-use Rattle.indicators.specs.Points.{levelled}
 use native.Mathlib.Nat.{mul-le-mul}
 use borrow.Author.Needs.{needs}
 use Rattle.indicators.proofs.weights.levelled_weight.Statement.{statement}
@@ -17,14 +16,12 @@ returns : tie.Need-returns
 returns c = rw (denied (c .before .has-bit .ensures) (c .if1 .taken)) refl
 
 returns-2 : tie.Need-returns-2
-unfolding levelled
 returns-2 c = rw (granted (c .before .before .has-bit .ensures) (c .before .if1 .left), eq-eqb _ _ (c .if2 .taken)) refl
 
 is-better-requires : tie.Need-is-better-requires
 is-better-requires c κs = search needs
 
 returns-3 : tie.Need-returns-3
-unfolding levelled
 returns-3 c =
     rw (
       ← c .before .is-better .ensures,
@@ -41,7 +38,6 @@ mul-result c =
     record { fits = omega (arith, product) }
 
 returns-4 : tie.Need-returns-4
-unfolding levelled
 returns-4 c =
     rw (
       ← c .before .is-better .ensures,

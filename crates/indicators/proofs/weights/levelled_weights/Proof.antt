@@ -2,13 +2,14 @@
 -- Assumes nothing.
 use borrow.Author.Needs.{needs}
 use mathlib.Core.Path.{_≡_, refl}
+use mathlib.Core.Bool.{cond}
 use Prim.Native.Nat.{ℕ, _-_, _≤_}
 use native.Mathlib.Omega.{arith}
 use lib.ListN.{length, getD}
-use Rattle.apportion.specs.Sum.{sum}
 use Rattle.values.specs.Operators.{each}
-use Rattle.indicators.specs.Points.{exponentWeight}
-use Rattle.indicators.specs.Steps.{betterIn, levelledAt, levelledIn}
+use Rattle.calls.specs.Masks.{has}
+use Rattle.indicators.specs.Points.{exponentWeight, isBetter, levelled}
+use Rattle.indicators.proofs.Weighting.{together-same}
 use Rattle.values.proofs.Tables.{Filling, filling-none, filling-more, filling-each, each-at}
 use Rattle.apportion.proofs.Sums.{sum-bound}
 use mathlib.Core.List.{List}
@@ -16,6 +17,10 @@ use Rattle.exponent.proofs.Laws.{weight-most}
 use Rattle.values.proofs.Tables.{each-le}
 use Rattle.indicators.proofs.weights.levelled_weights.Statement.{statement}
 use Rattle.indicators.proofs.weights.levelled_weights.Tie as tie
+
+-- an operator's weight, and 0 for one that takes no part
+abbrev levelledAt : ℕ → List ℕ → ℕ → ℕ
+levelledAt mask scores operator = cond (has mask operator) (levelled (isBetter mask scores) (exponentWeight scores) operator) 0
 
 abbrev Inv-loop : tie.InvT-loop
 Inv-loop mask scores own sum g together weights₀ i₀ weights i = Filling (levelledAt mask scores) i weights
@@ -83,7 +88,7 @@ loop-less : tie.Need-loop-less Inv-loop μ-loop
 loop-less c = omega arith
 
 loop-again : tie.Need-loop-again Inv-loop μ-loop
-unfolding levelledAt betterIn
+unfolding levelled isBetter
 loop-again c =
     let begun = c .before .before .before .before .before .before .before in
     let scores = begun .args .t2 in
@@ -97,15 +102,14 @@ loop-again c =
       g,
       c .before .before .before .weigh-better .ensures,
       own,
+      together-same (begun .args .mask) scores,
       each-at (exponentWeight scores) (here .i) (omega arith),
     )
     at (c .levelled-weight .ensures) in
     filling-more _ _ (here .inv) (omega arith) value
 
 returns : tie.Need-returns Inv-loop μ-loop
-unfolding levelledIn
 returns c =
-    let begun = c .before .before .before .before .before .before in
     let here = c .before .loop in
     filling-each (here .inv) (omega arith)
 

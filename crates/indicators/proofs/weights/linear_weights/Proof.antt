@@ -2,14 +2,20 @@
 -- Assumes nothing.
 use borrow.Author.Needs.{needs}
 use mathlib.Core.Path.{_≡_, refl}
-use Prim.Native.Nat.{_-_}
+use mathlib.Core.Bool.{cond}
+use mathlib.Core.List.{List}
+use Prim.Native.Nat.{ℕ, _-_}
 use native.Mathlib.Omega.{arith}
 use Rattle.indicators.specs.Points.{normalised, linearWeight}
-use Rattle.indicators.specs.Steps.{linearAt, linearIn}
+use Rattle.calls.specs.Masks.{has}
 use Rattle.values.proofs.Tables.{Filling, filling-none, filling-more, filling-each}
 use Rattle.indicators.proofs.Largest.{largest-ge, largest-le}
 use Rattle.indicators.proofs.weights.linear_weights.Statement.{statement}
 use Rattle.indicators.proofs.weights.linear_weights.Tie as tie
+
+-- an operator's weight, and 0 for one that takes no part
+abbrev linearAt : ℕ → List ℕ → ℕ → ℕ
+linearAt mask scores operator = cond (has mask operator) (linearWeight scores operator) 0
 
 abbrev Inv-loop : tie.InvT-loop
 Inv-loop mask scores top weights₀ i₀ weights i = Filling (linearAt mask scores) i weights
@@ -52,7 +58,7 @@ loop-less : tie.Need-loop-less Inv-loop μ-loop
 loop-less c = omega arith
 
 loop-again : tie.Need-loop-again Inv-loop μ-loop
-unfolding linearAt linearWeight normalised
+unfolding linearWeight normalised
 loop-again c =
     let begun = c .before .before .before .before in
     let f = linearAt (begun .args .mask) (begun .args .t2) in
@@ -61,9 +67,7 @@ loop-again c =
     filling-more _ _ (here .inv) (omega arith) value
 
 returns : tie.Need-returns Inv-loop μ-loop
-unfolding linearIn
 returns c =
-    let begun = c .before .before .before in
     let here = c .before .loop in
     filling-each (here .inv) (omega arith)
 

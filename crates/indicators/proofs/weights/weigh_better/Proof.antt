@@ -1,24 +1,27 @@
 -- `indicators::weights::weigh_better` meets its contract: the operators passed hold their weight if they are better.
 -- Assumes nothing.
 use mathlib.Core.Path.{_≡_, refl, _∙_, ap}
-use mathlib.Core.Bool.{true, false}
-use Prim.Native.Nat.{ℕ, _-_, _≤_}
+use Prim.Native.Nat.{ℕ, _-_, zero-le}
 use native.Mathlib.Omega.{arith}
 use lib.ListN.{getD}
 use mathlib.Core.Bool.{cond}
 use Rattle.apportion.specs.Sum.{sum}
-use Rattle.indicators.specs.Steps.{Weighed, betterIn, weightIfBetter, betterSum}
+use Rattle.indicators.specs.Points.{isBetter}
 use Rattle.values.proofs.Tables.{Filling, filling-none, filling-more, filling-each, sum-each-le}
+use Rattle.values.proofs.CountLaws.{cond-le}
 use mathlib.Core.List.{List}
-use mathlib.Core.Bool.{Bool}
 use Rattle.indicators.proofs.weights.weigh_better.Statement.{statement}
 use Rattle.indicators.proofs.weights.weigh_better.Tie as tie
 
+-- an operator's weight if it is better
+abbrev counted : ℕ → List ℕ → List ℕ → ℕ → ℕ
+counted mask scores own operator = cond (isBetter mask scores operator) (getD own operator 0) 0
+
 abbrev Inv-loop : tie.InvT-loop
-Inv-loop mask sum scores own counted₀ i₀ counted i = Filling (weightIfBetter mask scores own) i counted
+Inv-loop mask sum scores own counted₀ i₀ list i = Filling (counted mask scores own) i list
 
 abbrev μ-loop : tie.MeasureT-loop
-μ-loop mask sum scores own counted₀ i₀ counted i = 16 - i
+μ-loop mask sum scores own counted₀ i₀ list i = 16 - i
 
 loop-holds : tie.Need-loop-holds Inv-loop μ-loop
 loop-holds c = filling-none _ _ refl
@@ -54,37 +57,25 @@ loop-less : tie.Need-loop-less Inv-loop μ-loop
 loop-less c = omega arith
 
 loop-again : tie.Need-loop-again Inv-loop μ-loop
-unfolding weightIfBetter betterIn
+unfolding isBetter
 loop-again c =
     let start = c .before .before .before in
     let here = c .before .before .loop in
-    let f = weightIfBetter (start .args .mask) (start .args .t2) (start .args .t4) in
+    let f = counted (start .args .mask) (start .args .t2) (start .args .t4) in
     let value : c .weight-if-better .result ≡ f (here .i) = rw (start .pre .1) at (c .weight-if-better .ensures) in
     filling-more _ _ (here .inv) (omega arith) value
-
--- a weight or 0 is at most the table's first
-small : (mask : ℕ) (list own : List ℕ) → Weighed own → (k : ℕ) → weightIfBetter mask list own k ≤ 1000000000
-unfolding weightIfBetter
-small mask list own weighed k = go (betterIn mask list k)
-  where
-    go : (t : Bool) → cond t (getD own k 0) 0 ≤ 1000000000
-    go true = weighed k
-    go false = omega arith
 
 total-requires : tie.Need-total-requires Inv-loop μ-loop
 total-requires c κs =
     let start = c .before .before in
     let here = c .before .loop in
-    let f = weightIfBetter (start .args .mask) (start .args .t2) (start .args .t4) in
+    let f = counted (start .args .mask) (start .args .t2) (start .args .t4) in
     rw (filling-each (here .inv) (omega arith))
-    (omega (arith, sum-each-le f 1000000000 (λ k lt. small (start .args .mask) (start .args .t2) (start .args .t4) (start .pre .2) k)))
+    (omega (arith, sum-each-le f 1000000000 (λ k lt. cond-le (isBetter (start .args .mask) (start .args .t2) k) (start .pre .2 k) zero-le)))
 
 returns : tie.Need-returns Inv-loop μ-loop
-unfolding betterSum
 returns c =
-    let start = c .before .before .before in
     let here = c .before .before .loop in
-    let f = weightIfBetter (start .args .mask) (start .args .t2) (start .args .t4) in
     c .total .ensures ∙ ap sum (filling-each (here .inv) (omega arith))
 
 pub weigh-better-spec : {M : Type 1} → statement M

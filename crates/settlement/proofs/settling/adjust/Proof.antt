@@ -2,8 +2,7 @@
 -- Assumes nothing.
 use mathlib.Core.Path.{refl, _∙_}
 use native.Mathlib.Omega.{arith}
-use Rattle.settlement.specs.Steps.{adjustedBy}
-use Rattle.settlement.specs.Money.{limits}
+use Rattle.settlement.specs.Money.{adjustedBy}
 use Rattle.settlement.proofs.Amounts.{cut-sum-le, balanced-le}
 use borrow.Author.Needs.{needs}
 use Rattle.settlement.proofs.settling.adjust.Statement.{statement}

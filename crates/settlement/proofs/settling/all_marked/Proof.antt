@@ -1,15 +1,20 @@
 -- `settlement::settling::all_marked` meets its contract: what is left to look at decides.
 -- Assumes nothing.
-use mathlib.Core.Path.{_≡_, refl, sym, _∙_}
+use mathlib.Core.Path.{_≡_, refl, sym, ap, _∙_}
+use mathlib.Core.Bool.{true, _&&_}
 use Prim.Native.Nat.{ℕ, _+_, _-_, _≤_, _<_}
 use native.Mathlib.Omega.{arith}
 use borrow.Author.Tests.{eq-eqb, ne-eqb}
+use lib.Dec.{eqb}
+use Rattle.book.specs.declared.Book.{Book}
+use Rattle.book.specs.Book.{inRange}
 use Rattle.settlement.specs.Settlement.{allMarked}
+use Rattle.settlement.proofs.MarkLaws.{marked-none, marked-more}
 use lib.ListN.{drop}
 use mathlib.Core.List.{_∷_}
 use lib.Seq.{drop-cons}
 use native.Mathlib.Numerals.{add-one}
-use Rattle.values.specs.Indicator.{electricity, numbered}
+use Rattle.values.specs.Indicator.{electricity, numbered, reliableMask}
 use Rattle.settlement.proofs.settling.all_marked.Statement.{statement}
 use Rattle.settlement.proofs.settling.all_marked.Tie as tie
 
@@ -24,6 +29,10 @@ next : (n : ℕ) → n < 6 → drop n electricity ≡ numbered n ∷ drop (n + 1
 unfolding electricity numbered
 next n lt = rw add-one (drop-cons electricity n _ lt)
 
+more : (b : Book) → inRange b ≡ true → (n : ℕ) → n < 6
+    → allMarked b (drop n electricity) ≡ eqb (reliableMask b (numbered n)) 0 && allMarked b (drop (n + 1) electricity)
+more b ranged n lt = ap (allMarked b) (next n lt) ∙ marked-more b ranged (numbered n) (drop (n + 1) electricity)
+
 loop-holds : tie.Need-loop-holds Inv-loop μ-loop
 loop-holds c = (omega arith, refl)
 
@@ -31,11 +40,11 @@ reliable-mask-requires : tie.Need-reliable-mask-requires Inv-loop μ-loop
 reliable-mask-requires c κs = omega arith
 
 returns : tie.Need-returns Inv-loop μ-loop
-unfolding allMarked
 returns c =
     let here = c .before .before .before .loop in
-    let book = c .before .before .before .before .args .b in
-    sym (sym (here .inv .1) ∙ rw (next (here .number) (omega arith), ne-eqb _ _ (λ z. c .if1 .taken (c .before .reliable-mask .ensures ∙ z))) refl)
+    let begun = c .before .before .before .before in
+    let somebody = ne-eqb _ _ (λ z. c .if1 .taken (c .before .reliable-mask .ensures ∙ z)) in
+    sym (sym (here .inv .1) ∙ more (begun .args .b) (begun .pre) (here .number) (omega arith) ∙ rw somebody refl)
 
 add-number : tie.Need-add-number Inv-loop μ-loop
 add-number c = omega arith
@@ -44,19 +53,20 @@ loop-less : tie.Need-loop-less Inv-loop μ-loop
 loop-less c = omega arith
 
 loop-again : tie.Need-loop-again Inv-loop μ-loop
-unfolding allMarked
 loop-again c =
-    let here = c .before .before .before .loop in (
+    let here = c .before .before .before .loop in
+    let begun = c .before .before .before .before in
+    let nobody = eq-eqb _ _ (sym (c .before .reliable-mask .ensures) ∙ c .if1 .left) in (
       omega arith,
-      sym (rw (next (here .number) (omega arith), eq-eqb _ _ (sym (c .before .reliable-mask .ensures) ∙ c .if1 .left)) refl) ∙ here .inv .1,
+      sym (more (begun .args .b) (begun .pre) (here .number) (omega arith) ∙ rw nobody refl) ∙ here .inv .1,
     )
 
 returns-2 : tie.Need-returns-2 Inv-loop μ-loop
-unfolding allMarked electricity
+unfolding electricity
 returns-2 c =
     let here = c .before .loop in
     let last : here .number ≡ 6 = omega arith in
-    rw last at (here .inv .1)
+    sym (marked-none (c .before .before .args .b)) ∙ (rw last at (here .inv .1))
 
 pub all-marked-spec : {M : Type 1} → statement M
 all-marked-spec =

@@ -1,14 +1,12 @@
 -- `settlement::settling::network_missing` meets its contract: nobody passed lacks a network.
 -- Assumes nothing.
-use borrow.Author.Needs.{needs}
-use mathlib.Core.Path.{_≡_, refl, sym, _∙_, ap}
-use mathlib.Core.Bool.{false, not, _&&_}
+use mathlib.Core.Path.{_≡_, sym, _∙_}
+use mathlib.Core.Bool.{false, _&&_, _||_}
 use Prim.Native.Nat.{ℕ, _-_, _≤_, _<_}
 use native.Mathlib.Omega.{arith}
 use lib.Dec.{eqb}
-use mathlib.Core.Bool.{_||_}
 use Rattle.book.specs.Book.{isJoined, settingOf}
-use Rattle.book.proofs.EveryLaws.{every-of-each, every-fails}
+use Rattle.values.proofs.AnyLaws.{none-of-each, any-passes}
 use Rattle.settlement.specs.Settlement.{networkMissing}
 use borrow.Author.Count.{below-more}
 use Rattle.settlement.proofs.settling.network_missing.Statement.{statement}
@@ -24,13 +22,13 @@ loop-holds : tie.Need-loop-holds Inv-loop μ-loop
 loop-holds c = (omega arith, λ k lt. absurd (omega (arith, lt)))
 
 lacks-network-requires : tie.Need-lacks-network-requires Inv-loop μ-loop
-lacks-network-requires c κs = search needs
+lacks-network-requires c κs = omega arith
 
 returns : tie.Need-returns Inv-loop μ-loop
 unfolding networkMissing
 returns c =
     let here = c .before .before .before .loop in
-    rw (every-fails 16 _ (here .operator) (omega arith) (ap not (sym (c .before .lacks-network .ensures) ∙ c .if1 .taken))) refl
+    sym (any-passes 16 _ (here .operator) (omega arith) (sym (c .before .lacks-network .ensures) ∙ c .if1 .taken))
 
 add-operator : tie.Need-add-operator Inv-loop μ-loop
 add-operator c = omega arith
@@ -47,7 +45,7 @@ returns-2 : tie.Need-returns-2 Inv-loop μ-loop
 unfolding networkMissing
 returns-2 c =
     let here = c .before .loop in
-    rw (every-of-each 16 _ (λ k lt. ap not (here .inv .1 k (omega (arith, lt))))) refl
+    sym (none-of-each 16 _ (λ k lt. here .inv .1 k (omega (arith, lt))))
 
 pub network-missing-spec : {M : Type 1} → statement M
 network-missing-spec =

@@ -2,8 +2,9 @@
 -- Assumes nothing.
 use mathlib.Core.Path.{refl, sym, _∙_}
 use borrow.Author.Tests.{eq-eqb, ne-eqb}
+use Rattle.calls.specs.Answers.{onAnswer, firstOf}
 use Rattle.calls.proofs.Flags.{denied, granted}
-use Rattle.settlement.specs.Settlement.{settledBy, settled}
+use Rattle.settlement.specs.Settlement.{settlingLines, settledBy, settled}
 use borrow.Author.Needs.{needs}
 use Rattle.settlement.proofs.settling.settle.Statement.{statement}
 use Rattle.settlement.proofs.settling.settle.Tie as tie
@@ -15,14 +16,14 @@ refuse-requires : tie.Need-refuse-requires
 refuse-requires c κs = search needs
 
 returns : tie.Need-returns
-unfolding settled settledBy
+unfolding settled settledBy settlingLines firstOf onAnswer
 returns c = rw (denied (c .before .before .in-range .ensures) (c .before .if1 .taken)) (c .refuse .ensures)
 
 refuse-requires-2 : tie.Need-refuse-requires-2
 refuse-requires-2 c κs = search needs
 
 returns-2 : tie.Need-returns-2
-unfolding settled settledBy
+unfolding settled settledBy settlingLines firstOf onAnswer
 returns-2 c = rw (granted (c .before .before .before .before .in-range .ensures) (c .before .before .before .if1 .left), eq-eqb _ _ (c .before .if2 .taken)) (c .refuse2 .ensures)
 
 network-missing-requires : tie.Need-network-missing-requires
@@ -32,25 +33,25 @@ refuse-requires-3 : tie.Need-refuse-requires-3
 refuse-requires-3 c κs = search needs
 
 returns-3 : tie.Need-returns-3
-unfolding settled settledBy
+unfolding settled settledBy settlingLines firstOf onAnswer
 returns-3 c = rw (granted (c .before .before .before .before .before .before .in-range .ensures) (c .before .before .before .before .before .if1 .left), ne-eqb _ _ (c .before .before .before .if2 .left), sym (c .before .before .network-missing .ensures) ∙ c .before .if3 .taken) (c .refuse3 .ensures)
 
 all-marked-requires : tie.Need-all-marked-requires
-all-marked-requires c κs = search needs
+all-marked-requires c κs = granted (c .before .before .before .before .before .in-range .ensures) (c .before .before .before .before .if1 .left)
 
 refuse-requires-4 : tie.Need-refuse-requires-4
 refuse-requires-4 c κs = search needs
 
 returns-4 : tie.Need-returns-4
-unfolding settled settledBy
+unfolding settled settledBy settlingLines firstOf onAnswer
 returns-4 c = rw (granted (c .before .before .before .before .before .before .before .before .in-range .ensures) (c .before .before .before .before .before .before .before .if1 .left), ne-eqb _ _ (c .before .before .before .before .before .if2 .left), sym (c .before .before .before .before .network-missing .ensures) ∙ c .before .before .before .if3 .left, sym (c .before .before .all-marked .ensures) ∙ c .before .if4 .taken) (c .refuse4 .ensures)
 
 settle-in-range-requires : tie.Need-settle-in-range-requires
 settle-in-range-requires c κs = granted (c .before .before .before .before .before .before .before .in-range .ensures) (c .before .before .before .before .before .before .if1 .left)
 
 returns-5 : tie.Need-returns-5
-unfolding settled settledBy
-returns-5 c = rw (granted (c .before .before .before .before .before .before .before .before .in-range .ensures) (c .before .before .before .before .before .before .before .if1 .left), ne-eqb _ _ (c .before .before .before .before .before .if2 .left), sym (c .before .before .before .before .network-missing .ensures) ∙ c .before .before .before .if3 .left, sym (c .before .before .all-marked .ensures) ∙ c .before .if4 .left, c .settle-in-range .ensures) refl
+unfolding settled settledBy settlingLines firstOf onAnswer
+returns-5 c = rw (granted (c .before .before .before .before .before .before .before .before .in-range .ensures) (c .before .before .before .before .before .before .before .if1 .left), ne-eqb _ _ (c .before .before .before .before .before .if2 .left), sym (c .before .before .before .before .network-missing .ensures) ∙ c .before .before .before .if3 .left, sym (c .before .before .all-marked .ensures) ∙ c .before .if4 .left) (refl, c .settle-in-range .ensures)
 
 pub settle-spec : {M : Type 1} → statement M
 settle-spec =

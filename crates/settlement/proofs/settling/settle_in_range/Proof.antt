@@ -4,8 +4,7 @@ use mathlib.Core.Path.{_≡_, refl, _∙_, ap}
 use Prim.Native.Nat.{_≤_}
 use native.Mathlib.Omega.{arith}
 use Rattle.settlement.specs.Settlement.{settlementBy}
-use Rattle.settlement.specs.Steps.{adjustedBy}
-use Rattle.settlement.specs.Money.{contributions, returns as Money·returns, bonuses, maluses, adjustments}
+use Rattle.settlement.specs.Money.{contributions, returns as Money·returns, adjustments}
 use Rattle.settlement.proofs.Amounts.{access-most, access-sum, limit-most, weights-same, weights-sum}
 use Rattle.apportion.specs.Sum.{sum}
 use Rattle.values.specs.Indicator.{electricity}
@@ -49,7 +48,7 @@ adjust-requires : tie.Need-adjust-requires
 adjust-requires c κs = λ k lt. rw (c .limits-of .ensures) (limit-most (c .before .before .before .before .before .before .before .before .args .b) (c .before .before .before .before .before .before .before .before .pre) k lt)
 
 returns : tie.Need-returns
-unfolding settlementBy contributions Money·returns adjustments bonuses maluses adjustedBy
+unfolding settlementBy contributions Money·returns adjustments
 returns c =
     let book = c .before .before .before .before .before .before .before .before .before .before .before .args .b in
     let gathered = c .before .before .before .before .before .before .before .before .before .before .gather .ensures in
