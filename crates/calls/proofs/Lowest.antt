@@ -3,12 +3,12 @@
 use Prim.Native.Nat.{ℕ, _<_, _≤_}
 use mathlib.Core.Path.{_≡_, refl, sym, ap, _∙_}
 use mathlib.Core.Bool.{Bool, true, false, false≢true, _&&_}
-use mathlib.Core.List.{List, [], _∷_}
+use mathlib.Core.List.{List, [], _∷_, _++_}
 use native.Mathlib.Omega.{arith}
 use native.Mathlib.Decide.{decLt}
 use lib.Dec.{eqb, ltb}
 use borrow.Author.Tests.{eq-eqb, ne-eqb, ltb-true}
-use Rattle.calls.specs.Answers.{Said, refused-by, accepted, firstOf}
+use Rattle.calls.specs.Answers.{Said, refused-by, accepted, onAnswer, isRefused, firstOf}
 use Rattle.calls.specs.Laws.{applies, risesFrom, Lowest}
 use Rattle.calls.proofs.Flags.{and-left, and-right, and-false-right}
 
@@ -102,3 +102,24 @@ module _ {A : Type 0} (value : A) where
         refused = λ number. (given-lowest 0 lines rises number, (λ both. lowest-given 0 lines rises number (both .0) (both .1)));
         answered = (given-none lines, none-given lines);
       }
+
+-- a table that does not refuse gives its value
+pub only-value : {A : Type 0} (lines : List (ℕ × Bool)) (value : A) → isRefused (firstOf lines value) ≡ false → firstOf lines value ≡ accepted value
+unfolding firstOf isRefused onAnswer
+only-value [] value e = refl
+only-value ((line, true) ∷ rest) value e = absurd (false≢true (sym e))
+only-value ((line, false) ∷ rest) value e = only-value rest value e
+
+-- a table whose first lines refuse by a number, or give any value
+module _ {A B : Type 0} (more : List (ℕ × Bool)) (value : A) (other : B) where
+  pub first-refuses : (lines : List (ℕ × Bool)) (number : ℕ) → firstOf lines other ≡ refused-by number → firstOf (lines ++ more) value ≡ refused-by number
+  unfolding firstOf
+  first-refuses [] number e = absurd (false≢true (ap refuses e))
+  first-refuses ((line, true) ∷ rest) number e = ap refused-by (ap numberIn e)
+  first-refuses ((line, false) ∷ rest) number e = first-refuses rest number e
+
+  pub first-passes : (lines : List (ℕ × Bool)) → firstOf lines other ≡ accepted other → firstOf (lines ++ more) value ≡ firstOf more value
+  unfolding firstOf
+  first-passes [] e = refl
+  first-passes ((line, true) ∷ rest) e = absurd (false≢true (sym (ap refuses e)))
+  first-passes ((line, false) ∷ rest) e = first-passes rest e

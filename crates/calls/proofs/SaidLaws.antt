@@ -1,6 +1,12 @@
 -- Answers are told apart by what they say (specs/Laws.antt).
 -- Assumes nothing.
-use Prim.Native.Nat.{ℕ, _-_}
+use Prim.Native.Nat.{ℕ, _-_, _<_}
+use mathlib.Core.Logic.{inl, inr}
+use mathlib.Core.Bool.{false}
+use native.Mathlib.Omega.{arith}
+use types.Run.{OneOf}
+use denote.Enum.Declared.{tagOf}
+use Rattle.calls.proofs.Answer.{the-type}
 use mathlib.Core.List.{[], _∷_}
 use lib.ListN.{getD}
 use mathlib.Core.Path.{_≡_, refl, sym, ap, _∙_}
@@ -10,7 +16,7 @@ use Rattle.calls.specs.declared.Reason.{Reason}
 use Rattle.calls.specs.declared.Reason.the-variants.{Short, Planned, Coupled, Exceptional}
 use Rattle.calls.specs.declared.Answer.{Answer}
 use Rattle.calls.specs.declared.Answer.the-variants.{Yes, Counted, LeftOut, Refused}
-use Rattle.calls.specs.Answers.{Said, refused-by, accepted, Acceptance, yes-said, counted-in, left-out-as-short, left-out-under, numberOf, leftOutAs, said}
+use Rattle.calls.specs.Answers.{Said, refused-by, accepted, onAnswer, isRefused, Acceptance, yes-said, counted-in, left-out-as-short, left-out-under, numberOf, leftOutAs, said}
 use Rattle.calls.specs.Laws.{ToldApart}
 
 -- the refusal of a number, the first being 1
@@ -57,3 +63,16 @@ answer-back (Refused refusal) = ap Refused (refusal-back refusal)
 
 pub answers-apart : ToldApart said
 answers-apart answer other same = sym (answer-back answer) ∙ ap answerSaying same ∙ answer-back other
+
+-- one of the first three kinds, told by its tag, is no refusal
+first-three : (tag : ℕ) → OneOf (0 ∷ 1 ∷ 2 ∷ []) tag → tag < 3
+first-three tag (inl e) = omega arith
+first-three tag (inr (inl e)) = omega arith
+first-three tag (inr (inr e)) = omega arith
+
+pub told-accepted : (answer : Answer) → OneOf (0 ∷ 1 ∷ 2 ∷ []) (tagOf the-type answer) → isRefused (said answer) ≡ false
+unfolding isRefused onAnswer
+told-accepted Yes tag = refl
+told-accepted (Counted year) tag = refl
+told-accepted (LeftOut reason) tag = refl
+told-accepted (Refused refusal) tag = absurd (omega (arith, first-three 3 tag))

@@ -1,31 +1,23 @@
 -- What is printed for a filing, case by case: too long, refused at a field, or read to its end.
 -- Assumes nothing.
 use Prim.Native.Nat.{ℕ, _≤_, _<_}
-use mathlib.Core.Path.{_≡_, refl}
-use mathlib.Core.List.{List, [], _∷_}
-use native.Mathlib.Omega.{arith}
-use types.Run.{OneOf}
-use denote.Enum.Declared.{tagOf}
+use mathlib.Core.Path.{_≡_, refl, sym}
+use mathlib.Core.Bool.{false, false≢true}
+use mathlib.Core.List.{List}
 use lib.ListN.{length}
 use borrow.Author.Tests.{lt-ltb, le-ltb}
-use Rattle.calls.proofs.Answer.{the-type}
-use Rattle.calls.specs.declared.Refusal.{Refusal}
-use Rattle.calls.specs.declared.Answer.{Answer}
-use Rattle.calls.specs.declared.Answer.the-variants.{Yes, Counted, LeftOut, Refused}
-use Rattle.calls.specs.Answers.{numberOf}
+use Rattle.calls.specs.Answers.{Said, refused-by, accepted, onAnswer, isRefused}
 use Rattle.book.specs.Book.{freshBook}
-use Rattle.filing.specs.Reader.{read}
+use Rattle.filing.specs.Reader.{Outcome, read}
 use Rattle.text.specs.Text.{bytesOf}
-use Rattle.report.proofs.AnswerLaws.{first-three}
-use Rattle.output.specs.Output.{longestFiling, unless, refusedField, settlementText, readingText, outputOf}
+use Rattle.output.specs.Output.{longestFiling, refusedField, settlementText, readingText, outputOf}
 
--- an answer of the first three kinds, told by its tag, is no refusal
-unless-none : (answer : Answer) → OneOf (0 ∷ 1 ∷ 2 ∷ []) (tagOf the-type answer) → (refused : ℕ → List ℕ) (text : List ℕ) → unless answer refused text ≡ text
-unfolding unless
-unless-none Yes tag refused text = refl
-unless-none (Counted year) tag refused text = refl
-unless-none (LeftOut reason) tag refused text = refl
-unless-none (Refused refusal) tag refused text = absurd (omega (arith, first-three 3 tag))
+-- what follows from an answer that is no refusal
+pub fine-text : {A : Type 0} (answer : Said A) → isRefused answer ≡ false → (refused : ℕ → List ℕ) (text : List ℕ)
+    → onAnswer refused (λ value. text) answer ≡ text
+unfolding isRefused onAnswer
+fine-text (refused-by number) fine refused text = absurd (false≢true (sym fine))
+fine-text (accepted value) fine refused text = refl
 
 module _ (filing : List ℕ) where
   pub output-long : 65536 < length filing → bytesOf "too long\n" ≡ outputOf filing
@@ -33,11 +25,16 @@ module _ (filing : List ℕ) where
   output-long long = rw (lt-ltb 65536 (length filing) long) refl
 
   module _ (short : length filing ≤ 65536) where
-    pub output-refused : (refusal : Refusal) → read freshBook filing .answer ≡ Refused refusal
-        → refusedField (numberOf refusal) (read freshBook filing .offset) ≡ outputOf filing
-    unfolding outputOf longestFiling readingText unless
-    output-refused refusal refused = rw (le-ltb 65536 (length filing) short, refused) refl
+    pub output-refused : (number : ℕ) → read freshBook filing .said ≡ refused-by number → refusedField number (read freshBook filing .offset) ≡ outputOf filing
+    unfolding outputOf longestFiling readingText onAnswer
+    output-refused number refused = rw (le-ltb 65536 (length filing) short, refused) refl
 
-    pub output-read : OneOf (0 ∷ 1 ∷ 2 ∷ []) (tagOf the-type (read freshBook filing .answer)) → settlementText (read freshBook filing .book) ≡ outputOf filing
+    pub output-read : isRefused (read freshBook filing .said) ≡ false → settlementText (read freshBook filing .book) ≡ outputOf filing
     unfolding outputOf longestFiling readingText
-    output-read tag = rw (le-ltb 65536 (length filing) short, unless-none (read freshBook filing .answer) tag _ _) refl
+    output-read fine =
+        let r : Outcome = read freshBook filing in
+        rw (
+          le-ltb 65536 (length filing) short,
+          fine-text (r .said) fine (λ (number : ℕ). refusedField number (r .offset)) (settlementText (r .book)),
+        )
+        refl

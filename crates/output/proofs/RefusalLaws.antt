@@ -6,10 +6,10 @@ use mathlib.Core.List.{List, _++_}
 use native.Mathlib.Omega.{arith}
 use lib.ListN.{length, drop, length-append}
 use Rattle.text.specs.Text.{bytesOf, decimal}
-use Rattle.report.specs.Report.{putInto}
+use Rattle.text.specs.Buffer.{putInto}
 use Rattle.text.proofs.DigitLaws.{decimal-length}
 use Rattle.text.proofs.WrittenLaws.{Put}
-use Rattle.report.proofs.FittingLaws.{written-front}
+use Rattle.text.proofs.FittingLaws.{written-front}
 use Rattle.output.specs.Output.{refusedBy, refusedField, refusedSettlement}
 
 -- a number of 64 bits has at most twenty digits

@@ -5,14 +5,11 @@ use mathlib.Core.Bool.{cond}
 use mathlib.Core.List.{List, _++_}
 use lib.Dec.{ltb}
 use lib.ListN.{length}
-use Rattle.calls.specs.declared.Answer.{Answer}
-use Rattle.calls.specs.declared.Answer.the-variants.{Yes, Counted, LeftOut, Refused}
-use Rattle.calls.specs.Answers.{numberOf}
 use Rattle.book.specs.declared.Book.{Book}
+use Rattle.calls.specs.Answers.{onAnswer, Acceptance}
 use Rattle.book.specs.Book.{freshBook}
 use Rattle.settlement.specs.Settlement.{settled}
-use Rattle.filing.specs.declared.Reading.{Reading}
-use Rattle.filing.specs.Reader.{read}
+use Rattle.filing.specs.Reader.{Outcome, read}
 use Rattle.text.specs.Text.{bytesOf, decimal}
 use Rattle.report.specs.Report.{textOf}
 
@@ -31,20 +28,13 @@ refusedField number offset = refusedBy number ++ bytesOf " at " ++ decimal offse
 unfoldable pub refusedSettlement : ℕ → List ℕ
 refusedSettlement number = refusedBy number ++ bytesOf "\n"
 
--- the text of a refusal, by its number; for any other answer the other text
-unfoldable pub unless : Answer → (ℕ → List ℕ) → List ℕ → List ℕ
-unless Yes refused text = text
-unless (Counted year) refused text = text
-unless (LeftOut reason) refused text = text
-unless (Refused refusal) refused text = refused (numberOf refusal)
-
 -- the printed settlement of a book, or its refusal
 unfoldable pub settlementText : Book → List ℕ
-settlementText b = unless (settled b .answer) refusedSettlement (textOf b)
+settlementText b = onAnswer refusedSettlement (λ (value : Acceptance). textOf b) (settled b .said)
 
 -- a filing that was read: the first field refused, or the settlement of the book
-unfoldable pub readingText : Reading → List ℕ
-readingText r = unless (r .answer) (λ (number : ℕ). refusedField number (r .offset)) (settlementText (r .book))
+unfoldable pub readingText : Outcome → List ℕ
+readingText r = onAnswer (λ (number : ℕ). refusedField number (r .offset)) (λ (value : Acceptance). settlementText (r .book)) (r .said)
 
 unfoldable pub outputOf : List ℕ → List ℕ
 outputOf filing = cond (ltb longestFiling (length filing)) (bytesOf "too long\n") (readingText (read freshBook filing))

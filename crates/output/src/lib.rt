@@ -2,7 +2,7 @@
 ghost use mathlib.Core.Path.{_≡_};
 ghost use Prim.Native.Nat.{_+_, _≤_};
 ghost use lib.ListN.{length};
-ghost use Rattle.report.specs.Report.{putInto};
+ghost use Rattle.text.specs.Buffer.{putInto};
 ghost use Rattle.text.specs.Steps.{written};
 ghost use Rattle.output.specs.Output.{refusedBy, refusedField, refusedSettlement, settlementText, outputOf};
 use book::Book;
@@ -42,7 +42,7 @@ fn put_settlement(out: &mut [u8], b: Book) -> usize
 {
     match report(b, out) {
         Reported::Written(count) => count,
-        Reported::Refusing(refusal) => put_refused_settlement(out, number_of(refusal)),
+        Reported::Refused(refusal) => put_refused_settlement(out, number_of(refusal)),
     }
 }
 

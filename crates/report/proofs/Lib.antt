@@ -1,4 +1,3 @@
 -- The laws that the proofs of `report`, and of the crates above it, use.
 pub mod PrintedLaws
-pub mod FittingLaws
 pub mod AnswerLaws

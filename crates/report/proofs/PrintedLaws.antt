@@ -8,25 +8,23 @@ use native.Mathlib.Nat.{suc-mul}
 use native.Mathlib.Omega.{arith}
 use lib.IntN.{pos}
 use lib.ListN.{length, getD, length-append}
-use Rattle.calls.specs.declared.Answer.the-variants.{Yes}
+use Rattle.calls.specs.Answers.{accepted, yes-said}
 use Rattle.book.specs.declared.Book.{Book}
 use Rattle.book.specs.Book.{isJoined, inRange}
 use Rattle.apportion.specs.Sum.{sum}
 use Rattle.apportion.specs.Share.{share}
 use Rattle.apportion.proofs.Sums.{sum-append, sum-bound, element-le}
 use Rattle.apportion.proofs.Shared.{shared}
-use Rattle.values.specs.Indicator.{Indicator, electricity, numbered, pool}
+use Rattle.values.specs.Indicator.{Indicator, electricity, numbered, reliableMask, scores, pool}
 use Rattle.indicators.specs.Points.{weights, points}
 use Rattle.indicators.proofs.WeightLaws.{weights-length}
 use Rattle.settlement.specs.declared.Settlement.{Settlement}
-use Rattle.settlement.specs.Money.{accessPoints, pot, contributions, returnWeights, returns}
-use Rattle.settlement.specs.Settlement.{pointsOfAll, settlementBy, settledBy, settled}
-use Rattle.settlement.specs.Laws.{Settles}
-use Rattle.values.proofs.Tables.{length-each}
+use Rattle.settlement.specs.Settlement.{pointsOfAll, settlementBy, settled}
+use Rattle.settlement.specs.Laws.{Settles, Balanced}
 use Rattle.settlement.proofs.InRange.{pot-le}
 use Rattle.settlement.proofs.Amounts.{limit-most}
 use Rattle.settlement.proofs.Gathering.{share-le, pool-le}
-use Rattle.settlement.proofs.SettledLaws.{settles-exactly, adjustments-cancel, within-limits}
+use Rattle.settlement.proofs.SettledLaws.{worth-electricity, settles-exactly, settles-ranged, settled-so, balanced-if-settles}
 use Rattle.text.specs.Text.{bytesOf, decimal}
 use Rattle.lines.specs.Lines.{line, header, pointsOfOperator, operatorLine, operatorLines, lastLine, printed}
 use Rattle.report.specs.Report.{textOf}
@@ -108,7 +106,8 @@ module _ (b : Book) where
   unfolding Modest pointsOfAll points sum
   all-points-le [] modest = omega arith
   all-points-le (indicator ∷ rest) modest =
-      let shares = shares-le (pool b indicator) (weights b indicator) (weights-length b indicator) in
+      let list : List ℕ = weights (indicator .measure) (reliableMask b indicator) (scores b indicator) in
+      let shares = shares-le (pool b indicator) list (weights-length (indicator .measure) (reliableMask b indicator) (scores b indicator)) in
       rw (sum-append, suc-mul) (omega (arith, shares, modest .0, all-points-le rest (modest .1)))
 
   modest-electricity : Modest electricity
@@ -116,28 +115,34 @@ module _ (b : Book) where
   modest-electricity =
       (pool-le b 0 (omega arith), (pool-le b 1 (omega arith), (pool-le b 2 (omega arith), (pool-le b 3 (omega arith), (pool-le b 4 (omega arith), (pool-le b 5 (omega arith), tt))))))
 
-  settlement-printable : inRange b ≡ true → Printable (settlementBy b electricity)
-  unfolding settlementBy contributions returns accessPoints returnWeights
-  settlement-printable ranged =
-      record {
-        points-few = omega (arith, rw six-indicators at (all-points-le electricity modest-electricity));
-        contributions-few = omega (arith, shares-le (pot b) (accessPoints b) (length-each _), pot-le b ranged);
-        returns-few = omega (arith, shares-le (pot b) (returnWeights b electricity) (length-each _), pot-le b ranged);
-        adjustments-small = λ operator lt. omega (arith, within-limits b electricity operator lt, limit-most b ranged operator lt);
-        adjustments-cancel = adjustments-cancel b electricity;
-      }
-
-  module _ (accepted : settled b .answer ≡ Yes) where
+  module _ (accepted : settled b .said ≡ accepted yes-said) where
     settles : Settles b electricity
     unfolding settled
-    settles = settles-exactly b electricity .0 accepted
+    settles = settles-exactly b electricity .1 accepted
 
-    settled-so : settled b .settlement ≡ settlementBy b electricity
-    unfolding settled settledBy
-    settled-so = rw (settles .in-range, settles .somebody, settles .network, settles .reliable) refl
+    ranged : inRange b ≡ true
+    ranged = settles-ranged b electricity settles
+
+    settled-by : settled b .settlement ≡ settlementBy b electricity
+    unfolding settled
+    settled-by = settled-so b electricity settles
+
+    balanced : Balanced b electricity (settlementBy b electricity)
+    balanced = rw (settled-so b electricity settles) at (balanced-if-settles b electricity worth-electricity settles)
+
+    settlement-printable : Printable (settlementBy b electricity)
+    unfolding settlementBy
+    settlement-printable =
+        record {
+          points-few = omega (arith, rw six-indicators at (all-points-le electricity modest-electricity));
+          contributions-few = omega (arith, balanced .contributions-whole, pot-le b ranged);
+          returns-few = omega (arith, balanced .returns-whole, pot-le b ranged);
+          adjustments-small = λ operator lt. omega (arith, balanced .within-limits operator lt, limit-most b ranged operator lt);
+          adjustments-cancel = balanced .adjustments-cancel;
+        }
 
     pub printable : Printable (settled b .settlement)
-    printable = rw settled-so (settlement-printable (settles .in-range))
+    printable = rw settled-by settlement-printable
 
     -- the text of a book that settles has its place in 2048 bytes
     pub text-fits : length (textOf b) ≤ 2048

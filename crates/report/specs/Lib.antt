@@ -1,2 +1,3 @@
 -- The definitions of `report`.
 pub mod Report
+pub mod Laws

@@ -7,5 +7,5 @@ pub use reporting::report;
 // How many bytes were written, or why none.
 pub enum Reported {
     Written(usize),
-    Refusing(Refusal),
+    Refused(Refusal),
 }

@@ -1,8 +1,8 @@
 // The report: a book is settled, its lines are put together aside, and then into the buffer if they fit.
 ghost use mathlib.Core.Path.{_≡_};
-ghost use lib.ListN.{length};
 ghost use Rattle.lines.specs.Lines.{printed};
-ghost use Rattle.report.specs.Report.{fitting, afterwards, reportAnswer, reportBuffer};
+ghost use Rattle.text.specs.Buffer.{bufferAfter, fitting};
+ghost use Rattle.report.specs.Report.{reportAnswer, reportBuffer, reportSaid};
 ghost use Rattle.lines.specs.Steps.{Printable};
 use crate::Reported;
 use book::Book;
@@ -15,14 +15,14 @@ use text::put_word;
 
 // A refusal leaves the buffer; otherwise the bytes after the text stay.
 pub fn report(b: Book, buffer: &mut [u8]) -> Reported
-    ensures { λ r. ⌜ r ≡ reportAnswer b (now (buffer .entry)) ⌝ }
+    ensures { λ r. ⌜ reportSaid r ≡ reportAnswer b (now (buffer .entry)) ⌝ }
     ensures { λ r. ⌜ now (buffer .exit) ≡ reportBuffer b (now (buffer .entry)) ⌝ }
 {
     let settled = settle(b);
     let s = settled.settlement;
     let answer = settled.answer;
     match answer {
-        Answer::Refused(refusal) => Reported::Refusing(refusal),
+        Answer::Refused(refusal) => Reported::Refused(refusal),
         _ => print(b, s, buffer),
     }
 }
@@ -30,13 +30,13 @@ pub fn report(b: Book, buffer: &mut [u8]) -> Reported
 // 13, or the lines.
 fn print(b: Book, s: Settlement, buffer: &mut [u8]) -> Reported
     requires { ⌜ Printable s ⌝ }
-    ensures { λ r. ⌜ r ≡ fitting (length (now (buffer .entry))) (printed b s) ⌝ }
-    ensures { λ r. ⌜ now (buffer .exit) ≡ afterwards (now (buffer .entry)) (printed b s) (fitting (length (now (buffer .entry))) (printed b s)) ⌝ }
+    ensures { λ r. ⌜ reportSaid r ≡ fitting (now (buffer .entry)) (printed b s) ⌝ }
+    ensures { λ r. ⌜ now (buffer .exit) ≡ bufferAfter (now (buffer .entry)) (printed b s) (fitting (now (buffer .entry)) (printed b s)) ⌝ }
 {
     let mut text = [0u8; 2048];
     let count = put_lines(&mut text, b, s);
     if buffer.len() < count {
-        return Reported::Refusing(Refusal::BufferTooShort);
+        return Reported::Refused(Refusal::BufferTooShort);
     }
     put_word(buffer, 0, &text[..count]);
     Reported::Written(count)

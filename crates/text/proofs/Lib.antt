@@ -2,3 +2,4 @@
 pub mod WrittenLaws
 pub mod DigitLaws
 pub mod SignLaws
+pub mod FittingLaws

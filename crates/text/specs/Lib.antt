@@ -1,4 +1,5 @@
 -- The definitions of `text`.
 pub mod Text
+pub mod Buffer
 pub mod Steps
 pub mod Laws

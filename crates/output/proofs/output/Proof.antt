@@ -1,32 +1,21 @@
 -- `output::output` meets its contract.
 -- Assumes nothing.
-use mathlib.Core.Path.{_≡_, sym, ap, subst, _∙_}
-use mathlib.Core.List.{[], _∷_}
+use mathlib.Core.Path.{_≡_, sym, ap, _∙_}
 use native.Mathlib.Omega.{arith}
 use lib.ListN.{length}
 use Rattle.text.specs.Text.{bytesOf}
-use Rattle.report.specs.Report.{putInto}
+use Rattle.text.specs.Buffer.{putInto}
 use Rattle.output.specs.Output.{refusedField, settlementText}
-use types.Run.{OneOf}
-use denote.Enum.Declared.{tagOf}
-use Rattle.calls.proofs.Answer.{the-type}
 use Rattle.book.specs.declared.Book.{Book}
 use Rattle.book.specs.Book.{freshBook}
-use Rattle.filing.specs.declared.Reading.{Reading}
-use Rattle.filing.specs.Reader.{read}
+use Rattle.calls.specs.Answers.{isRefused, said}
+use Rattle.calls.proofs.SaidLaws.{told-accepted}
+use Rattle.filing.specs.Reader.{Outcome, read, told}
 use Rattle.output.proofs.RefusalLaws.{at-front}
 use Rattle.output.proofs.OutputLaws.{output-long, output-refused, output-read}
 use borrow.Author.Needs.{needs}
 use Rattle.output.proofs.output.Statement.{statement}
 use Rattle.output.proofs.output.Tie as tie
-use Rattle.output.proofs.output.Reads as reads
-use Rattle.output.proofs.output.Lts as lts
-use Rattle.book.proofs.fresh.Reads as fresh-reads
-use Rattle.calls.proofs.number_of.Reads as number-of-reads
-use Rattle.filing.proofs.read.Reads as read-reads
-use Rattle.output.proofs.put_refused_field.Reads as put-refused-field-reads
-use Rattle.output.proofs.put_settlement.Reads as put-settlement-reads
-use Rattle.text.proofs.put_word.Reads as put-word-reads
 
 slice-aggregate-put-word : tie.Need-slice-aggregate-put-word
 slice-aggregate-put-word c = search needs
@@ -60,27 +49,29 @@ put-refused-field-requires c κs = search needs
 put-settlement-requires : tie.Need-put-settlement-requires
 put-settlement-requires c κs = search needs
 
+-- a field is refused
 returns-2 : tie.Need-returns-2
 returns-2 c =
     let begun = c .before .before .before .before .before .before .before .before .before .before .before in
     let filing = begun .args .filing .now in
     let reading = c .before .before .before .before .before .before .before .read in
-    let same : reading .result ≡ read freshBook filing = reading .ensures ∙ ap (λ (b : Book). read b filing) (c .before .before .before .before .before .before .before .before .fresh .ensures) in
-    let refused = ap (λ (r : Reading). r .answer) (sym same) ∙ c .before .before .before .before .answer .given .1 in
+    let same : told (reading .result) ≡ read freshBook filing = reading .ensures ∙ ap (λ (b : Book). read b filing) (c .before .before .before .before .before .before .before .before .fresh .ensures) in
+    let refused = ap (λ (r : Outcome). r .said) (sym same) ∙ ap said (c .before .before .before .before .answer .given .1) in
     let number = c .before .number-of .ensures in
     let line = c .put-refused-field .ensures in
     let text = (λ i. refusedField (number i) (same i .offset)) ∙ output-refused filing (omega (arith, c .before .before .before .before .before .before .before .before .before .if1 .left)) _ refused in
     (line .0 ∙ ap length text, line .1 ∙ ap (putInto _) text)
 
+-- read to its end
 returns-3 : tie.Need-returns-3
 returns-3 c =
     let begun = c .before .before .before .before .before .before .before .before in
     let filing = begun .args .filing .now in
     let reading = c .before .before .before .before .read in
-    let same : reading .result ≡ read freshBook filing = reading .ensures ∙ ap (λ (b : Book). read b filing) (c .before .before .before .before .before .fresh .ensures) in
-    let tag = subst (λ (r : Reading). OneOf (0 ∷ 1 ∷ 2 ∷ []) (tagOf the-type (r .answer))) same (c .before .before .match .keys2) in
+    let same : told (reading .result) ≡ read freshBook filing = reading .ensures ∙ ap (λ (b : Book). read b filing) (c .before .before .before .before .before .fresh .ensures) in
+    let fine = ap (λ (r : Outcome). isRefused (r .said)) (sym same) ∙ told-accepted (reading .result .answer) (c .before .before .match .keys2) in
     let lines = c .put-settlement .ensures in
-    let text = ap (λ (r : Reading). settlementText (r .book)) same ∙ output-read filing (omega (arith, c .before .before .before .before .before .before .if1 .left)) tag in
+    let text = ap (λ (r : Outcome). settlementText (r .book)) same ∙ output-read filing (omega (arith, c .before .before .before .before .before .before .if1 .left)) fine in
     (lines .0 ∙ ap length text, lines .1 ∙ ap (putInto _) text)
 
 pub output-spec : {M : Type 1} → statement M

@@ -5,7 +5,7 @@ use native.Mathlib.Omega.{arith}
 use lib.ListN.{length, take, length-take}
 use Rattle.lines.specs.Lines.{printed}
 use Rattle.report.proofs.PrintedLaws.{printed-length}
-use Rattle.report.proofs.FittingLaws.{written-front, take-front, too-short, fits}
+use Rattle.text.proofs.FittingLaws.{written-front, take-front, too-short, fits}
 use borrow.Author.Needs.{needs}
 use Rattle.report.proofs.reporting.print.Statement.{statement}
 use Rattle.report.proofs.reporting.print.Tie as tie

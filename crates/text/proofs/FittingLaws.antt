@@ -7,10 +7,9 @@ use native.Mathlib.Nat.{zero-add}
 use lib.ListN.{length, take}
 use lib.Seq.{take-append-seam}
 use borrow.Author.Tests.{lt-ltb, le-ltb}
-use Rattle.calls.specs.declared.Refusal.the-variants.{BufferTooShort}
-use Rattle.report.specs.declared.Reported.the-variants.{Written, Refusing}
-use Rattle.report.specs.Report.{putInto, fitting, afterwards}
+use Rattle.calls.specs.Answers.{refused-by, accepted, onAnswer, firstOf}
+use Rattle.text.specs.Buffer.{tooShort, putInto, bufferAfter, fitting}
 use Rattle.text.specs.Steps.{written}
 
 -- a text put at the front, and the front of what holds it
 pub written-front : (buffer text : List ℕ) → written buffer 0 text ≡ putInto buffer text
@@ -23,11 +22,11 @@ take-front old text = take-append-seam text _
 
 module _ (buffer text : List ℕ) where
   pub too-short : length buffer < length text
-      → (Refusing BufferTooShort ≡ fitting (length buffer) text) × (buffer ≡ afterwards buffer text (fitting (length buffer) text))
-  unfolding fitting afterwards
+      → (refused-by 13 ≡ fitting buffer text) × (buffer ≡ bufferAfter buffer text (fitting buffer text))
+  unfolding fitting tooShort bufferAfter firstOf onAnswer
   too-short short = rw (lt-ltb (length buffer) (length text) short) (refl, refl)
 
   pub fits : length text ≤ length buffer
-      → (Written (length text) ≡ fitting (length buffer) text) × (putInto buffer text ≡ afterwards buffer text (fitting (length buffer) text))
-  unfolding fitting afterwards
+      → (accepted (length text) ≡ fitting buffer text) × (putInto buffer text ≡ bufferAfter buffer text (fitting buffer text))
+  unfolding fitting tooShort bufferAfter firstOf onAnswer
   fits enough = rw (le-ltb (length buffer) (length text) enough) (refl, refl)
