@@ -4,3 +4,4 @@ pub mod Sums
 pub mod Order
 pub mod Awarded
 pub mod Shared
+pub mod Opened

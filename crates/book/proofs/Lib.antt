@@ -4,3 +4,4 @@ pub mod SlotLaws
 pub mod FlatRange
 pub mod Bounds
 pub mod SameBooks
+pub mod Opened

@@ -7,3 +7,4 @@ pub mod MaskLaws
 pub mod Times
 pub mod JudgedLaws
 pub mod RangeLaws
+pub mod Opened

@@ -3,3 +3,4 @@ pub mod NumberLaws
 pub mod TagLaws
 pub mod FieldLaws
 pub mod LowestOfFields
+pub mod Opened

@@ -1,3 +1,4 @@
 -- The laws that the proofs of `filing`, and of the crates above it, use.
 pub mod WalkLaws
 pub mod ReadLaws
+pub mod Opened

@@ -2,3 +2,4 @@
 pub mod AdmissionLaws
 pub mod MoveLaws
 pub mod LowestOfCalls
+pub mod Opened

@@ -3,3 +3,4 @@ pub mod WrittenLaws
 pub mod DigitLaws
 pub mod SignLaws
 pub mod FittingLaws
+pub mod Opened
