@@ -30,7 +30,7 @@ numberLine name points out received adjustment = line name (decimal points) (dec
 unfoldable pub pointsOfOperator : Settlement → ℕ → ℕ
 pointsOfOperator s operator = sum (table indicatorCount (λ (number : ℕ). getD (s .points) (operators * number + operator) 0))
 
--- ""in" and "out" before the limit"
+-- "in" and "out" before the limit
 unfoldable pub operatorLine : Settlement → ℕ → List ℕ
 operatorLine s operator =
     numberLine (decimal operator) (pointsOfOperator s operator) (getD (s .contributions) operator 0) (getD (s .returns) operator 0)
