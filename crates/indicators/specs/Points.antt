@@ -36,7 +36,8 @@ linearWeight scores operator = 1000000 - 6 * normalised 100000 scores operator
 unfoldable pub isBetter : ℕ → List ℕ → ℕ → Bool
 isBetter mask scores operator = has mask operator && ltb (ones mask * getD scores operator 0) (sum scores)
 
--- "With g better operators, g above 0, each of them takes the sum of their weights and each other takes g times its own"
+-- "With g better operators, g above 0, each of them takes the sum of their weights and each other takes g times its own"; with none each
+-- keeps its own
 unfoldable pub levelled : (ℕ → Bool) → (ℕ → ℕ) → ℕ → ℕ
 levelled better own operator =
     let g : ℕ = count operators better in

@@ -1,6 +1,6 @@
 // Weights of an indicator from the scores of those that take part: normalised, weighed and, for A indicators, levelled.
 ghost use mathlib.Core.Path.{_≡_};
-ghost use mathlib.Core.Bool.{cond, _&&_};
+ghost use mathlib.Core.Bool.{true, false, cond, _&&_};
 ghost use Prim.Native.Nat.{ℕ, _-_, _*_, _≤_, max};
 ghost use lib.Count.{ones};
 ghost use lib.Dec.{ltb, eqb};
@@ -9,15 +9,15 @@ ghost use Rattle.calls.specs.Limits.{operators};
 ghost use Rattle.calls.specs.Masks.{has};
 ghost use Rattle.apportion.specs.Sum.{sum as Sum·sum};
 ghost use Rattle.values.specs.Operators.{each, count};
-ghost use Rattle.values.specs.Indicator.{over};
+ghost use Rattle.values.specs.Indicator.{Measure, over};
 ghost use Rattle.values.specs.Steps.{Scored};
-ghost use Rattle.indicators.specs.Points.{largest, exponentWeight, linearWeight, isBetter, levelled};
+ghost use Rattle.indicators.specs.Points.{largest, exponentWeight, isBetter, isLevelled, weights};
 use calls::has_bit;
 
 // A indicators: better operators share alike.
 pub(crate) fn levelled_weights(mask: u16, scores: [u64; 16]) -> [u64; 16]
     requires { ⌜ Scored scores ⌝ }
-    ensures { λ r. ⌜ r ≡ each (λ (operator : ℕ). cond (has mask operator) (levelled (isBetter mask scores) (exponentWeight scores) operator) 0) ⌝ }
+    ensures { λ r. ⌜ ((measure : Measure) → isLevelled measure ≡ true → r ≡ weights measure mask scores) ⌝ }
 {
     let own = exponent_weights(scores);
     let sum = apportion::total(scores);
@@ -35,7 +35,7 @@ pub(crate) fn levelled_weights(mask: u16, scores: [u64; 16]) -> [u64; 16]
 // D indicators.
 pub(crate) fn linear_weights(mask: u16, scores: [u64; 16]) -> [u64; 16]
     requires { ⌜ Scored scores ⌝ }
-    ensures { λ r. ⌜ r ≡ each (λ (operator : ℕ). cond (has mask operator) (linearWeight scores operator) 0) ⌝ }
+    ensures { λ r. ⌜ ((measure : Measure) → isLevelled measure ≡ false → r ≡ weights measure mask scores) ⌝ }
 {
     let top = largest_of(scores);
     let mut weights = [0u64; 16];

@@ -5,9 +5,8 @@ use mathlib.Core.List.{List, [], _∷_, _++_}
 use lib.IntN.{ℤ}
 use lib.ListN.{length}
 use Rattle.text.specs.Text.{decimal, signedDecimal}
-use Rattle.lines.specs.Steps.{columns}
 use Rattle.text.proofs.WrittenLaws.{Put, room-first, room-after, put-then, three-first, three-second, three-third, put-three}
-use Rattle.lines.proofs.LineLaws.{columns-parts}
+use Rattle.lines.proofs.LineLaws.{columns, columns-parts}
 
 -- a number after a space
 abbrev column : ℕ → List ℕ

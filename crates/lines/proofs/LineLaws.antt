@@ -15,16 +15,19 @@ use Rattle.apportion.specs.Sum.{sum}
 use Rattle.settlement.specs.declared.Settlement.{Settlement}
 use Rattle.settlement.specs.Laws.{sumℤ}
 use Rattle.text.specs.Text.{bytesOf, decimal, signedDecimal}
-use Rattle.lines.specs.Lines.{line, pointsOfOperator, operatorLine, operatorLines, lastLine}
-use Rattle.lines.specs.Steps.{columns}
+use Rattle.lines.specs.Lines.{line, numberLine, pointsOfOperator, operatorLine, operatorLines, lastLine}
 
 after-name : (name a b c d e : List ℕ) → name ++ a ++ b ++ c ++ d ++ e ≡ name ++ (a ++ b ++ c ++ d ++ e)
 after-name name a b c d e = simp append-assoc
 
+-- all of a line but its name
+abbrev pub columns : ℕ → ℕ → ℕ → ℤ → List ℕ
+columns points out received adjustment = numberLine [] points out received adjustment
+
 -- a name, and the columns after it
 pub line-named : (name : List ℕ) (points out received : ℕ) (adjustment : ℤ)
-    → line name (decimal points) (decimal out) (decimal received) (signedDecimal adjustment) ≡ name ++ columns points out received adjustment
-unfolding line columns
+    → numberLine name points out received adjustment ≡ name ++ columns points out received adjustment
+unfolding line
 line-named name points out received adjustment =
     after-name name (32 ∷ decimal points) (32 ∷ decimal out) (32 ∷ decimal received) (32 ∷ signedDecimal adjustment) (10 ∷ [])
 
@@ -32,7 +35,7 @@ line-named name points out received adjustment =
 pub columns-parts : (points out received : ℕ) (adjustment : ℤ)
     → columns points out received adjustment
     ≡ (32 ∷ decimal points) ++ (32 ∷ decimal out) ++ (32 ∷ decimal received) ++ ((32 ∷ signedDecimal adjustment) ++ (10 ∷ []))
-unfolding line columns
+unfolding line
 columns-parts points out received adjustment = append-assoc ((32 ∷ decimal points) ++ (32 ∷ decimal out) ++ (32 ∷ decimal received)) (32 ∷ signedDecimal adjustment) (10 ∷ [])
 
 module _ (s : Settlement) where

@@ -3,7 +3,7 @@
 use Prim.Native.Nat.{ℕ, zero, suc, _+_, _*_}
 use mathlib.Core.Bool.{cond}
 use mathlib.Core.List.{List, [], _∷_, _++_}
-use lib.IntN.{pos}
+use lib.IntN.{ℤ, pos}
 use lib.ListN.{getD}
 use Rattle.calls.specs.Limits.{operators, indicatorCount}
 use Rattle.book.specs.declared.Book.{Book}
@@ -22,18 +22,19 @@ line name points out received adjustment =
 unfoldable pub header : List ℕ
 header = line (bytesOf "operator") (bytesOf "points") (bytesOf "out") (bytesOf "in") (bytesOf "adjustment")
 
+-- "Points in hundredths, money in cents"
+abbrev pub numberLine : List ℕ → ℕ → ℕ → ℕ → ℤ → List ℕ
+numberLine name points out received adjustment = line name (decimal points) (decimal out) (decimal received) (signedDecimal adjustment)
+
 -- an operator's points over all indicators
 unfoldable pub pointsOfOperator : Settlement → ℕ → ℕ
 pointsOfOperator s operator = sum (table indicatorCount (λ (number : ℕ). getD (s .points) (operators * number + operator) 0))
 
--- "Points in hundredths, money in cents, "in" and "out" before the limit"
+-- "in" and "out" before the limit
 unfoldable pub operatorLine : Settlement → ℕ → List ℕ
 operatorLine s operator =
-    line (decimal operator)
-    (decimal (pointsOfOperator s operator))
-    (decimal (getD (s .contributions) operator 0))
-    (decimal (getD (s .returns) operator 0))
-    (signedDecimal (getD (s .adjustments) operator (pos 0)))
+    numberLine (decimal operator) (pointsOfOperator s operator) (getD (s .contributions) operator 0) (getD (s .returns) operator 0)
+    (getD (s .adjustments) operator (pos 0))
 
 -- "joined operators rising": those below n
 unfoldable pub operatorLines : Book → Settlement → ℕ → List ℕ
@@ -42,12 +43,7 @@ operatorLines b s (suc n) = operatorLines b s n ++ cond (isJoined b n) (operator
 
 -- "the last line sums"
 unfoldable pub lastLine : Settlement → List ℕ
-lastLine s =
-    line (bytesOf "all")
-    (decimal (sum (s .points)))
-    (decimal (sum (s .contributions)))
-    (decimal (sum (s .returns)))
-    (signedDecimal (sumℤ (s .adjustments)))
+lastLine s = numberLine (bytesOf "all") (sum (s .points)) (sum (s .contributions)) (sum (s .returns)) (sumℤ (s .adjustments))
 
 unfoldable pub printed : Book → Settlement → List ℕ
 printed b s = header ++ operatorLines b s operators ++ lastLine s

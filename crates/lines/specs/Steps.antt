@@ -1,20 +1,13 @@
--- A line without its name, and what holds of a settlement that inner functions of the report print.
+-- What holds of a settlement that inner functions of the report print.
 -- Assumes nothing.
 use Prim.Native.Nat.{ℕ, _^_, _<_}
 use mathlib.Core.Path.{_≡_}
-use mathlib.Core.List.{List, []}
-use lib.IntN.{ℤ, pos, natAbs}
+use lib.IntN.{pos, natAbs}
 use lib.ListN.{getD}
 use Rattle.calls.specs.Limits.{operators}
 use Rattle.apportion.specs.Sum.{sum}
 use Rattle.settlement.specs.declared.Settlement.{Settlement}
 use Rattle.settlement.specs.Laws.{sumℤ}
-use Rattle.text.specs.Text.{decimal, signedDecimal}
-use Rattle.lines.specs.Lines.{line}
-
--- all of a line but its name
-unfoldable pub columns : ℕ → ℕ → ℕ → ℤ → List ℕ
-columns points out received adjustment = line [] (decimal points) (decimal out) (decimal received) (signedDecimal adjustment)
 
 -- sums and sizes stay within a machine's numbers, and adjustments cancel
 pub record Printable (s : Settlement) : Type 0 where

@@ -8,9 +8,9 @@ ghost use lib.ListN.{length};
 ghost use Rattle.book.specs.Book.{isJoined};
 ghost use Rattle.apportion.specs.Sum.{sum};
 ghost use Rattle.text.specs.Text.{decimal, signedDecimal};
-ghost use Rattle.lines.specs.Lines.{pointsOfOperator, operatorLine, operatorLines, lastLine, printed};
+ghost use Rattle.lines.specs.Lines.{numberLine, pointsOfOperator, operatorLine, operatorLines, lastLine, printed};
 ghost use Rattle.text.specs.Steps.{written};
-ghost use Rattle.lines.specs.Steps.{columns, Printable};
+ghost use Rattle.lines.specs.Steps.{Printable};
 use apportion::total;
 use book::Book;
 use book::is_joined;
@@ -99,8 +99,8 @@ fn put_columns(
     received: u64,
     adjustment: i64,
 ) -> usize
-    requires { ⌜ (natAbs adjustment < 2 ^ 62) × (at + length (columns points paid received adjustment) ≤ length (now out)) ⌝ }
-    ensures { λ r. ⌜ (now (out .exit) ≡ written (now (out .entry)) at (columns points paid received adjustment)) × (r ≡ at + length (columns points paid received adjustment)) ⌝ }
+    requires { ⌜ (natAbs adjustment < 2 ^ 62) × (at + length (numberLine [] points paid received adjustment) ≤ length (now out)) ⌝ }
+    ensures { λ r. ⌜ (now (out .exit) ≡ written (now (out .entry)) at (numberLine [] points paid received adjustment)) × (r ≡ at + length (numberLine [] points paid received adjustment)) ⌝ }
 {
     let first = put_column(out, at, points);
     let second = put_column(out, first, paid);

@@ -9,8 +9,8 @@ use native.Mathlib.Omega.{arith}
 use native.Mathlib.Decide.{decLt}
 use lib.Bits.{bitAnd, and-le-r}
 use lib.Count.{ones-le}
-use lib.ListN.{length, getD, take, length-set, List·getD-eq-default, replicate}
-use lib.Seq.{take-suc, take-suc-set, take-paste, length-paste, take-all}
+use lib.ListN.{length, getD, set, take, length-set, List·getD-eq-default, replicate}
+use lib.Seq.{paste, take-suc, take-suc-set, take-paste, length-paste, take-all}
 use Rattle.book.specs.declared.Book.{Book}
 use Rattle.apportion.specs.Sum.{sum}
 use Rattle.apportion.specs.Share.{share}
@@ -23,7 +23,6 @@ use Rattle.values.proofs.Scores.{over-le}
 use Rattle.indicators.proofs.PointLaws.{points-length}
 use Rattle.settlement.specs.declared.gather.Gathered.{Gathered}
 use Rattle.settlement.specs.Settlement.{pointsOfAll}
-use Rattle.settlement.specs.Steps.{added, withOne}
 use Rattle.values.proofs.Tables.{length-each, each-at, each-same}
 
 -- no share passes the total
@@ -93,8 +92,11 @@ pub record Gathers (b : Book) (n : ℕ) (g : Gathered) : Type 0 where
   pub totals-are : g .totals ≡ each (allPoints b (firsts n))
   pub totals-most : (k : ℕ) → getD (g .totals) k 0 ≤ n * 739200
 
+-- two lists added, operator by operator
+abbrev added : List ℕ → List ℕ → List ℕ
+added list other = each (λ (k : ℕ). getD list k 0 + getD other k 0)
+
 added-le : (list other : List ℕ) (most more : ℕ) → ((k : ℕ) → getD list k 0 ≤ most) → ((k : ℕ) → getD other k 0 ≤ more) → (k : ℕ) → getD (added list other) k 0 ≤ most + more
-unfolding added
 added-le list other most more first second k = go (decLt k 16)
   where
     go : Dec (k < 16) → getD (each (λ (operator : ℕ). getD list operator 0 + getD other operator 0)) k 0 ≤ most + more
@@ -104,32 +106,37 @@ added-le list other most more first second k = go (decLt k 16)
         rw (List·getD-eq-default (each (λ (operator : ℕ). getD list operator 0 + getD other operator 0)) 0 past) (omega arith)
 
 totals-more : (b : Book) (n : ℕ) (g : Gathered) → n < 6 → Gathers b n g → added (g .totals) (points b (numbered n)) ≡ each (allPoints b (firsts (n + 1)))
-unfolding added
 totals-more b n g lt so-far =
     each-same _ _
     (λ k lk. rw (one-more n lt, totals-snoc b (firsts n) (numbered n) k, so-far .totals-are, each-at (allPoints b (firsts n)) k lk) refl)
 
-pub gathers-more : (b : Book) (n : ℕ) (g : Gathered) → n < 6 → Gathers b n g → Gathers b (n + 1) (withOne g (pool b (numbered n)) (points b (numbered n)) n)
-unfolding withOne
-gathers-more b n g lt so-far =
-    let sixteen : length (points b (numbered n)) ≡ 16 = points-length b (numbered n) in
-    let room : 16 * n + 16 ≤ length (g .points) = omega (arith, so-far .points-long) in
-    record {
-      pools-long = length-set (g .pools) n _ ∙ so-far .pools-long;
-      pools-so-far =
-          (rw add-one (take-suc-set (g .pools) n _ (omega (arith, so-far .pools-long))))
-          ∙ (ap (λ (l : List ℕ). l ++ (pool b (numbered n) ∷ [])) (so-far .pools-so-far)
-          ∙ sym (ap (map (pool b)) (one-more n lt) ∙ pools-snoc b (firsts n) (numbered n)));
-      points-long = length-paste (g .points) (16 * n) (points b (numbered n)) 16 room (omega (arith, sixteen)) ∙ so-far .points-long;
-      points-so-far =
-          let shifted : 16 * (n + 1) ≡ 16 * n + 16 = omega arith in
-          rw shifted
-          (take-paste (g .points) (16 * n) (points b (numbered n)) 16 (omega (arith, room)) (omega (arith, sixteen))
-          ∙ (rw (take-all 16 (points b (numbered n)) (omega (arith, sixteen)), so-far .points-so-far)
-          (sym (ap (pointsOfAll b) (one-more n lt) ∙ points-snoc b (firsts n) (numbered n)))));
-      totals-are = totals-more b n g lt so-far;
-      totals-most = λ k. omega (arith, added-le (g .totals) (points b (numbered n)) (n * 739200) 739200 (so-far .totals-most) (point-le b n lt) k);
-    }
+module _ (b : Book) (n : ℕ) (g more : Gathered) (lt : n < 6) (so-far : Gathers b n g) where
+  pub gathers-more : more .pools ≡ set (g .pools) n (pool b (numbered n)) → more .points ≡ paste (g .points) (16 * n) (points b (numbered n)) 16
+      → more .totals ≡ added (g .totals) (points b (numbered n)) → Gathers b (n + 1) more
+  gathers-more pools-are points-are totals-are =
+      let sixteen : length (points b (numbered n)) ≡ 16 = points-length b (numbered n) in
+      let room : 16 * n + 16 ≤ length (g .points) = omega (arith, so-far .points-long) in
+      record {
+        pools-long = ap length pools-are ∙ length-set (g .pools) n _ ∙ so-far .pools-long;
+        pools-so-far =
+            ap (take (n + 1)) pools-are
+            ∙ (rw add-one (take-suc-set (g .pools) n _ (omega (arith, so-far .pools-long))))
+            ∙ ap (λ (l : List ℕ). l ++ (pool b (numbered n) ∷ [])) (so-far .pools-so-far)
+            ∙ sym (ap (map (pool b)) (one-more n lt) ∙ pools-snoc b (firsts n) (numbered n));
+        points-long =
+            ap length points-are
+            ∙ length-paste (g .points) (16 * n) (points b (numbered n)) 16 room (omega (arith, sixteen))
+            ∙ so-far .points-long;
+        points-so-far =
+            let shifted : 16 * (n + 1) ≡ 16 * n + 16 = omega arith in
+            rw (shifted, points-are)
+            (take-paste (g .points) (16 * n) (points b (numbered n)) 16 (omega (arith, room)) (omega (arith, sixteen))
+            ∙ (rw (take-all 16 (points b (numbered n)) (omega (arith, sixteen)), so-far .points-so-far)
+            (sym (ap (pointsOfAll b) (one-more n lt) ∙ points-snoc b (firsts n) (numbered n)))));
+        totals-are = totals-are ∙ totals-more b n g lt so-far;
+        totals-most = λ k.
+            rw totals-are (omega (arith, added-le (g .totals) (points b (numbered n)) (n * 739200) 739200 (so-far .totals-most) (point-le b n lt) k));
+      }
 
 zeros : (n k : ℕ) → getD (replicate n 0) k 0 ≤ 0
 zeros zero k = omega arith

@@ -2,15 +2,14 @@
 ghost use mathlib.Core.Path.{_≡_};
 ghost use mathlib.Core.Bool.{true};
 ghost use mathlib.Core.List.{map};
-ghost use Prim.Native.Nat.{ℕ, _≤_, _<_};
-ghost use lib.ListN.{getD};
+ghost use Prim.Native.Nat.{ℕ, _+_, _*_, _≤_, _<_};
+ghost use lib.ListN.{getD, set};
 ghost use lib.Seq.{paste};
 ghost use Rattle.book.specs.Book.{inRange};
 ghost use Rattle.values.specs.Operators.{each};
 ghost use Rattle.values.specs.Indicator.{electricity, numbered, pool};
 ghost use Rattle.indicators.specs.Points.{points, allPoints};
 ghost use Rattle.settlement.specs.Settlement.{pointsOfAll};
-ghost use Rattle.settlement.specs.Steps.{added, withOne};
 use book::Book;
 use indicators::points_of;
 use indicators::pool_of;
@@ -40,7 +39,7 @@ pub(crate) fn gather(b: Book) -> Gathered
 
 fn gather_one(g: Gathered, b: Book, number: u8) -> Gathered
     requires { ⌜ (inRange b ≡ true) × (number < 6) × ((k : ℕ) → getD (g .totals) k 0 ≤ 4000000) ⌝ }
-    ensures { λ r. ⌜ r ≡ withOne g (pool b (numbered number)) (points b (numbered number)) number ⌝ }
+    ensures { λ r. ⌜ (r .pools ≡ set (g .pools) number (pool b (numbered number))) × (r .points ≡ paste (g .points) (16 * number) (points b (numbered number)) 16) × (r .totals ≡ each (λ (k : ℕ). getD (g .totals) k 0 + getD (points b (numbered number)) k 0)) ⌝ }
 {
     let shares = points_of(b, number);
     let mut pools = g.pools;
@@ -72,7 +71,7 @@ fn place(list: [u64; 96], at: usize, shares: [u64; 16]) -> [u64; 96]
 
 fn add(list: [u64; 16], other: [u64; 16]) -> [u64; 16]
     requires { ⌜ ((k : ℕ) → getD list k 0 ≤ 5000000) × ((k : ℕ) → getD other k 0 ≤ 5000000) ⌝ }
-    ensures { λ r. ⌜ r ≡ added list other ⌝ }
+    ensures { λ r. ⌜ r ≡ each (λ (k : ℕ). getD list k 0 + getD other k 0) ⌝ }
 {
     let mut out = [0u64; 16];
     let mut i = 0;

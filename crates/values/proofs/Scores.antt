@@ -1,27 +1,23 @@
 -- The scores of an indicator, one for each operator, and their bounds in a book in range.
 -- Assumes nothing.
-use Prim.Native.Nat.{ℕ, zero, suc, _/_, _≤_, _<_}
+use Prim.Native.Nat.{ℕ, zero, suc, _≤_, _<_, zero-le}
 use mathlib.Core.Path.{_≡_}
-use mathlib.Core.Bool.{Bool, true, false, cond}
+use mathlib.Core.Bool.{true}
 use native.Mathlib.Nat.{div-le-self, mul-le-mul, le-trans}
 use native.Mathlib.Omega.{arith}
 use lib.Dec.{eqb}
 use lib.ListN.{getD}
 use Rattle.book.specs.declared.Book.{Book}
 use Rattle.book.specs.Book.{inRange}
-use Rattle.values.specs.Indicator.{frequency, duration, fee, electricity, numbered, over, yearlyValue, threeYears, isReliable}
-use Rattle.values.specs.Indicator.{scoreOf, scores}
+use Rattle.values.specs.Indicator.{frequency, duration, fee, electricity, numbered, over, yearlyValue, threeYears, isReliable, scores}
 use Rattle.values.specs.Steps.{Scored, yearlyValues}
+use Rattle.values.proofs.CountLaws.{cond-le}
 use Rattle.values.proofs.Tables.{each-le}
 use Rattle.values.proofs.InRange.{figure-le, index-between}
 
 pub over-le : (dividend divisor : ℕ) → over dividend divisor ≤ dividend
 unfolding over
-over-le dividend divisor = go (eqb divisor 0)
-  where
-    go : (t : Bool) → cond t 0 (dividend / divisor) ≤ dividend
-    go true = omega arith
-    go false = div-le-self dividend divisor
+over-le dividend divisor = cond-le (eqb divisor 0) zero-le (div-le-self dividend divisor)
 
 module _ (b : Book) (ranged : inRange b ≡ true) (operator year : ℕ) (lo : operator < 16) (ly : year < 3) where
   frequency-le : (figure which : ℕ) → figure < 8 → yearlyValue b (frequency figure which) operator year ≤ 100000000000000000
@@ -48,20 +44,16 @@ module _ (b : Book) (ranged : inRange b ≡ true) (operator year : ℕ) (lo : op
   yearly-le (suc (suc (suc (suc (suc zero))))) lt = fee-le 6 7 (omega arith)
   yearly-le (suc (suc (suc (suc (suc (suc n)))))) lt = absurd (omega arith)
 
-score-le : (b : Book) → inRange b ≡ true → (number : ℕ) → number < 6 → (operator : ℕ) → operator < 16
-    → scoreOf b (numbered number) operator ≤ 300000000000000000
-unfolding scoreOf threeYears
-score-le b ranged number ln operator lo = go (isReliable b (numbered number) operator)
-  where
-    go : (t : Bool) → cond t (threeYears b (numbered number .measure) operator) 0 ≤ 300000000000000000
-    go true =
-        omega (
-          arith,
-          yearly-le b ranged operator 0 lo (omega arith) number ln,
-          yearly-le b ranged operator 1 lo (omega arith) number ln,
-          yearly-le b ranged operator 2 lo (omega arith) number ln,
-        )
-    go false = omega arith
+three-years-le : (b : Book) → inRange b ≡ true → (number : ℕ) → number < 6 → (operator : ℕ) → operator < 16
+    → threeYears b (numbered number .measure) operator ≤ 300000000000000000
+unfolding threeYears
+three-years-le b ranged number ln operator lo =
+    omega (
+      arith,
+      yearly-le b ranged operator 0 lo (omega arith) number ln,
+      yearly-le b ranged operator 1 lo (omega arith) number ln,
+      yearly-le b ranged operator 2 lo (omega arith) number ln,
+    )
 
 -- the same of the values by operator
 pub yearlies-le : (b : Book) → inRange b ≡ true → (number year : ℕ) → number < 6 → year < 3
@@ -71,7 +63,5 @@ yearlies-le b ranged number year ln ly = each-le _ _ (λ k lt. yearly-le b range
 -- no score passes three years of the largest yearly value
 pub scored : (b : Book) → inRange b ≡ true → (number : ℕ) → number < 6 → Scored (scores b (numbered number))
 unfolding scores
-scored b ranged number ln place = each-le (scoreOf b (numbered number)) 300000000000000000 one place
-  where
-    one : (operator : ℕ) → operator < 16 → scoreOf b (numbered number) operator ≤ 300000000000000000
-    one operator lo = score-le b ranged number ln operator lo
+scored b ranged number ln =
+    each-le _ _ (λ operator lo. cond-le (isReliable b (numbered number) operator) (three-years-le b ranged number ln operator lo) zero-le)

@@ -61,12 +61,9 @@ reliableMask b indicator = bitAnd (b .joined) (65535 - getD (b .marks) (indicato
 unfoldable pub isReliable : Book → Indicator → ℕ → Bool
 isReliable b indicator operator = has (reliableMask b indicator) operator
 
--- the s of one that takes part; "Marked operators get 0 and count nowhere else"
-unfoldable pub scoreOf : Book → Indicator → ℕ → ℕ
-scoreOf b indicator operator = cond (isReliable b indicator operator) (threeYears b (indicator .measure) operator) 0
-
+-- the s of those that take part; "Marked operators get 0 and count nowhere else"
 unfoldable pub scores : Book → Indicator → List ℕ
-scores b indicator = each (scoreOf b indicator)
+scores b indicator = each (λ (operator : ℕ). cond (isReliable b indicator operator) (threeYears b (indicator .measure) operator) 0)
 
 -- "Let n be the number of joined operators, m of those without a mark at this indicator"
 unfoldable pub joinedCount : Book → ℕ

@@ -5,10 +5,9 @@ ghost use Prim.Native.Nat.{ℕ, _+_, _*_, _-_, _≤_, _<_};
 ghost use lib.ListN.{getD};
 ghost use Rattle.calls.specs.Masks.{has};
 ghost use Rattle.book.specs.Book.{inRange};
-ghost use Rattle.values.specs.Operators.{settingsOf, figuresOf};
-ghost use Rattle.values.specs.Indicator.{frequency, duration, fee, over, reliableMask, numbered};
-ghost use Rattle.values.specs.Indicator.{scores};
-ghost use Rattle.values.specs.Steps.{yearlyValues, quotientsBy};
+ghost use Rattle.values.specs.Operators.{each, settingsOf, figuresOf};
+ghost use Rattle.values.specs.Indicator.{frequency, duration, fee, over, reliableMask, scores, numbered};
+ghost use Rattle.values.specs.Steps.{yearlyValues};
 use book::Book;
 use calls::has_bit;
 
@@ -145,7 +144,7 @@ pub fn settings_of(b: Book, which: u8) -> [u64; 16]
 
 fn quotients(factor: u64, dividends: [u64; 16], scale: u64, divisors: [u64; 16]) -> [u64; 16]
     requires { ⌜ (factor ≤ 1000000) × (scale ≤ 100000) × ((k : ℕ) → getD dividends k 0 ≤ 100000000000) × ((k : ℕ) → getD divisors k 0 ≤ 100000000000) ⌝ }
-    ensures { λ r. ⌜ r ≡ quotientsBy factor dividends scale divisors ⌝ }
+    ensures { λ r. ⌜ r ≡ each (λ (k : ℕ). over (factor * getD dividends k 0) (scale * getD divisors k 0)) ⌝ }
 {
     let mut list = [0u64; 16];
     let mut i = 0;

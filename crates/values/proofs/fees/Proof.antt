@@ -6,8 +6,7 @@ use mathlib.Core.Path.{_∙_}
 use Prim.Native.Nat.{_*_, _≤_}
 use Rattle.book.specs.Book.{indexOf}
 use Rattle.values.proofs.InRange.{figures-le, index-between}
-use Rattle.values.specs.Steps.{quotientsBy}
-use Rattle.values.proofs.Numbered.{fees-same}
+use Rattle.values.proofs.Numbered.{quotientsBy, fees-same}
 use borrow.Author.Needs.{needs}
 use Rattle.values.proofs.fees.Statement.{statement}
 use Rattle.values.proofs.fees.Tie as tie

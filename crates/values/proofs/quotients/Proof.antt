@@ -8,7 +8,6 @@ use Prim.Native.Nat.{ℕ, _*_, _-_}
 use lib.ListN.{getD}
 use native.Mathlib.Nat.{mul-le-mul}
 use Rattle.values.specs.Indicator.{over}
-use Rattle.values.specs.Steps.{quotientsBy}
 use Rattle.values.proofs.quotients.Statement.{statement}
 use Rattle.values.proofs.quotients.Tie as tie
 use Rattle.values.proofs.quotients.Reads as reads
@@ -67,7 +66,6 @@ loop-again : tie.Need-loop-again Inv-loop μ-loop
 loop-again c = filling-more _ _ (c .before .before .loop .inv) (omega arith) (c .divide .ensures .0)
 
 returns : tie.Need-returns Inv-loop μ-loop
-unfolding quotientsBy
 returns c = filling-each (c .before .loop .inv) (omega arith)
 
 pub quotients-spec : {M : Type 1} → statement M

@@ -1,9 +1,8 @@
 -- `indicators::pools::weights_of` meets its contract.
 -- Assumes nothing.
-use mathlib.Core.Path.{refl, sym, _∙_}
-use Rattle.values.specs.Indicator.{numbered}
+use mathlib.Core.Path.{refl, _∙_}
 use Rattle.values.proofs.Scores.{scored}
-use Rattle.indicators.proofs.Weighting.{levels, linears, levelled-same, linear-same}
+use Rattle.indicators.proofs.Weighting.{levels, linears}
 use borrow.Author.Needs.{needs}
 use Rattle.indicators.proofs.pools.weights_of.Statement.{statement}
 use Rattle.indicators.proofs.pools.weights_of.Tie as tie
@@ -22,9 +21,8 @@ levelled-weights-requires c κs =
 returns : tie.Need-returns
 returns c =
     let start = c .before .before .before .before in
-    c .levelled-weights .ensures
-    ∙ (rw (c .before .before .before .reliable-mask .ensures, c .before .before .scores-of .ensures) refl
-    ∙ sym (levelled-same _ _ (numbered (start .args .number) .measure) (levels (start .args .number) (c .before .if1 .taken))))
+    c .levelled-weights .ensures _ (levels (start .args .number) (c .before .if1 .taken))
+    ∙ rw (c .before .before .before .reliable-mask .ensures, c .before .before .scores-of .ensures) refl
 
 linear-weights-requires : tie.Need-linear-weights-requires
 linear-weights-requires c κs =
@@ -34,9 +32,8 @@ linear-weights-requires c κs =
 returns-2 : tie.Need-returns-2
 returns-2 c =
     let start = c .before .before .before .before in
-    c .linear-weights .ensures
-    ∙ (rw (c .before .before .before .reliable-mask .ensures, c .before .before .scores-of .ensures) refl
-    ∙ sym (linear-same _ _ (numbered (start .args .number) .measure) (linears (start .args .number) (c .before .if1 .left) (start .pre .1))))
+    c .linear-weights .ensures _ (linears (start .args .number) (c .before .if1 .left) (start .pre .1))
+    ∙ rw (c .before .before .before .reliable-mask .ensures, c .before .before .scores-of .ensures) refl
 
 pub weights-of-spec : {M : Type 1} → statement M
 weights-of-spec =

@@ -1,7 +1,7 @@
 -- `indicators::weights::levelled_weights` meets its contract: the operators passed have their weights.
 -- Assumes nothing.
 use borrow.Author.Needs.{needs}
-use mathlib.Core.Path.{_≡_, refl}
+use mathlib.Core.Path.{_≡_, refl, sym, _∙_}
 use mathlib.Core.Bool.{cond}
 use Prim.Native.Nat.{ℕ, _-_, _≤_}
 use native.Mathlib.Omega.{arith}
@@ -9,7 +9,7 @@ use lib.ListN.{length, getD}
 use Rattle.values.specs.Operators.{each}
 use Rattle.calls.specs.Masks.{has}
 use Rattle.indicators.specs.Points.{exponentWeight, isBetter, levelled}
-use Rattle.indicators.proofs.Weighting.{together-same}
+use Rattle.indicators.proofs.Weighting.{together-same, levelled-same}
 use Rattle.values.proofs.Tables.{Filling, filling-none, filling-more, filling-each, each-at}
 use Rattle.apportion.proofs.Sums.{sum-bound}
 use mathlib.Core.List.{List}
@@ -110,8 +110,8 @@ loop-again c =
 
 returns : tie.Need-returns Inv-loop μ-loop
 returns c =
-    let here = c .before .loop in
-    filling-each (here .inv) (omega arith)
+    let begun = c .before .before .before .before .before .before in
+    λ measure levels. filling-each (c .before .loop .inv) (omega arith) ∙ sym (levelled-same (begun .args .mask) (begun .args .t2) measure levels)
 
 pub levelled-weights-spec : {M : Type 1} → statement M
 levelled-weights-spec =

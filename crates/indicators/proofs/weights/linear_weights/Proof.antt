@@ -1,7 +1,7 @@
 -- `indicators::weights::linear_weights` meets its contract: the operators passed have their weights.
 -- Assumes nothing.
 use borrow.Author.Needs.{needs}
-use mathlib.Core.Path.{_≡_, refl}
+use mathlib.Core.Path.{_≡_, refl, sym, _∙_}
 use mathlib.Core.Bool.{cond}
 use mathlib.Core.List.{List}
 use Prim.Native.Nat.{ℕ, _-_}
@@ -10,6 +10,7 @@ use Rattle.indicators.specs.Points.{normalised, linearWeight}
 use Rattle.calls.specs.Masks.{has}
 use Rattle.values.proofs.Tables.{Filling, filling-none, filling-more, filling-each}
 use Rattle.indicators.proofs.Largest.{largest-ge, largest-le}
+use Rattle.indicators.proofs.Weighting.{linear-same}
 use Rattle.indicators.proofs.weights.linear_weights.Statement.{statement}
 use Rattle.indicators.proofs.weights.linear_weights.Tie as tie
 
@@ -68,8 +69,8 @@ loop-again c =
 
 returns : tie.Need-returns Inv-loop μ-loop
 returns c =
-    let here = c .before .loop in
-    filling-each (here .inv) (omega arith)
+    let begun = c .before .before .before in
+    λ measure linear. filling-each (c .before .loop .inv) (omega arith) ∙ sym (linear-same (begun .args .mask) (begun .args .t2) measure linear)
 
 pub linear-weights-spec : {M : Type 1} → statement M
 linear-weights-spec =

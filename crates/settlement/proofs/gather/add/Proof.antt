@@ -5,7 +5,6 @@ use Prim.Native.Nat.{_+_, _-_}
 use native.Mathlib.Omega.{arith}
 use lib.ListN.{getD}
 use Rattle.values.proofs.Tables.{Filling, filling-none, filling-more, filling-each}
-use Rattle.settlement.specs.Steps.{added}
 use Rattle.settlement.proofs.gather.add.Statement.{statement}
 use Rattle.settlement.proofs.gather.add.Tie as tie
 
@@ -49,7 +48,6 @@ loop-again : tie.Need-loop-again Inv-loop μ-loop
 loop-again c = filling-more _ _ (c .before .loop .inv) (omega arith) refl
 
 returns : tie.Need-returns Inv-loop μ-loop
-unfolding added
 returns c = filling-each (c .before .loop .inv) (omega arith)
 
 pub add-spec : {M : Type 1} → statement M

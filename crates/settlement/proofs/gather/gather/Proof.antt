@@ -28,7 +28,9 @@ loop-less : tie.Need-loop-less Inv-loop μ-loop
 loop-less c = omega arith
 
 loop-again : tie.Need-loop-again Inv-loop μ-loop
-loop-again c = (omega arith, rw (c .gather-one .ensures) (gathers-more _ _ _ (omega arith) (c .before .before .loop .inv .1)))
+loop-again c =
+    let one = c .gather-one .ensures in
+    (omega arith, gathers-more _ _ _ _ (omega arith) (c .before .before .loop .inv .1) (one .0) (one .1) (one .2))
 
 returns : tie.Need-returns Inv-loop μ-loop
 returns c =

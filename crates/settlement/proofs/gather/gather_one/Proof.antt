@@ -1,8 +1,7 @@
 -- `settlement::gather::gather_one` meets its contract.
 -- Assumes nothing.
-use mathlib.Core.Path.{refl}
+use mathlib.Core.Path.{refl, _∙_}
 use native.Mathlib.Omega.{arith}
-use Rattle.settlement.specs.Steps.{withOne}
 use Rattle.settlement.proofs.Gathering.{point-le}
 use borrow.Author.Needs.{needs}
 use Rattle.settlement.proofs.gather.gather_one.Statement.{statement}
@@ -34,10 +33,12 @@ add-requires c κs =
     )
 
 returns : tie.Need-returns
-unfolding withOne
 returns c =
-    let shares = c .before .before .before .before .before .before .points-of .ensures in
-    rw (c .before .before .before .before .pool-of .ensures .0, c .before .before .place .ensures, c .add .ensures, shares) refl
+    let shares = c .before .before .before .before .before .before .points-of .ensures in (
+      rw (c .before .before .before .before .pool-of .ensures .0) refl,
+      c .before .before .place .ensures ∙ rw shares refl,
+      c .add .ensures ∙ rw shares refl,
+    )
 
 pub gather-one-spec : {M : Type 1} → statement M
 gather-one-spec =
