@@ -4,3 +4,4 @@ pub mod OnesLaws
 pub mod WeightLaws
 pub mod Weighting
 pub mod PointLaws
+pub mod Opened

@@ -2,3 +2,4 @@
 pub mod SumLaws
 pub mod LineLaws
 pub mod ColumnLaws
+pub mod Opened

@@ -2,3 +2,4 @@
 pub mod RefusalLaws
 pub mod SettlementLaws
 pub mod OutputLaws
+pub mod Opened

@@ -9,3 +9,4 @@ pub mod UnjoinedLaws
 pub mod SettledLaws
 pub mod Gathering
 pub mod Amounts
+pub mod Opened

@@ -5,3 +5,4 @@ pub mod InRange
 pub mod Numbered
 pub mod Scores
 pub mod AnyLaws
+pub mod Opened
