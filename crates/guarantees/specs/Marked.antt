@@ -1,8 +1,7 @@
 -- The cases that document 01 marks, and its examples in bytes, gathered in one list of statements. One theorem covers the list: `all-hold` of proofs/MarkedHold.antt.
 -- Assumes nothing.
 use mathlib.Core.Path.{_≡_}
-use mathlib.Core.List.{List, [], _∷_}
-use mathlib.Core.List.{reverse}
+use mathlib.Core.List.{List, [], _∷_, reverse}
 use Prim.Native.Nat.{ℕ}
 use lib.Dec.{ltb}
 use lib.IntN.{pos, negℤ}
@@ -11,20 +10,19 @@ use Rattle.apportion.specs.Share.{share}
 use Rattle.exponent.specs.Weight.{weightOf}
 use Rattle.calls.specs.declared.Call.{Call}
 use Rattle.calls.specs.declared.Call.the-variants.{Join, Setting, Interruption, Amount, Rates}
-use Rattle.calls.specs.declared.Answer.the-variants.{Yes}
-use Rattle.calls.specs.Answers.{Said, yes-said, counted-in, left-out-under, refused-by, said}
+use Rattle.calls.specs.Answers.{Said, refused-by, accepted, Acceptance, yes-said, counted-in, left-out-as-short}
 use Rattle.book.specs.Book.{freshBook, figureOf}
 use Rattle.ledger.specs.Calls.{filedAnswers}
 use Rattle.history.specs.Demand.{bookOf}
 use Rattle.values.specs.Operators.{each}
-use Rattle.indicators.specs.Points.{levelledWeight}
+use Rattle.indicators.specs.Points.{levelled}
 use Rattle.settlement.specs.Settlement.{settled}
 use Rattle.text.specs.Text.{bytesOf}
 use Rattle.output.specs.Output.{outputOf}
 
 -- what the last of some calls on a fresh book is answered
-abbrev pub lastSaid : List Call → Said
-lastSaid calls = said (getD (reverse (filedAnswers freshBook calls)) 0 Yes)
+abbrev pub lastSaid : List Call → Said Acceptance
+lastSaid calls = getD (reverse (filedAnswers freshBook calls)) 0 (accepted yes-said)
 
 -- operator 0 files an interruption of its own MV network with one cabin
 abbrev pub lasting : ℕ → ℕ → Call
@@ -88,15 +86,15 @@ marked =
     ∷ (weightOf 4 ≡ 996005996)
     ∷ (weightOf 0 ≡ 1000000000)
     -- "180 s is short, 181 s counts"
-    ∷ (lastSaid (Join 0 ∷ lasting 0 180 ∷ []) ≡ left-out-under [])
-    ∷ (lastSaid (Join 0 ∷ lasting 0 181 ∷ []) ≡ counted-in 0)
+    ∷ (lastSaid (Join 0 ∷ lasting 0 180 ∷ []) ≡ accepted left-out-as-short)
+    ∷ (lastSaid (Join 0 ∷ lasting 0 181 ∷ []) ≡ accepted (counted-in 0))
     -- "end 31,535,999 is year 0, 31,536,000 year 1"
-    ∷ (lastSaid (Join 0 ∷ lasting 31535000 31535999 ∷ []) ≡ counted-in 0)
-    ∷ (lastSaid (Join 0 ∷ lasting 31535000 31536000 ∷ []) ≡ counted-in 1)
+    ∷ (lastSaid (Join 0 ∷ lasting 31535000 31535999 ∷ []) ≡ accepted (counted-in 0))
+    ∷ (lastSaid (Join 0 ∷ lasting 31535000 31536000 ∷ []) ≡ accepted (counted-in 1))
     -- "end 94,608,000 gives 5"
     ∷ (lastSaid (Join 0 ∷ lasting 94607000 94608000 ∷ []) ≡ refused-by 5)
     -- "a figure of exactly 10^11 is taken"
-    ∷ (lastSaid (Join 0 ∷ Amount 0 0 4 0 100000000000 ∷ []) ≡ yes-said)
+    ∷ (lastSaid (Join 0 ∷ Amount 0 0 4 0 100000000000 ∷ []) ≡ accepted yes-said)
     ∷ (figureOf (bookOf (Join 0 ∷ Amount 0 0 4 0 100000000000 ∷ [])) 0 0 4 ≡ 100000000000)
     -- "The program .. prints this for marked case M"
     ∷ (outputOf filingM ≡ linesM)
@@ -107,5 +105,5 @@ marked =
     -- "a refused settlement `refused 10`": a fresh book
     ∷ (outputOf [] ≡ bytesOf "refused 10\n")
     -- "weights 10, 8, 4 with the first two better become 18, 18, 8"
-    ∷ (take 3 (each (levelledWeight (λ (operator : ℕ). ltb operator 2) (λ (operator : ℕ). getD (10 ∷ 8 ∷ 4 ∷ []) operator 0))) ≡ 18 ∷ 18 ∷ 8 ∷ [])
+    ∷ (take 3 (each (levelled (λ (operator : ℕ). ltb operator 2) (λ (operator : ℕ). getD (10 ∷ 8 ∷ 4 ∷ []) operator 0))) ≡ 18 ∷ 18 ∷ 8 ∷ [])
     ∷ []
