@@ -177,14 +177,14 @@ fn store_figure(b: Book, place: u64, value: u64) -> Book {
 fn store_pot(b: Book, value: u64) -> Book {
     let mut next = b;
     put(b" pot");
-    next.pot = put_word(value);
+    next.pot_rate = put_word(value);
     next
 }
 
 fn store_cap(b: Book, value: u64) -> Book {
     let mut next = b;
     put(b" cap");
-    next.cap = put_word(value);
+    next.cap_rate = put_word(value);
     next
 }
 

@@ -9,8 +9,8 @@ pub(crate) fn whole(b: Book) -> Book {
     put_number(b.joined as u64);
     masks(b);
     put(b" rates");
-    put_number(b.pot as u64);
-    put_number(b.cap as u64);
+    put_number(b.pot_rate as u64);
+    put_number(b.cap_rate as u64);
     indices(b);
     operators(b);
     put(b"\n");

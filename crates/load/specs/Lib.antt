@@ -1,0 +1,2 @@
+-- The definitions of `load`.
+pub mod Loading
