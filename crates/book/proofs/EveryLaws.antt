@@ -5,7 +5,7 @@ use mathlib.Core.Path.{_≡_, refl, sym, _∙_}
 use mathlib.Core.Bool.{Bool, true, false, false≢true}
 use native.Mathlib.Omega.{arith}
 use native.Mathlib.Decide.{ℕ-discrete}
-use Rattle.book.specs.Every.{every}
+use Rattle.book.specs.Book.{every}
 use Rattle.calls.proofs.Flags.{and-true, and-left, and-right}
 
 -- true at each number below n

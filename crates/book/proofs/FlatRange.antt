@@ -10,7 +10,7 @@ use Rattle.book.specs.declared.Book.{Book}
 use Rattle.calls.specs.Limits.{settingLimit, figureLimit}
 use Rattle.calls.specs.Masks.{has}
 use Rattle.book.specs.Book.{isJoined, isMarked, settingSlot, settingOf, figureSlot, figureOf, most, hasSixteenBits, settingsInRange, figuresInRange, marksInRange}
-use Rattle.book.specs.Every.{every}
+use Rattle.book.specs.Book.{every}
 use Rattle.calls.proofs.Flags.{and-true, both}
 use Rattle.book.proofs.EveryLaws.{every-of-each, every-fails}
 

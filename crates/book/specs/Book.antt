@@ -1,27 +1,25 @@
 -- The book: a fresh one, what it holds by name, and when it is in range (01, "The book").
 -- Assumes nothing.
-use Prim.Native.Nat.{ℕ, _+_, _*_, _^_}
-use mathlib.Core.Bool.{Bool, cond, not, _&&_, _||_}
+use Prim.Native.Nat.{ℕ, zero, suc, _+_, _*_, _^_}
+use mathlib.Core.Bool.{Bool, true, cond, not, _&&_, _||_}
+use mathlib.Core.List.{List}
 use lib.Dec.{ltb, leb, eqb}
 use lib.ListN.{length, getD, replicate}
 use Rattle.book.specs.declared.Book.{Book}
 use Rattle.calls.specs.Limits.{operators, years, figureCount, settingCount, indicatorCount, indexCount, settingLimit, figureLimit, rateLimit, indexLeast, indexMost}
 use Rattle.calls.specs.Masks.{has}
-use Rattle.calls.specs.Held.{Held}
-use Rattle.book.specs.Every.{every}
+use Rattle.calls.specs.Held.{Held, held}
+
+-- a book by its parts
+abbrev pub bookWith : ℕ → List ℕ → List ℕ → List ℕ → ℕ → ℕ → List ℕ → Book
+bookWith joined marks settings figures pot cap indices =
+    record { joined = joined; marks = marks; settings = settings; figures = figures; «pot_rate» = pot; «cap_rate» = cap; indices = indices }
 
 -- "none joined, no marks, all figures and settings 0, and all four indices 10,000"
 unfoldable pub freshBook : Book
 freshBook =
-    record {
-      joined = 0;
-      marks = replicate indicatorCount 0;
-      settings = replicate (operators * settingCount) 0;
-      figures = replicate (operators * years * figureCount) 0;
-      «pot_rate» = 0;
-      «cap_rate» = 0;
-      indices = replicate indexCount 10000;
-    }
+    bookWith 0 (replicate indicatorCount 0) (replicate (operators * settingCount) 0) (replicate (operators * years * figureCount) 0)
+    0 0 (replicate indexCount 10000)
 
 -- where a setting and a figure stand
 unfoldable pub settingSlot : ℕ → ℕ → ℕ
@@ -48,16 +46,7 @@ indexOf b number = getD (b .indices) number 0
 
 -- what a book holds
 abbrev pub heldBy : Book → Held
-heldBy b =
-    record {
-      joined = isJoined b;
-      setting = settingOf b;
-      mark = isMarked b;
-      pot-rate = b .«pot_rate»;
-      cap-rate = b .«cap_rate»;
-      index = indexOf b;
-      total = figureOf b;
-    }
+heldBy b = held (isJoined b) (settingOf b) (isMarked b) (b .«pot_rate») (b .«cap_rate») (indexOf b) (figureOf b)
 
 -- each list has all its places
 unfoldable pub isComplete : Book → Bool
@@ -69,6 +58,11 @@ isComplete b =
 unfoldable pub hasSixteenBits : ℕ → Bool
 hasSixteenBits mask = ltb mask (2 ^ 16)
 
+-- a test at every number below n
+unfoldable pub every : ℕ → (ℕ → Bool) → Bool
+every zero test = true
+every (suc n) test = every n test && test n
+
 -- the most that may stand at a place of an operator: a limit, or the fresh value 0 for one not joined
 unfoldable pub most : Book → ℕ → ℕ → ℕ
 most b operator limit = cond (isJoined b operator) limit 0
@@ -79,14 +73,12 @@ settingsInRange b =
 
 unfoldable pub figuresInRange : Book → Bool
 figuresInRange b =
-    every operators
-    (λ (operator : ℕ). every years
-    (λ (year : ℕ). every figureCount (λ (figure : ℕ). leb (figureOf b operator year figure) (most b operator figureLimit))))
+    every operators (λ (operator : ℕ). every years (λ (year : ℕ). every figureCount (λ (figure : ℕ).
+    leb (figureOf b operator year figure) (most b operator figureLimit))))
 
 unfoldable pub marksInRange : Book → Bool
 marksInRange b =
-    every indicatorCount
-    (λ (indicator : ℕ). hasSixteenBits (getD (b .marks) indicator 0)
+    every indicatorCount (λ (indicator : ℕ). hasSixteenBits (getD (b .marks) indicator 0)
     && every operators (λ (operator : ℕ). not (isMarked b operator indicator) || isJoined b operator))
 
 unfoldable pub indicesInRange : Book → Bool

@@ -1,3 +1,2 @@
 -- The definitions of `book`.
-pub mod Every
 pub mod Book

@@ -29,6 +29,10 @@ pub and-false-right : (t : Bool) → t && false ≡ false
 and-false-right true = refl
 and-false-right false = refl
 
+pub or-false-right : (t : Bool) → t || false ≡ t
+or-false-right true = refl
+or-false-right false = refl
+
 pub or-right : (s t : Bool) → s || t ≡ false → t ≡ false
 or-right true t e = absurd (false≢true (sym e))
 or-right false t e = e

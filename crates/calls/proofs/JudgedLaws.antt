@@ -14,7 +14,7 @@ use Rattle.calls.specs.declared.Reason.{Reason}
 use Rattle.calls.specs.declared.Reason.the-variants.{Short, Planned, Coupled, Exceptional}
 use Rattle.calls.specs.declared.Judged.{Judged}
 use Rattle.calls.specs.Answers.{leftOutAs}
-use Rattle.calls.specs.Call.{timesInRange, weightInRange, detailsInRange, secondsOf, yearOf, interruptionEntries, entries, valuesInRange}
+use Rattle.calls.specs.Call.{timesInRange, weightInRange, detailsInRange, secondsOf, yearOf, interruptionEntries, factsOf}
 use Rattle.calls.specs.Steps.{judgedSays, JudgedAs}
 use Rattle.calls.proofs.Flags.{both, and-false-right}
 
@@ -24,8 +24,8 @@ module _ (operator sign level cause weight : ℕ) (start end : ℤ) where
 
   -- what is judged decides what is entered: nothing where the interruption is left out
   pub entries-judged : (judged : Judged) → JudgedAs cause (secondsOf start end) judged
-      → entries interruptionCall ≡ interruptionEntries operator sign level weight (secondsOf start end) (judgedSays (yearOf end) judged)
-  unfolding entries
+      → factsOf interruptionCall .entries ≡ interruptionEntries operator sign level weight (secondsOf start end) (judgedSays (yearOf end) judged)
+  unfolding factsOf
   entries-judged judged agrees = rw (← agrees (yearOf end)) refl
 
 pub left-out-none : (operator sign level weight seconds : ℕ) (reason : Reason)

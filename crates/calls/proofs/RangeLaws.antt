@@ -8,7 +8,7 @@ use borrow.Author.Tests.{ltb-true, leb-true}
 use Rattle.calls.specs.declared.Call.{Call}
 use Rattle.calls.specs.declared.Call.the-variants.{Join, Setting, Interruption, Amount, Mark, Rates, Index}
 use Rattle.calls.specs.Limits.{years, figureCount, settingCount, indicatorCount, indexCount, settingLimit, rateLimit, indexLeast, indexMost}
-use Rattle.calls.specs.Call.{detailsInRange, yearOf, valuesInRange}
+use Rattle.calls.specs.Call.{detailsInRange, yearOf, factsOf}
 use Rattle.calls.proofs.Times.{timed, year-lt}
 use Rattle.calls.proofs.JudgedLaws.{details}
 use Rattle.calls.proofs.Flags.{and-left, and-right}
@@ -22,8 +22,8 @@ Ranges (Mark operator indicator mark) = (indicator < indicatorCount) × (mark �
 Ranges (Rates pot cap) = (pot ≤ rateLimit) × (cap ≤ rateLimit)
 Ranges (Index number value) = (number < indexCount) × (indexLeast ≤ value) × (value ≤ indexMost)
 
-pub ranges : (call : Call) → valuesInRange call ≡ true → Ranges call
-unfolding valuesInRange
+pub ranges : (call : Call) → factsOf call .in-range ≡ true → Ranges call
+unfolding factsOf
 ranges (Join operator) e = tt
 ranges (Setting operator which value) e =
     (ltb-true which _ (and-left (ltb which settingCount) _ e), leb-true value _ (and-right (ltb which settingCount) _ e))

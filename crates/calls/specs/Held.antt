@@ -17,6 +17,11 @@ pub record Held : Type 0 where
   -- operator, year, figure
   pub total : ℕ → ℕ → ℕ → ℕ
 
+-- what is held, by its parts in the order above
+abbrev pub held : (ℕ → Bool) → (ℕ → ℕ → ℕ) → (ℕ → ℕ → Bool) → ℕ → ℕ → (ℕ → ℕ) → (ℕ → ℕ → ℕ → ℕ) → Held
+held joined setting mark pot cap index total =
+    record { joined = joined; setting = setting; mark = mark; pot-rate = pot; cap-rate = cap; index = index; total = total }
+
 -- "the same when operators, settings and totals are"
 pub record Same (g h : Held) : Type 0 where
   pub joined : (operator : ℕ) → operator < operators → g .joined operator ≡ h .joined operator

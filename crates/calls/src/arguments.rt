@@ -1,7 +1,7 @@
 // The ranges of the calls' arguments, other than the operator and an interruption's.
 ghost use mathlib.Core.Path.{_≡_};
 ghost use Rattle.calls.specs.Limits.{settingLimit};
-ghost use Rattle.calls.specs.Call.{valuesInRange};
+ghost use Rattle.calls.specs.Call.{factsOf};
 use crate::Call;
 
 const RATE_LIMIT: u32 = 20000;
@@ -9,7 +9,7 @@ const RATE_LIMIT: u32 = 20000;
 pub const INDEX_MOST: u32 = 100000;
 
 pub fn setting_in_range(which: u8, value: u64) -> bool
-    ensures { λ r. ⌜ r ≡ valuesInRange (Call.Setting 0 which value) ⌝ }
+    ensures { λ r. ⌜ r ≡ factsOf (Call.Setting 0 which value) .in-range ⌝ }
 {
     if 2 < which {
         return false;
@@ -30,7 +30,7 @@ pub fn setting_limit(which: u8) -> u64
 }
 
 pub fn amount_in_range(year: u8, figure: u8, sign: u8) -> bool
-    ensures { λ r. ⌜ r ≡ valuesInRange (Call.Amount 0 year figure sign 0) ⌝ }
+    ensures { λ r. ⌜ r ≡ factsOf (Call.Amount 0 year figure sign 0) .in-range ⌝ }
 {
     if 2 < year {
         return false;
@@ -42,7 +42,7 @@ pub fn amount_in_range(year: u8, figure: u8, sign: u8) -> bool
 }
 
 pub fn mark_in_range(indicator: u8, mark: u8) -> bool
-    ensures { λ r. ⌜ r ≡ valuesInRange (Call.Mark 0 indicator mark) ⌝ }
+    ensures { λ r. ⌜ r ≡ factsOf (Call.Mark 0 indicator mark) .in-range ⌝ }
 {
     if 5 < indicator {
         return false;
@@ -51,7 +51,7 @@ pub fn mark_in_range(indicator: u8, mark: u8) -> bool
 }
 
 pub fn rates_in_range(pot: u32, cap: u32) -> bool
-    ensures { λ r. ⌜ r ≡ valuesInRange (Call.Rates pot cap) ⌝ }
+    ensures { λ r. ⌜ r ≡ factsOf (Call.Rates pot cap) .in-range ⌝ }
 {
     if RATE_LIMIT < pot {
         return false;
@@ -60,7 +60,7 @@ pub fn rates_in_range(pot: u32, cap: u32) -> bool
 }
 
 pub fn index_in_range(number: u8, value: u32) -> bool
-    ensures { λ r. ⌜ r ≡ valuesInRange (Call.Index number value) ⌝ }
+    ensures { λ r. ⌜ r ≡ factsOf (Call.Index number value) .in-range ⌝ }
 {
     if 3 < number {
         return false;

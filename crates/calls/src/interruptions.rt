@@ -1,7 +1,7 @@
 // An interruption: the ranges of its values, its year and length, and what is left out and why.
 ghost use mathlib.Core.Path.{_≡_};
 ghost use mathlib.Core.Bool.{true};
-ghost use Rattle.calls.specs.Call.{weightInRange, detailsInRange, timesInRange, valuesInRange, yearOf, secondsOf};
+ghost use Rattle.calls.specs.Call.{weightInRange, detailsInRange, timesInRange, factsOf, yearOf, secondsOf};
 ghost use Rattle.calls.specs.Steps.{JudgedAs};
 use crate::Call;
 use crate::Judged;
@@ -28,7 +28,7 @@ pub fn interruption_in_range(
     end: i64,
     weight: u32,
 ) -> bool
-    ensures { λ r. ⌜ r ≡ valuesInRange (Call.Interruption 0 sign level cause start end weight) ⌝ }
+    ensures { λ r. ⌜ r ≡ factsOf (Call.Interruption 0 sign level cause start end weight) .in-range ⌝ }
 {
     if !details_in_range(sign, level, cause, weight) {
         return false;

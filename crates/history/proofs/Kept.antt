@@ -13,7 +13,7 @@ use Rattle.calls.specs.declared.Call.{Call}
 use Rattle.calls.specs.Held.{Held, Same}
 use Rattle.calls.specs.Masks.{has}
 use Rattle.calls.specs.Answers.{Said, onAnswer, Acceptance}
-use Rattle.book.specs.Every.{every}
+use Rattle.book.specs.Book.{every}
 use Rattle.book.specs.Book.{freshBook, isJoined, isMarked, settingOf, figureOf, indexOf, heldBy, settingSlot, figureSlot, most, isComplete, hasSixteenBits, settingsInRange, figuresInRange, marksInRange, indicesInRange, ratesInRange, inRange}
 use Rattle.ledger.specs.Calls.{changed, outcomeOf, apply, file, filedBook, filedAnswers}
 use Rattle.history.specs.History.{History, history, plain, total, heldIn, recorded, noteAnswer, noteHistory, notedHistory, notedAnswers}

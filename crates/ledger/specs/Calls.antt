@@ -10,34 +10,13 @@ use Rattle.calls.specs.declared.Call.{Call}
 use Rattle.calls.specs.declared.Call.the-variants.{Join, Setting, Interruption, Amount, Mark, Rates, Index}
 use Rattle.calls.specs.Answers.{Said, refused-by, onAnswer, Acceptance}
 use Rattle.calls.specs.Masks.{including, remasked}
-use Rattle.calls.specs.Call.{Entry, entries}
-use Rattle.book.specs.Book.{settingSlot, figureSlot, isJoined, figureOf, inRange}
+use Rattle.calls.specs.Call.{Entry, factsOf}
+use Rattle.book.specs.Book.{bookWith, settingSlot, figureSlot, isJoined, figureOf, inRange}
 use Rattle.ledger.specs.Table.{answerTo}
 
--- one value of a book replaced
-unfoldable pub withJoined : Book → ℕ → Book
-withJoined b joined =
-    record { joined = joined; marks = b .marks; settings = b .settings; figures = b .figures; «pot_rate» = b .«pot_rate»; «cap_rate» = b .«cap_rate»; indices = b .indices }
-
-unfoldable pub withMarks : Book → List ℕ → Book
-withMarks b marks =
-    record { joined = b .joined; marks = marks; settings = b .settings; figures = b .figures; «pot_rate» = b .«pot_rate»; «cap_rate» = b .«cap_rate»; indices = b .indices }
-
-unfoldable pub withSettings : Book → List ℕ → Book
-withSettings b settings =
-    record { joined = b .joined; marks = b .marks; settings = settings; figures = b .figures; «pot_rate» = b .«pot_rate»; «cap_rate» = b .«cap_rate»; indices = b .indices }
-
-unfoldable pub withFigures : Book → List ℕ → Book
-withFigures b figures =
-    record { joined = b .joined; marks = b .marks; settings = b .settings; figures = figures; «pot_rate» = b .«pot_rate»; «cap_rate» = b .«cap_rate»; indices = b .indices }
-
-unfoldable pub withRates : Book → ℕ → ℕ → Book
-withRates b pot cap =
-    record { joined = b .joined; marks = b .marks; settings = b .settings; figures = b .figures; «pot_rate» = pot; «cap_rate» = cap; indices = b .indices }
-
-unfoldable pub withIndices : Book → List ℕ → Book
-withIndices b indices =
-    record { joined = b .joined; marks = b .marks; settings = b .settings; figures = b .figures; «pot_rate» = b .«pot_rate»; «cap_rate» = b .«cap_rate»; indices = indices }
+-- a book with other figures
+abbrev pub withFigures : Book → List ℕ → Book
+withFigures b figures = bookWith (b .joined) (b .marks) (b .settings) figures (b .«pot_rate») (b .«cap_rate») (b .indices)
 
 -- an entry "added or subtracted"
 unfoldable pub entered : Book → Entry → Book
@@ -52,13 +31,19 @@ enterAll b (entry ∷ rest) = enterAll (entered b entry) rest
 
 -- the book after a call that nothing refuses
 unfoldable pub changed : Book → Call → Book
-changed b (Join operator) = withJoined b (including (b .joined) operator)
-changed b (Setting operator which value) = withSettings b (set (b .settings) (settingSlot operator which) value)
-changed b (Interruption operator sign level cause start end weight) = enterAll b (entries (Interruption operator sign level cause start end weight))
-changed b (Amount operator year figure sign value) = enterAll b (entries (Amount operator year figure sign value))
-changed b (Mark operator indicator mark) = withMarks b (set (b .marks) indicator (remasked (getD (b .marks) indicator 0) operator mark))
-changed b (Rates pot cap) = withRates b pot cap
-changed b (Index number value) = withIndices b (set (b .indices) number value)
+changed b (Join operator) =
+    bookWith (including (b .joined) operator) (b .marks) (b .settings) (b .figures) (b .«pot_rate») (b .«cap_rate») (b .indices)
+changed b (Setting operator which value) =
+    bookWith (b .joined) (b .marks) (set (b .settings) (settingSlot operator which) value) (b .figures) (b .«pot_rate») (b .«cap_rate») (b .indices)
+changed b (Interruption operator sign level cause start end weight) =
+    enterAll b (factsOf (Interruption operator sign level cause start end weight) .entries)
+changed b (Amount operator year figure sign value) = enterAll b (factsOf (Amount operator year figure sign value) .entries)
+changed b (Mark operator indicator mark) =
+    let marks : List ℕ = set (b .marks) indicator (remasked (getD (b .marks) indicator 0) operator mark) in
+    bookWith (b .joined) marks (b .settings) (b .figures) (b .«pot_rate») (b .«cap_rate») (b .indices)
+changed b (Rates pot cap) = bookWith (b .joined) (b .marks) (b .settings) (b .figures) pot cap (b .indices)
+changed b (Index number value) =
+    bookWith (b .joined) (b .marks) (b .settings) (b .figures) (b .«pot_rate») (b .«cap_rate») (set (b .indices) number value)
 
 -- what a call gives: the book afterwards, and what it answers
 pub record Outcome : Type 0 where

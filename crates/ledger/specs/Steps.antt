@@ -3,7 +3,7 @@
 use Prim.Native.Nat.{ℕ}
 use mathlib.Core.Bool.{Bool, not}
 use mathlib.Core.List.{List, [], _∷_}
-use lib.Dec.{ltb}
+use lib.Dec.{leb}
 use Rattle.book.specs.declared.Book.{Book}
 use mathlib.Core.Path.{_≡_}
 use Rattle.ledger.specs.declared.Filed.{Filed}
@@ -23,7 +23,7 @@ Gives r outcome = (said (r .answer) ≡ outcome .said) × (r .book ≡ outcome .
 
 -- 4, 5 and 7 of a call that names a member
 unfoldable pub memberLines : ℕ → ℕ → Bool → List (ℕ × Bool)
-memberLines joined operator valid = (4, not (ltb operator operators)) ∷ (5, not valid) ∷ (7, not (has joined operator)) ∷ []
+memberLines joined operator valid = (4, leb operators operator) ∷ (5, not valid) ∷ (7, not (has joined operator)) ∷ []
 
 abbrev pub admissionSaid : Admission → Said (Unit {0})
 admissionSaid Admitted = accepted tt

@@ -1,36 +1,18 @@
 -- The table of answers, numbers 4 to 9, looked up with what is held: who has joined, and the figures' totals (01, "Answers other than yes").
 -- Assumes nothing.
 use Prim.Native.Nat.{ℕ, _+_}
-use mathlib.Core.Bool.{Bool, true, false, not, _&&_, _||_}
-use mathlib.Core.List.{List, [], _∷_}
-use lib.Dec.{ltb, eqb}
+use mathlib.Core.Bool.{Bool, false, not, _&&_, _||_}
+use mathlib.Core.List.{List, [], _∷_, _++_}
+use lib.Dec.{leb, ltb, eqb}
 use Rattle.calls.specs.declared.Call.{Call}
 use Rattle.calls.specs.Limits.{operators, figureLimit}
 use Rattle.calls.specs.Answers.{Said, firstOf, Acceptance}
-use Rattle.calls.specs.Call.{Named, newcomer, member, nobody, named, Entry, entries, valuesInRange, acceptanceOf}
+use Rattle.calls.specs.Call.{Entry, Facts, factsOf}
 
--- 4: "operator above 15"
-unfoldable pub isUnknown : Named → Bool
-isUnknown (newcomer operator) = not (ltb operator operators)
-isUnknown (member operator) = not (ltb operator operators)
-isUnknown nobody = false
-
--- 6: "join of one already joined"
-unfoldable pub joinsAgain : (ℕ → Bool) → Named → Bool
-joinsAgain joined (newcomer operator) = joined operator
-joinsAgain joined (member operator) = false
-joinsAgain joined nobody = false
-
--- 7: "operator not joined (tags 2 to 5)"
-unfoldable pub lacksOperator : (ℕ → Bool) → Named → Bool
-lacksOperator joined (newcomer operator) = false
-lacksOperator joined (member operator) = not (joined operator)
-lacksOperator joined nobody = false
-
--- whether a test holds of some entry
-unfoldable pub some : (Entry → Bool) → List Entry → Bool
+-- whether a test holds of some element
+unfoldable pub some : {A : Type 0} → (A → Bool) → List A → Bool
 some test [] = false
-some test (entry ∷ rest) = test entry || some test rest
+some test (x ∷ rest) = test x || some test rest
 
 module _ (total : ℕ → ℕ → ℕ → ℕ) (entry : Entry) where
   abbrev pub totalAt : ℕ
@@ -47,14 +29,18 @@ module _ (total : ℕ → ℕ → ℕ → ℕ) (entry : Entry) where
 -- the lines of the table, each with whether it applies to a call
 unfoldable pub linesFor : (ℕ → Bool) → (ℕ → ℕ → ℕ → ℕ) → Call → List (ℕ × Bool)
 linesFor joined total call =
-    (4, isUnknown (named call))
-    ∷ (5, not (valuesInRange call))
-    ∷ (6, joinsAgain joined (named call))
-    ∷ (7, lacksOperator joined (named call))
-    ∷ (8, some (passesLimit total) (entries call))
-    ∷ (9, some (fallsBelow total) (entries call))
+    -- "operator above 15"
+    (4, some (leb operators) (factsOf call .newcomers ++ factsOf call .members))
+    -- "any other value outside its range"
+    ∷ (5, not (factsOf call .in-range))
+    -- "join of one already joined"
+    ∷ (6, some joined (factsOf call .newcomers))
+    -- "operator not joined (tags 2 to 5)"
+    ∷ (7, some (λ (operator : ℕ). not (joined operator)) (factsOf call .members))
+    ∷ (8, some (passesLimit total) (factsOf call .entries))
+    ∷ (9, some (fallsBelow total) (factsOf call .entries))
     ∷ []
 
 -- "The lowest number that applies is given": the lines stand in the order of their numbers
 unfoldable pub answerTo : (ℕ → Bool) → (ℕ → ℕ → ℕ → ℕ) → Call → Said Acceptance
-answerTo joined total call = firstOf (linesFor joined total call) (acceptanceOf call)
+answerTo joined total call = firstOf (linesFor joined total call) (factsOf call .answer)

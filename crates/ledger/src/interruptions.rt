@@ -3,7 +3,7 @@ ghost use mathlib.Core.Path.{_≡_};
 ghost use Prim.Native.Nat.{_≤_, _<_};
 ghost use mathlib.Core.Bool.{true};
 ghost use Rattle.calls.specs.Answers.{counted-in};
-ghost use Rattle.calls.specs.Call.{valuesInRange, interruptionEntries, entries, acceptanceOf};
+ghost use Rattle.calls.specs.Call.{interruptionEntries, factsOf};
 ghost use Rattle.ledger.specs.Calls.{apply as Calls·apply};
 ghost use Rattle.ledger.specs.Steps.{Gives, entering};
 use crate::Admission;
@@ -55,8 +55,8 @@ fn enter(
     end: i64,
     weight: u32,
 ) -> Filed
-    requires { ⌜ (operator < 16) × (valuesInRange (Call.Interruption operator sign level cause start end weight) ≡ true) ⌝ }
-    ensures { λ r. ⌜ Gives r (entering b (entries (Call.Interruption operator sign level cause start end weight)) (acceptanceOf (Call.Interruption operator sign level cause start end weight))) ⌝ }
+    requires { ⌜ (operator < 16) × (factsOf (Call.Interruption operator sign level cause start end weight) .in-range ≡ true) ⌝ }
+    ensures { λ r. ⌜ Gives r (entering b (factsOf (Call.Interruption operator sign level cause start end weight) .entries) (factsOf (Call.Interruption operator sign level cause start end weight) .answer)) ⌝ }
 {
     let seconds = seconds_of(start, end);
     match judge(cause, seconds) {

@@ -1,7 +1,7 @@
 -- `book::range::rates_in_range` meets its contract: the rates of a book have the range of those that are filed.
 -- Assumes nothing.
 use borrow.Author.Needs.{needs}
-use Rattle.calls.specs.Call.{valuesInRange}
+use Rattle.calls.specs.Call.{factsOf}
 use Rattle.book.specs.Book.{ratesInRange}
 use Rattle.book.proofs.range.rates_in_range.Statement.{statement}
 use Rattle.book.proofs.range.rates_in_range.Tie as tie
@@ -10,7 +10,7 @@ rates-in-range-requires : tie.Need-rates-in-range-requires
 rates-in-range-requires c κs = search needs
 
 returns : tie.Need-returns
-unfolding ratesInRange valuesInRange
+unfolding ratesInRange factsOf
 returns c = c .rates-in-range .ensures
 
 pub rates-in-range-spec : {M : Type 1} → statement M

@@ -2,20 +2,20 @@
 -- Assumes nothing.
 use native.Mathlib.Omega.{arith}
 use borrow.Author.Tests.{lt-ltb, le-ltb}
-use Rattle.calls.specs.Call.{valuesInRange}
+use Rattle.calls.specs.Call.{factsOf}
 use Rattle.calls.proofs.arguments.amount_in_range.Statement.{statement}
 use Rattle.calls.proofs.arguments.amount_in_range.Tie as tie
 
 returns : tie.Need-returns
-unfolding valuesInRange
+unfolding factsOf
 returns c = simp (le-ltb (c .before .args .year) 3 (c .if1 .taken))
 
 returns-2 : tie.Need-returns-2
-unfolding valuesInRange
+unfolding factsOf
 returns-2 c = simp (lt-ltb (c .before .before .args .year) 3 (omega arith), le-ltb (c .before .before .args .figure) 8 (c .if2 .taken))
 
 returns-3 : tie.Need-returns-3
-unfolding valuesInRange
+unfolding factsOf
 returns-3 c = simp (lt-ltb (c .before .before .args .year) 3 (omega arith), lt-ltb (c .before .before .args .figure) 8 (omega arith))
 
 pub amount-in-range-spec : {M : Type 1} → statement M

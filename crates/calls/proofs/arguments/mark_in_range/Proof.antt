@@ -2,16 +2,16 @@
 -- Assumes nothing.
 use native.Mathlib.Omega.{arith}
 use borrow.Author.Tests.{lt-ltb, le-ltb}
-use Rattle.calls.specs.Call.{valuesInRange}
+use Rattle.calls.specs.Call.{factsOf}
 use Rattle.calls.proofs.arguments.mark_in_range.Statement.{statement}
 use Rattle.calls.proofs.arguments.mark_in_range.Tie as tie
 
 returns : tie.Need-returns
-unfolding valuesInRange
+unfolding factsOf
 returns c = simp (le-ltb (c .before .args .indicator) 6 (c .if1 .taken))
 
 returns-2 : tie.Need-returns-2
-unfolding valuesInRange
+unfolding factsOf
 returns-2 c = simp (lt-ltb (c .before .args .indicator) 6 (omega arith))
 
 pub mark-in-range-spec : {M : Type 1} → statement M

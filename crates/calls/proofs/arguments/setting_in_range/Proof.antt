@@ -2,20 +2,20 @@
 -- Assumes nothing.
 use native.Mathlib.Omega.{arith}
 use borrow.Author.Tests.{lt-ltb, le-ltb}
-use Rattle.calls.specs.Call.{valuesInRange}
+use Rattle.calls.specs.Call.{factsOf}
 use borrow.Author.Needs.{needs}
 use Rattle.calls.proofs.arguments.setting_in_range.Statement.{statement}
 use Rattle.calls.proofs.arguments.setting_in_range.Tie as tie
 
 returns : tie.Need-returns
-unfolding valuesInRange
+unfolding factsOf
 returns c = simp (le-ltb (c .before .args .which) 3 (c .if1 .taken))
 
 setting-limit-requires : tie.Need-setting-limit-requires
 setting-limit-requires c κs = search needs
 
 returns-2 : tie.Need-returns-2
-unfolding valuesInRange
+unfolding factsOf
 returns-2 c = simp (lt-ltb (c .before .before .args .which) 3 (omega arith), c .setting-limit .ensures)
 
 pub setting-in-range-spec : {M : Type 1} → statement M

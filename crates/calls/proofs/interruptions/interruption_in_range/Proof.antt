@@ -1,7 +1,7 @@
 -- `calls::interruptions::interruption_in_range` meets its contract.
 -- Assumes nothing.
 use mathlib.Core.Path.{refl}
-use Rattle.calls.specs.Call.{valuesInRange}
+use Rattle.calls.specs.Call.{factsOf}
 use Rattle.calls.proofs.Flags.{denied, granted}
 use Rattle.calls.proofs.Times.{back}
 use borrow.Author.Needs.{needs}
@@ -12,14 +12,14 @@ details-in-range-requires : tie.Need-details-in-range-requires
 details-in-range-requires c κs = search needs
 
 returns : tie.Need-returns
-unfolding valuesInRange
+unfolding factsOf
 returns c = rw (denied (c .before .details-in-range .ensures) (c .if1 .taken)) refl
 
 times-in-range-requires : tie.Need-times-in-range-requires
 times-in-range-requires c κs = search needs
 
 returns-2 : tie.Need-returns-2
-unfolding valuesInRange
+unfolding factsOf
 returns-2 c =
     let begun = c .before .before .before in
     rw (granted (c .before .before .details-in-range .ensures) (c .before .if1 .left))

@@ -2,7 +2,7 @@
 -- Assumes nothing.
 use mathlib.Core.Path.{refl}
 use native.Mathlib.Omega.{arith}
-use borrow.Author.Tests.{lt-ltb, le-ltb, not-true, not-false}
+use borrow.Author.Tests.{lt-leb, le-leb, not-true, not-false}
 use Rattle.calls.specs.Answers.{firstOf}
 use Rattle.calls.proofs.Flags.{denied, granted}
 use Rattle.ledger.specs.Steps.{memberLines}
@@ -13,12 +13,12 @@ use Rattle.ledger.proofs.dispatch.admit.Tie as tie
 -- 4
 returns : tie.Need-returns
 unfolding memberLines firstOf
-returns c = rw (le-ltb (c .before .args .operator) 16 (c .if1 .taken)) refl
+returns c = rw (le-leb 16 (c .before .args .operator) (c .if1 .taken)) refl
 
 -- 5
 returns-2 : tie.Need-returns-2
 unfolding memberLines firstOf
-returns-2 c = rw (lt-ltb (c .before .before .args .operator) 16 (omega arith), not-true (c .before .before .args .valid) (c .if2 .taken)) refl
+returns-2 c = rw (lt-leb 16 (c .before .before .args .operator) (omega arith), not-true (c .before .before .args .valid) (c .if2 .taken)) refl
 
 has-bit-requires : tie.Need-has-bit-requires
 has-bit-requires c κs = search needs
@@ -28,7 +28,7 @@ returns-3 : tie.Need-returns-3
 unfolding memberLines firstOf
 returns-3 c =
     rw (
-      lt-ltb (c .before .before .before .before .args .operator) 16 (omega arith),
+      lt-leb 16 (c .before .before .before .before .args .operator) (omega arith),
       not-false (c .before .before .before .before .args .valid) (c .before .before .if2 .left),
       denied (c .before .has-bit .ensures) (c .if3 .taken),
     )
@@ -39,7 +39,7 @@ returns-4 : tie.Need-returns-4
 unfolding memberLines firstOf
 returns-4 c =
     rw (
-      lt-ltb (c .before .before .before .before .args .operator) 16 (omega arith),
+      lt-leb 16 (c .before .before .before .before .args .operator) (omega arith),
       not-false (c .before .before .before .before .args .valid) (c .before .before .if2 .left),
       granted (c .before .has-bit .ensures) (c .if3 .left),
     )

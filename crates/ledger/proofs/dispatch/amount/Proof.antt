@@ -3,7 +3,7 @@
 use mathlib.Core.Path.{refl, sym, ap, _∙_}
 use native.Mathlib.Omega.{arith}
 use Rattle.calls.specs.declared.Call.the-variants.{Amount}
-use Rattle.calls.specs.Call.{named, entries, valuesInRange, acceptanceOf}
+use Rattle.calls.specs.Call.{factsOf}
 use Rattle.ledger.specs.Steps.{admissionSaid}
 use Rattle.calls.proofs.RangeLaws.{ranges}
 use Rattle.ledger.proofs.AdmissionLaws.{member-decided}
@@ -22,10 +22,10 @@ enum-told : tie.Need-enum-told
 enum-told c = search needs
 
 enter-amount-requires : tie.Need-enter-amount-requires
-unfolding named valuesInRange
+unfolding factsOf
 enter-amount-requires c κs =
     let start = c .before .before .before .before in
-    let passed = member-decided (start .args .b) (Amount (start .args .operator) (start .args .year) (start .args .figure) (start .args .sign) (start .args .value)) (start .args .operator) _ refl (sym (c .before .before .before .amount-in-range .ensures)) _ (sym (c .before .before .admit .ensures) ∙ ap admissionSaid (c .enum-told .given .1)) in
+    let passed = member-decided (start .args .b) (Amount (start .args .operator) (start .args .year) (start .args .figure) (start .args .sign) (start .args .value)) (start .args .operator) _ refl refl (sym (c .before .before .before .amount-in-range .ensures)) _ (sym (c .before .before .admit .ensures) ∙ ap admissionSaid (c .enum-told .given .1)) in
     let in-range = ranges (Amount (start .args .operator) (start .args .year) (start .args .figure) (start .args .sign) (start .args .value)) (sym (c .before .before .before .amount-in-range .ensures) ∙ passed .in-range) in
     (passed .small, in-range .0, in-range .1, in-range .2)
 
@@ -36,18 +36,18 @@ refused-requires : tie.Need-refused-requires
 refused-requires c κs = search needs
 
 returns : tie.Need-returns
-unfolding named valuesInRange entries acceptanceOf changed
+unfolding factsOf changed
 returns c =
     let start = c .before .before .before .before .before in
-    let passed = member-decided (start .args .b) (Amount (start .args .operator) (start .args .year) (start .args .figure) (start .args .sign) (start .args .value)) (start .args .operator) _ refl (sym (c .before .before .before .before .amount-in-range .ensures)) _ (sym (c .before .before .before .admit .ensures) ∙ ap admissionSaid (c .before .enum-told .given .1)) in
+    let passed = member-decided (start .args .b) (Amount (start .args .operator) (start .args .year) (start .args .figure) (start .args .sign) (start .args .value)) (start .args .operator) _ refl refl (sym (c .before .before .before .before .amount-in-range .ensures)) _ (sym (c .before .before .before .admit .ensures) ∙ ap admissionSaid (c .before .enum-told .given .1)) in
     rw (passed .entered refl) (c .enter-amount .ensures)
 
 -- 4, 5 or 7
 returns-2 : tie.Need-returns-2
-unfolding named valuesInRange
+unfolding factsOf
 returns-2 c =
     let start = c .before .before .before .before .before .before in
-    rw (member-decided (start .args .b) (Amount (start .args .operator) (start .args .year) (start .args .figure) (start .args .sign) (start .args .value)) (start .args .operator) _ refl (sym (c .before .before .before .before .before .amount-in-range .ensures)) _ (sym (c .before .before .before .before .admit .ensures) ∙ ap admissionSaid (c .before .before .refusal .given .1)))
+    rw (member-decided (start .args .b) (Amount (start .args .operator) (start .args .year) (start .args .figure) (start .args .sign) (start .args .value)) (start .args .operator) _ refl refl (sym (c .before .before .before .before .before .amount-in-range .ensures)) _ (sym (c .before .before .before .before .admit .ensures) ∙ ap admissionSaid (c .before .before .refusal .given .1)))
     (c .refused .ensures)
 
 pub amount-spec : {M : Type 1} → statement M

@@ -5,7 +5,6 @@ use native.Mathlib.Omega.{arith}
 use Rattle.book.specs.Book.{figureSlot, figureOf}
 use Rattle.calls.specs.Answers.{yes-said}
 use Rattle.calls.specs.Call.{entry}
-use Rattle.ledger.specs.Calls.{withFigures}
 use Rattle.ledger.proofs.MoveLaws.{moved-as, one-moved, one-above, one-below}
 use borrow.Author.Needs.{needs}
 use Rattle.ledger.proofs.dispatch.enter_amount.Statement.{statement}
@@ -54,7 +53,7 @@ refused-requires-2 : tie.Need-refused-requires-2
 refused-requires-2 c κs = search needs
 
 returns : tie.Need-returns
-unfolding figureOf figureSlot withFigures
+unfolding figureOf figureSlot
 returns c =
     let start = c .before .before .before .before .before in
     rw (one-moved (start .args .b) (entry (start .args .operator) (start .args .year) (start .args .figure) (start .args .sign) (start .args .value)) yes-said _ (moved-as (start .args .sign) (start .args .value) _ (start .pre .3) _ (sym (c .before .before .before .move-figure .ensures) ∙ c .before .moved .given .1)))

@@ -2,9 +2,9 @@
 -- Assumes nothing.
 use mathlib.Core.Path.{refl}
 use Rattle.calls.specs.declared.Call.the-variants.{Index}
-use Rattle.calls.specs.Call.{named, entries, acceptanceOf}
-use Rattle.ledger.specs.Table.{isUnknown, joinsAgain, lacksOperator}
-use Rattle.ledger.specs.Calls.{changed, withIndices}
+use Rattle.calls.specs.Call.{factsOf}
+use Rattle.ledger.specs.Table.{some}
+use Rattle.ledger.specs.Calls.{changed}
 use Rattle.calls.proofs.Flags.{denied, granted}
 use Rattle.calls.proofs.RangeLaws.{ranges}
 use Rattle.ledger.proofs.AdmissionLaws.{out-of-range, done}
@@ -20,7 +20,7 @@ refused-requires c κs = search needs
 
 -- 5
 returns : tie.Need-returns
-unfolding named isUnknown
+unfolding factsOf some
 returns c =
     let start = c .before .before .before in
     rw (out-of-range (start .args .b) (Index (start .args .number) (start .args .value)) refl (denied (c .before .before .index-in-range .ensures) (c .before .if1 .taken)))
@@ -36,7 +36,7 @@ element-write-next c =
 
 -- one index
 returns-2 : tie.Need-returns-2
-unfolding named isUnknown joinsAgain lacksOperator entries acceptanceOf changed withIndices
+unfolding factsOf some changed
 returns-2 c =
     let start = c .before .before in
     rw (done (start .args .b) (Index (start .args .number) (start .args .value)) refl (granted (c .before .index-in-range .ensures) (c .if1 .left)) refl refl refl)

@@ -3,13 +3,13 @@
 use mathlib.Core.Path.{_≡_, refl, sym, _∙_}
 use mathlib.Core.Bool.{false}
 use native.Mathlib.Omega.{arith}
-use borrow.Author.Tests.{lt-ltb, le-ltb}
+use borrow.Author.Tests.{lt-leb, le-leb}
 use Rattle.calls.specs.declared.Call.the-variants.{Join}
 use Rattle.calls.specs.Masks.{has}
 use Rattle.book.specs.Book.{isJoined}
-use Rattle.calls.specs.Call.{named, entries, valuesInRange, acceptanceOf}
-use Rattle.ledger.specs.Table.{isUnknown, joinsAgain, lacksOperator}
-use Rattle.ledger.specs.Calls.{changed, withJoined}
+use Rattle.calls.specs.Call.{factsOf}
+use Rattle.ledger.specs.Table.{some}
+use Rattle.ledger.specs.Calls.{changed}
 use Rattle.ledger.proofs.AdmissionLaws.{unknown-operator, already-joined, done}
 use borrow.Author.Needs.{needs}
 use Rattle.ledger.proofs.dispatch.join.Statement.{statement}
@@ -20,8 +20,8 @@ refused-requires c κs = search needs
 
 -- 4
 returns : tie.Need-returns
-unfolding named isUnknown
-returns c = rw (unknown-operator (c .before .before .args .b) (Join (c .before .before .args .operator)) (rw (le-ltb _ 16 (c .before .if1 .taken)) refl)) (c .refused .ensures)
+unfolding factsOf some
+returns c = rw (unknown-operator (c .before .before .args .b) (Join (c .before .before .args .operator)) (rw (le-leb 16 (c .before .before .args .operator) (c .before .if1 .taken)) refl)) (c .refused .ensures)
 
 has-bit-requires : tie.Need-has-bit-requires
 has-bit-requires c κs = search needs
@@ -31,10 +31,10 @@ refused-requires-2 c κs = search needs
 
 -- 6
 returns-2 : tie.Need-returns-2
-unfolding named isUnknown valuesInRange joinsAgain isJoined
+unfolding factsOf some isJoined
 returns-2 c =
     let start = c .before .before .before .before in
-    rw (already-joined (start .args .b) (Join (start .args .operator)) (rw (lt-ltb (start .args .operator) 16 (omega arith)) refl) refl (sym (c .before .before .has-bit .ensures) ∙ c .before .if2 .taken))
+    rw (already-joined (start .args .b) (Join (start .args .operator)) (rw (lt-leb 16 (start .args .operator) (omega arith)) refl) refl (rw (sym (c .before .before .has-bit .ensures) ∙ c .before .if2 .taken) refl))
     (c .refused2 .ensures)
 
 include-bit-requires : tie.Need-include-bit-requires
@@ -42,11 +42,11 @@ include-bit-requires c κs = search needs
 
 -- joined
 returns-3 : tie.Need-returns-3
-unfolding named isUnknown valuesInRange joinsAgain lacksOperator isJoined entries acceptanceOf changed withJoined
+unfolding factsOf some isJoined changed
 returns-3 c =
     let start = c .before .before .before .before in
     let free : has (start .args .b .joined) (start .args .operator) ≡ false = sym (c .before .before .has-bit .ensures) ∙ c .before .if2 .left in
-    rw (done (start .args .b) (Join (start .args .operator)) (rw (lt-ltb (start .args .operator) 16 (omega arith)) refl) refl free refl refl, ← c .include-bit .ensures)
+    rw (done (start .args .b) (Join (start .args .operator)) (rw (lt-leb 16 (start .args .operator) (omega arith)) refl) refl (rw free refl) refl refl, ← c .include-bit .ensures)
     (refl, refl)
 
 pub join-spec : {M : Type 1} → statement M

@@ -3,11 +3,11 @@
 use mathlib.Core.Path.{refl, sym, ap, _∙_}
 use native.Mathlib.Omega.{arith}
 use Rattle.calls.specs.declared.Call.the-variants.{Mark}
-use Rattle.calls.specs.Call.{named, entries, valuesInRange, acceptanceOf}
+use Rattle.calls.specs.Call.{factsOf}
 use Rattle.ledger.specs.Steps.{admissionSaid}
 use Rattle.calls.proofs.RangeLaws.{ranges}
 use Rattle.ledger.proofs.AdmissionLaws.{member-decided}
-use Rattle.ledger.specs.Calls.{changed, withMarks}
+use Rattle.ledger.specs.Calls.{changed}
 use borrow.Author.Needs.{needs}
 use Rattle.ledger.proofs.dispatch.mark_indicator.Statement.{statement}
 use Rattle.ledger.proofs.dispatch.mark_indicator.Tie as tie
@@ -25,26 +25,26 @@ mul-remask : tie.Need-mul-remask
 mul-remask c = search needs
 
 array-read-remask : tie.Need-array-read-remask
-unfolding named valuesInRange
+unfolding factsOf
 array-read-remask c =
     let start = c .before .before .before .before .before in
-    let passed = member-decided (start .args .b) (Mark (start .args .operator) (start .args .indicator) (start .args .mark)) (start .args .operator) _ refl (sym (c .before .before .before .before .mark-in-range .ensures)) _ (sym (c .before .before .before .admit .ensures) ∙ ap admissionSaid (c .before .enum-told .given .1)) in
+    let passed = member-decided (start .args .b) (Mark (start .args .operator) (start .args .indicator) (start .args .mark)) (start .args .operator) _ refl refl (sym (c .before .before .before .before .mark-in-range .ensures)) _ (sym (c .before .before .before .admit .ensures) ∙ ap admissionSaid (c .before .enum-told .given .1)) in
     ranges (Mark (start .args .operator) (start .args .indicator) (start .args .mark)) (sym (c .before .before .before .before .mark-in-range .ensures) ∙ passed .in-range) .0
 
 remask-requires : tie.Need-remask-requires
-unfolding named valuesInRange
+unfolding factsOf
 remask-requires c κs =
     let start = c .before .before .before .before .before in
-    member-decided (start .args .b) (Mark (start .args .operator) (start .args .indicator) (start .args .mark)) (start .args .operator) _ refl (sym (c .before .before .before .before .mark-in-range .ensures)) _ (sym (c .before .before .before .admit .ensures) ∙ ap admissionSaid (c .before .enum-told .given .1)) .small
+    member-decided (start .args .b) (Mark (start .args .operator) (start .args .indicator) (start .args .mark)) (start .args .operator) _ refl refl (sym (c .before .before .before .before .mark-in-range .ensures)) _ (sym (c .before .before .before .admit .ensures) ∙ ap admissionSaid (c .before .enum-told .given .1)) .small
 
 mul-next : tie.Need-mul-next
 mul-next c = search needs
 
 element-write-next : tie.Need-element-write-next
-unfolding named valuesInRange
+unfolding factsOf
 element-write-next c =
     let start = c .before .before .before .before .before .before in
-    let passed = member-decided (start .args .b) (Mark (start .args .operator) (start .args .indicator) (start .args .mark)) (start .args .operator) _ refl (sym (c .before .before .before .before .before .mark-in-range .ensures)) _ (sym (c .before .before .before .before .admit .ensures) ∙ ap admissionSaid (c .before .before .enum-told .given .1)) in
+    let passed = member-decided (start .args .b) (Mark (start .args .operator) (start .args .indicator) (start .args .mark)) (start .args .operator) _ refl refl (sym (c .before .before .before .before .before .mark-in-range .ensures)) _ (sym (c .before .before .before .before .admit .ensures) ∙ ap admissionSaid (c .before .before .enum-told .given .1)) in
     ranges (Mark (start .args .operator) (start .args .indicator) (start .args .mark)) (sym (c .before .before .before .before .before .mark-in-range .ensures) ∙ passed .in-range) .0
 
 enum-known-refusal : tie.Need-enum-known-refusal
@@ -54,18 +54,18 @@ refused-requires : tie.Need-refused-requires
 refused-requires c κs = search needs
 
 returns : tie.Need-returns
-unfolding named valuesInRange entries acceptanceOf changed withMarks
+unfolding factsOf changed
 returns c =
     let start = c .before .before .before .before .before .before in
-    let passed = member-decided (start .args .b) (Mark (start .args .operator) (start .args .indicator) (start .args .mark)) (start .args .operator) _ refl (sym (c .before .before .before .before .before .mark-in-range .ensures)) _ (sym (c .before .before .before .before .admit .ensures) ∙ ap admissionSaid (c .before .before .enum-told .given .1)) in
+    let passed = member-decided (start .args .b) (Mark (start .args .operator) (start .args .indicator) (start .args .mark)) (start .args .operator) _ refl refl (sym (c .before .before .before .before .before .mark-in-range .ensures)) _ (sym (c .before .before .before .before .admit .ensures) ∙ ap admissionSaid (c .before .before .enum-told .given .1)) in
     rw (passed .done refl, ← c .remask .ensures) (refl, refl)
 
 -- 4, 5 or 7
 returns-2 : tie.Need-returns-2
-unfolding named valuesInRange
+unfolding factsOf
 returns-2 c =
     let start = c .before .before .before .before .before .before in
-    rw (member-decided (start .args .b) (Mark (start .args .operator) (start .args .indicator) (start .args .mark)) (start .args .operator) _ refl (sym (c .before .before .before .before .before .mark-in-range .ensures)) _ (sym (c .before .before .before .before .admit .ensures) ∙ ap admissionSaid (c .before .before .refusal .given .1)))
+    rw (member-decided (start .args .b) (Mark (start .args .operator) (start .args .indicator) (start .args .mark)) (start .args .operator) _ refl refl (sym (c .before .before .before .before .before .mark-in-range .ensures)) _ (sym (c .before .before .before .before .admit .ensures) ∙ ap admissionSaid (c .before .before .refusal .given .1)))
     (c .refused .ensures)
 
 pub mark-indicator-spec : {M : Type 1} → statement M

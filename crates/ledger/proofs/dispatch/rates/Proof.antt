@@ -2,9 +2,9 @@
 -- Assumes nothing.
 use mathlib.Core.Path.{refl}
 use Rattle.calls.specs.declared.Call.the-variants.{Rates}
-use Rattle.calls.specs.Call.{named, entries, acceptanceOf}
-use Rattle.ledger.specs.Table.{isUnknown, joinsAgain, lacksOperator}
-use Rattle.ledger.specs.Calls.{changed, withRates}
+use Rattle.calls.specs.Call.{factsOf}
+use Rattle.ledger.specs.Table.{some}
+use Rattle.ledger.specs.Calls.{changed}
 use Rattle.calls.proofs.Flags.{denied, granted}
 use Rattle.ledger.proofs.AdmissionLaws.{out-of-range, done}
 use borrow.Author.Needs.{needs}
@@ -19,7 +19,7 @@ refused-requires c κs = search needs
 
 -- 5
 returns : tie.Need-returns
-unfolding named isUnknown
+unfolding factsOf some
 returns c =
     let start = c .before .before .before in
     rw (out-of-range (start .args .b) (Rates (start .args .pot) (start .args .cap)) refl (denied (c .before .before .rates-in-range .ensures) (c .before .if1 .taken)))
@@ -27,7 +27,7 @@ returns c =
 
 -- both rates
 returns-2 : tie.Need-returns-2
-unfolding named isUnknown joinsAgain lacksOperator entries acceptanceOf changed withRates
+unfolding factsOf some changed
 returns-2 c =
     let start = c .before .before in
     rw (done (start .args .b) (Rates (start .args .pot) (start .args .cap)) refl (granted (c .before .rates-in-range .ensures) (c .if1 .left)) refl refl refl)

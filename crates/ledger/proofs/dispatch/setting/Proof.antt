@@ -3,12 +3,12 @@
 use mathlib.Core.Path.{refl, sym, ap, _∙_}
 use native.Mathlib.Omega.{arith}
 use Rattle.calls.specs.declared.Call.the-variants.{Setting}
-use Rattle.calls.specs.Call.{named, entries, valuesInRange, acceptanceOf}
+use Rattle.calls.specs.Call.{factsOf}
 use Rattle.ledger.specs.Steps.{admissionSaid}
 use Rattle.calls.proofs.RangeLaws.{ranges}
 use Rattle.ledger.proofs.AdmissionLaws.{member-decided}
 use Rattle.book.specs.Book.{settingSlot}
-use Rattle.ledger.specs.Calls.{changed, withSettings}
+use Rattle.ledger.specs.Calls.{changed}
 use borrow.Author.Needs.{needs}
 use Rattle.ledger.proofs.dispatch.setting.Statement.{statement}
 use Rattle.ledger.proofs.dispatch.setting.Tie as tie
@@ -32,10 +32,10 @@ mul-next : tie.Need-mul-next
 mul-next c = search needs
 
 element-write-next : tie.Need-element-write-next
-unfolding named valuesInRange
+unfolding factsOf
 element-write-next c =
     let start = c .before .before .before .before in
-    let passed = member-decided (start .args .b) (Setting (start .args .operator) (start .args .which) (start .args .value)) (start .args .operator) _ refl (sym (c .before .before .before .setting-in-range .ensures)) _ (sym (c .before .before .admit .ensures) ∙ ap admissionSaid (c .enum-told .given .1)) in
+    let passed = member-decided (start .args .b) (Setting (start .args .operator) (start .args .which) (start .args .value)) (start .args .operator) _ refl refl (sym (c .before .before .before .setting-in-range .ensures)) _ (sym (c .before .before .admit .ensures) ∙ ap admissionSaid (c .enum-told .given .1)) in
     let in-range = ranges (Setting (start .args .operator) (start .args .which) (start .args .value)) (sym (c .before .before .before .setting-in-range .ensures) ∙ passed .in-range) in
     omega (arith, passed .small, in-range .0)
 
@@ -46,18 +46,18 @@ refused-requires : tie.Need-refused-requires
 refused-requires c κs = search needs
 
 returns : tie.Need-returns
-unfolding named valuesInRange entries acceptanceOf changed withSettings settingSlot
+unfolding factsOf changed settingSlot
 returns c =
     let start = c .before .before .before .before in
-    let passed = member-decided (start .args .b) (Setting (start .args .operator) (start .args .which) (start .args .value)) (start .args .operator) _ refl (sym (c .before .before .before .setting-in-range .ensures)) _ (sym (c .before .before .admit .ensures) ∙ ap admissionSaid (c .enum-told .given .1)) in
+    let passed = member-decided (start .args .b) (Setting (start .args .operator) (start .args .which) (start .args .value)) (start .args .operator) _ refl refl (sym (c .before .before .before .setting-in-range .ensures)) _ (sym (c .before .before .admit .ensures) ∙ ap admissionSaid (c .enum-told .given .1)) in
     rw (passed .done refl) (refl, refl)
 
 -- 4, 5 or 7
 returns-2 : tie.Need-returns-2
-unfolding named valuesInRange
+unfolding factsOf
 returns-2 c =
     let start = c .before .before .before .before .before .before in
-    rw (member-decided (start .args .b) (Setting (start .args .operator) (start .args .which) (start .args .value)) (start .args .operator) _ refl (sym (c .before .before .before .before .before .setting-in-range .ensures)) _ (sym (c .before .before .before .before .admit .ensures) ∙ ap admissionSaid (c .before .before .refusal .given .1)))
+    rw (member-decided (start .args .b) (Setting (start .args .operator) (start .args .which) (start .args .value)) (start .args .operator) _ refl refl (sym (c .before .before .before .before .before .setting-in-range .ensures)) _ (sym (c .before .before .before .before .admit .ensures) ∙ ap admissionSaid (c .before .before .refusal .given .1)))
     (c .refused .ensures)
 
 pub setting-spec : {M : Type 1} → statement M

@@ -4,7 +4,7 @@ use mathlib.Core.Path.{_≡_, refl, sym, ap, _∙_}
 use mathlib.Core.Bool.{true}
 use Prim.Native.Nat.{ℕ}
 use Rattle.calls.specs.declared.Call.the-variants.{Interruption}
-use Rattle.calls.specs.Call.{detailsInRange, timesInRange, valuesInRange, outcome, acceptanceOf, secondsOf, yearOf}
+use Rattle.calls.specs.Call.{detailsInRange, timesInRange, factsOf, outcome, secondsOf, yearOf}
 use Rattle.calls.specs.Steps.{judgedSays, JudgedAs}
 use Rattle.calls.proofs.Flags.{and-left, and-right}
 use Rattle.calls.proofs.Times.{back, timed, year-lt, seconds-lt}
@@ -15,7 +15,7 @@ use Rattle.ledger.proofs.interruptions.enter.Statement.{statement}
 use Rattle.ledger.proofs.interruptions.enter.Tie as tie
 
 seconds-of-requires : tie.Need-seconds-of-requires
-unfolding valuesInRange
+unfolding factsOf
 seconds-of-requires c κs = rw (back (c .fits .start), back (c .fits .end)) (and-right (detailsInRange (c .args .sign) (c .args .level) (c .args .cause) (c .args .weight)) _ (c .pre .1))
 
 judge-requires : tie.Need-judge-requires
@@ -25,13 +25,13 @@ enum-told : tie.Need-enum-told
 enum-told c = search needs
 
 year-of-requires : tie.Need-year-of-requires
-unfolding valuesInRange
+unfolding factsOf
 year-of-requires c κs =
     let start = c .before .before .before .before in
     rw (back (start .fits .start), back (start .fits .end)) (and-right (detailsInRange (start .args .sign) (start .args .level) (start .args .cause) (start .args .weight)) _ (start .pre .1))
 
 enter-counted-requires : tie.Need-enter-counted-requires
-unfolding valuesInRange
+unfolding factsOf
 enter-counted-requires c κs =
     let start = c .before .before .before .before .before in
     let valid = start .pre .1 in
@@ -46,7 +46,7 @@ enum-known-reason c = search needs
 
 -- counted
 returns : tie.Need-returns
-unfolding acceptanceOf
+unfolding factsOf
 returns c =
     let start = c .before .before .before .before .before .before in
     let year = rw (back (start .fits .end)) at (c .before .year-of .ensures) in
@@ -58,7 +58,7 @@ returns c =
 
 -- left out: nothing is entered
 returns-2 : tie.Need-returns-2
-unfolding acceptanceOf
+unfolding factsOf
 returns-2 c =
     let start = c .before .before .before .before .before in
     let seconds = rw (back (start .fits .start), back (start .fits .end)) at (c .before .before .before .before .seconds-of .ensures) in

@@ -7,7 +7,6 @@ use native.Mathlib.Nat.{mul-le-mul, le-of-lt}
 use Rattle.book.specs.Book.{figureSlot, figureOf}
 use Rattle.calls.specs.Answers.{counted-in}
 use Rattle.calls.specs.Call.{entry, interruptionEntries}
-use Rattle.ledger.specs.Calls.{withFigures}
 use Rattle.ledger.proofs.MoveLaws.{moved-as, both-moved, first-above, first-below, second-above, second-below}
 use borrow.Author.Needs.{needs}
 use Rattle.ledger.proofs.interruptions.enter_counted.Statement.{statement}
@@ -104,7 +103,7 @@ refused-requires-4 : tie.Need-refused-requires-4
 refused-requires-4 c κs = search needs
 
 returns : tie.Need-returns
-unfolding interruptionEntries figureOf figureSlot withFigures
+unfolding interruptionEntries figureOf figureSlot
 returns c =
     let start = c .before .before .before .before .before .before .before .before .before in
     rw (both-moved (start .args .b) (entry (start .args .operator) (start .args .year) (2 * start .args .level) (start .args .sign) (start .args .weight)) (counted-in (start .args .year)) (entry (start .args .operator) (start .args .year) (2 * start .args .level + 1) (start .args .sign) (start .args .weight * start .args .seconds)) _ (moved-as (start .args .sign) (start .args .weight) _ (start .pre .1) _ (sym (c .before .before .before .before .before .before .before .move-figure .ensures) ∙ c .before .before .before .before .before .moved .given .1)) _ (λ e. omega (arith, e)) (moved-as (start .args .sign) (start .args .weight * start .args .seconds) _ (start .pre .1) _ (sym (c .before .before .before .move-figure2 .ensures) ∙ c .before .moved-seconds .given .1)))

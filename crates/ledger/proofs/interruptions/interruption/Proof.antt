@@ -2,7 +2,7 @@
 -- Assumes nothing.
 use mathlib.Core.Path.{_≡_, refl, sym, ap, _∙_}
 use Rattle.calls.specs.declared.Call.the-variants.{Interruption}
-use Rattle.calls.specs.Call.{named, valuesInRange}
+use Rattle.calls.specs.Call.{factsOf}
 use Rattle.ledger.specs.Calls.{changed}
 use Rattle.ledger.specs.Steps.{admissionSaid}
 use Rattle.calls.proofs.Times.{back}
@@ -21,11 +21,11 @@ enum-told : tie.Need-enum-told
 enum-told c = search needs
 
 enter-requires : tie.Need-enter-requires
-unfolding named valuesInRange
+unfolding factsOf
 enter-requires c κs =
     let start = c .before .before .before .before in
     let ranged = sym (rw (back (start .fits .start), back (start .fits .end)) at (c .before .before .before .interruption-in-range .ensures)) in
-    let passed = member-decided (start .args .b) (Interruption (start .args .operator) (start .args .sign) (start .args .level) (start .args .cause) (start .args .start) (start .args .end) (start .args .weight)) (start .args .operator) _ refl ranged _ (sym (c .before .before .admit .ensures) ∙ ap admissionSaid (c .enum-told .given .1)) in
+    let passed = member-decided (start .args .b) (Interruption (start .args .operator) (start .args .sign) (start .args .level) (start .args .cause) (start .args .start) (start .args .end) (start .args .weight)) (start .args .operator) _ refl refl ranged _ (sym (c .before .before .admit .ensures) ∙ ap admissionSaid (c .enum-told .given .1)) in
     (passed .small, rw (back (start .fits .start), back (start .fits .end)) (ranged ∙ passed .in-range))
 
 enum-known-refusal : tie.Need-enum-known-refusal
@@ -35,20 +35,20 @@ refused-requires : tie.Need-refused-requires
 refused-requires c κs = search needs
 
 returns : tie.Need-returns
-unfolding named valuesInRange changed
+unfolding factsOf changed
 returns c =
     let start = c .before .before .before .before .before in
     let ranged = sym (rw (back (start .fits .start), back (start .fits .end)) at (c .before .before .before .before .interruption-in-range .ensures)) in
-    let passed = member-decided (start .args .b) (Interruption (start .args .operator) (start .args .sign) (start .args .level) (start .args .cause) (start .args .start) (start .args .end) (start .args .weight)) (start .args .operator) _ refl ranged _ (sym (c .before .before .before .admit .ensures) ∙ ap admissionSaid (c .before .enum-told .given .1)) in
+    let passed = member-decided (start .args .b) (Interruption (start .args .operator) (start .args .sign) (start .args .level) (start .args .cause) (start .args .start) (start .args .end) (start .args .weight)) (start .args .operator) _ refl refl ranged _ (sym (c .before .before .before .admit .ensures) ∙ ap admissionSaid (c .before .enum-told .given .1)) in
     rw (passed .entered refl) (rw (back (start .fits .start), back (start .fits .end)) at (c .enter .ensures))
 
 -- 4, 5 or 7
 returns-2 : tie.Need-returns-2
-unfolding named valuesInRange
+unfolding factsOf
 returns-2 c =
     let start = c .before .before .before .before .before .before in
     let ranged = sym (rw (back (start .fits .start), back (start .fits .end)) at (c .before .before .before .before .before .interruption-in-range .ensures)) in
-    rw (member-decided (start .args .b) (Interruption (start .args .operator) (start .args .sign) (start .args .level) (start .args .cause) (start .args .start) (start .args .end) (start .args .weight)) (start .args .operator) _ refl ranged _ (sym (c .before .before .before .before .admit .ensures) ∙ ap admissionSaid (c .before .before .refusal .given .1)))
+    rw (member-decided (start .args .b) (Interruption (start .args .operator) (start .args .sign) (start .args .level) (start .args .cause) (start .args .start) (start .args .end) (start .args .weight)) (start .args .operator) _ refl refl ranged _ (sym (c .before .before .before .before .admit .ensures) ∙ ap admissionSaid (c .before .before .refusal .given .1)))
     (c .refused .ensures)
 
 pub interruption-spec : {M : Type 1} → statement M
