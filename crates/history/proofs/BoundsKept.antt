@@ -14,7 +14,7 @@ use Rattle.calls.specs.Limits.{operators, settingCount, indicatorCount, setting
 use Rattle.calls.specs.Masks.{has, including, excluding, remasked}
 use Rattle.calls.specs.Call.{Entry}
 use Rattle.book.specs.Book.{isJoined, isMarked, settingOf, figureOf, indexOf, settingSlot, figureSlot, most}
-use Rattle.ledger.specs.Calls.{withJoined, withMarks, withSettings, withFigures, withRates, withIndices, entered, changed}
+use Rattle.ledger.specs.Calls.{entered, changed}
 use Rattle.calls.proofs.MaskLaws.{including-has, including-other, including-lt, excluding-other, excluding-le}
 use Rattle.book.proofs.Bounds.{Bounds}
 use Rattle.book.proofs.SlotLaws.{store-holds}
@@ -59,7 +59,7 @@ most-joined b operator limit n joined le = rw joined le
 
 module _ (b : Book) (bounds : Bounds b) where
   pub join-bounds : (operator : ℕ) → operator < operators → Bounds (changed b (Join operator))
-  unfolding changed withJoined settingOf figureOf isMarked indexOf isJoined most
+  unfolding changed settingOf figureOf isMarked indexOf isJoined most
   join-bounds operator lo =
       record {
         marks-long = bounds .marks-long;
@@ -76,12 +76,12 @@ module _ (b : Book) (bounds : Bounds b) where
         index = bounds .index;
       }
     where
-      still-joined : (o : ℕ) → isJoined b o ≡ true → isJoined (withJoined b (including (b .joined) operator)) o ≡ true
+      still-joined : (o : ℕ) → isJoined b o ≡ true → has (including (b .joined) operator) o ≡ true
       still-joined o joined = including-keeps (b .joined) operator o joined
 
   pub setting-bounds : (operator which value : ℕ) → isJoined b operator ≡ true → which < settingCount → value ≤ settingLimit which
       → Bounds (changed b (Setting operator which value))
-  unfolding changed withSettings settingOf figureOf isMarked indexOf isJoined most settingSlot
+  unfolding changed settingOf figureOf isMarked indexOf isJoined most settingSlot
   setting-bounds operator which value joined lw le =
       record {
         marks-long = bounds .marks-long;
@@ -106,7 +106,7 @@ module _ (b : Book) (bounds : Bounds b) where
 
   pub mark-bounds : (operator indicator mark : ℕ) → operator < operators → isJoined b operator ≡ true → indicator < indicatorCount
       → Bounds (changed b (Mark operator indicator mark))
-  unfolding changed withMarks settingOf figureOf isMarked indexOf isJoined most
+  unfolding changed settingOf figureOf isMarked indexOf isJoined most
   mark-bounds operator indicator mark lo joined li =
       record {
         marks-long = length-set (b .marks) _ _ ∙ bounds .marks-long;
@@ -135,7 +135,7 @@ module _ (b : Book) (bounds : Bounds b) where
       remarked o lo′ (no other) marked = bounds .mark o indicator lo′ li (rw (remasked-other (getD (b .marks) indicator 0) operator mark o other) at marked)
 
   pub rates-bounds : (pot cap : ℕ) → pot ≤ rateLimit → cap ≤ rateLimit → Bounds (changed b (Rates pot cap))
-  unfolding changed withRates settingOf figureOf isMarked indexOf isJoined most
+  unfolding changed settingOf figureOf isMarked indexOf isJoined most
   rates-bounds pot cap pot-le cap-le =
       record {
         marks-long = bounds .marks-long;
@@ -153,7 +153,7 @@ module _ (b : Book) (bounds : Bounds b) where
       }
 
   pub index-bounds : (number value : ℕ) → indexLeast ≤ value → value ≤ indexMost → Bounds (changed b (Index number value))
-  unfolding changed withIndices settingOf figureOf isMarked indexOf isJoined most
+  unfolding changed settingOf figureOf isMarked indexOf isJoined most
   index-bounds number value least greatest =
       record {
         marks-long = bounds .marks-long;
@@ -182,7 +182,7 @@ module _ (b : Book) (bounds : Bounds b) where
       omega (arith, bounds .figure (entry .operator) (entry .year) (entry .figure) (w .operator-lt) (w .year-lt) (w .figure-lt))
 
   pub entry-bounds : (entry : Entry) → Enters (isJoined b) (figureOf b) entry → Bounds (entered b entry)
-  unfolding entered withFigures settingOf figureOf isMarked indexOf isJoined most figureSlot
+  unfolding entered settingOf figureOf isMarked indexOf isJoined most figureSlot
   entry-bounds entry enters =
       record {
         marks-long = bounds .marks-long;

@@ -1,25 +1,27 @@
 -- The entries of a call in range stand within the book, at figures that differ; and tests over entries.
 -- Assumes nothing.
 use Prim.Native.Nat.{ℕ, _≤_, _<_}
-use mathlib.Core.Path.{_≡_, refl, ap₂}
+use mathlib.Core.Path.{_≡_, refl, sym, ap₂, _∙_}
 use mathlib.Core.Logic.{_≢_}
 use mathlib.Core.Bool.{Bool, true, false, cond, not, _&&_, _||_, true≢false}
-use mathlib.Core.List.{List, [], _∷_}
+use mathlib.Core.List.{List, [], _∷_, _++_}
 use native.Mathlib.Omega.{arith}
-use lib.Dec.{ltb, leb}
-use borrow.Author.Tests.{ltb-true, not-false}
+use lib.Dec.{leb}
+use borrow.Author.Tests.{leb-false}
 use Rattle.calls.specs.declared.Call.{Call}
 use Rattle.calls.specs.declared.Call.the-variants.{Join, Setting, Interruption, Amount, Mark, Rates, Index}
 use Rattle.calls.specs.Limits.{operators, years, figureCount}
 use Rattle.calls.specs.Answers.{Acceptance, counted-in, left-out-as-short, left-out-under}
-use Rattle.calls.specs.Call.{named, Entry, yearOf, secondsOf, outcome, interruptionEntries, entries}
-use Rattle.ledger.specs.Table.{isUnknown, lacksOperator, some}
+use Rattle.calls.specs.Call.{Entry, yearOf, secondsOf, outcome, interruptionEntries, factsOf}
+use Rattle.ledger.specs.Table.{some}
+use Rattle.ledger.proofs.AdmissionLaws.{isUnknown, lacksOperator}
+use Rattle.calls.proofs.Flags.{or-false-right}
 use Rattle.calls.proofs.RangeLaws.{Ranges}
 
--- what holds of every entry of a list
-abbrev pub All : (Entry → Type 0) → List Entry → Type 0
+-- what holds of every element of a list
+abbrev pub All : {A : Type 0} → (A → Type 0) → List A → Type 0
 All P [] = Unit {0}
-All P (entry ∷ rest) = P entry × All P rest
+All P (x ∷ rest) = P x × All P rest
 
 -- an entry within the book
 pub record Within (entry : Entry) : Type 0 where
@@ -33,9 +35,13 @@ abbrev pub Distinct : List Entry → Type 0
 Distinct [] = Unit {0}
 Distinct (entry ∷ rest) = All (λ (other : Entry). other .figure ≢ entry .figure) rest × Distinct rest
 
--- an operator that 4 lets pass
-pub known-lt : (operator : ℕ) → not (ltb operator operators) ≡ false → operator < operators
-known-lt operator e = ltb-true operator operators (not-false _ e)
+-- an operator that 4 lets pass, and one that 7 lets pass
+pub known-lt : (operator : ℕ) → leb operators operator || false ≡ false → operator < operators
+known-lt operator e = leb-false operators operator (sym (or-false-right _) ∙ e)
+
+pub member-there : (t : Bool) → not t || false ≡ false → t ≡ true
+member-there true e = refl
+member-there false e = absurd (true≢false e)
 
 module _ (operator sign level weight seconds year cause : ℕ) where
   -- what an interruption comes to, by its two tests
@@ -65,8 +71,8 @@ module _ (operator sign level weight seconds year cause : ℕ) where
   judged-joined joined false true there = tt
   judged-joined joined false false there = (there, (there, tt))
 
-pub entries-within : (call : Call) → isUnknown (named call) ≡ false → Ranges call → All Within (entries call)
-unfolding named isUnknown entries outcome
+pub entries-within : (call : Call) → isUnknown call ≡ false → Ranges call → All Within (factsOf call .entries)
+unfolding factsOf some outcome
 entries-within (Join operator) known r = tt
 entries-within (Setting operator which value) known r = tt
 entries-within (Interruption operator sign level cause start end weight) known r =
@@ -78,8 +84,8 @@ entries-within (Mark operator indicator mark) known r = tt
 entries-within (Rates pot cap) known r = tt
 entries-within (Index number value) known r = tt
 
-pub entries-distinct : (call : Call) → Distinct (entries call)
-unfolding entries outcome
+pub entries-distinct : (call : Call) → Distinct (factsOf call .entries)
+unfolding factsOf outcome
 entries-distinct (Join operator) = tt
 entries-distinct (Setting operator which value) = tt
 entries-distinct (Interruption operator sign level cause start end weight) =
@@ -89,15 +95,15 @@ entries-distinct (Mark operator indicator mark) = tt
 entries-distinct (Rates pot cap) = tt
 entries-distinct (Index number value) = tt
 
-pub entries-joined : (joined : ℕ → Bool) (call : Call) → lacksOperator joined (named call) ≡ false
-    → All (λ (entry : Entry). joined (entry .operator) ≡ true) (entries call)
-unfolding named lacksOperator entries outcome
+pub entries-joined : (joined : ℕ → Bool) (call : Call) → lacksOperator joined call ≡ false
+    → All (λ (entry : Entry). joined (entry .operator) ≡ true) (factsOf call .entries)
+unfolding factsOf some outcome
 entries-joined joined (Join operator) there = tt
 entries-joined joined (Setting operator which value) there = tt
 entries-joined joined (Interruption operator sign level cause start end weight) there =
     judged-joined operator sign level weight (secondsOf start end) (yearOf end) cause joined (leb (secondsOf start end) 180) (leb 1 cause && leb cause 3)
-    (not-false _ there)
-entries-joined joined (Amount operator year figure sign value) there = (not-false _ there, tt)
+    (member-there _ there)
+entries-joined joined (Amount operator year figure sign value) there = (member-there _ there, tt)
 entries-joined joined (Mark operator indicator mark) there = tt
 entries-joined joined (Rates pot cap) there = tt
 entries-joined joined (Index number value) there = tt
@@ -107,23 +113,29 @@ none-of : (s t : Bool) → s || t ≡ false → (s ≡ false) × (t ≡ false)
 none-of true t e = absurd (true≢false e)
 none-of false t e = (refl, e)
 
-pub none-some : (test : Entry → Bool) (list : List Entry) → some test list ≡ false → All (λ (entry : Entry). test entry ≡ false) list
-unfolding some
-none-some test [] e = tt
-none-some test (entry ∷ rest) e =
-    let both = none-of _ _ e in
-    (both .0, none-some test rest (both .1))
+module _ {A : Type 0} where
+  pub none-some : (test : A → Bool) (list : List A) → some test list ≡ false → All (λ (x : A). test x ≡ false) list
+  unfolding some
+  none-some test [] e = tt
+  none-some test (x ∷ rest) e =
+      let both = none-of _ _ e in
+      (both .0, none-some test rest (both .1))
 
-pub same-some : (test other : Entry → Bool) (list : List Entry) → All (λ (entry : Entry). test entry ≡ other entry) list
-    → some test list ≡ some other list
-unfolding some
-same-some test other [] all = refl
-same-some test other (entry ∷ rest) all = ap₂ _||_ (all .0) (same-some test other rest (all .1))
+  pub same-some : (test other : A → Bool) (list : List A) → All (λ (x : A). test x ≡ other x) list → some test list ≡ some other list
+  unfolding some
+  same-some test other [] all = refl
+  same-some test other (x ∷ rest) all = ap₂ _||_ (all .0) (same-some test other rest (all .1))
 
-pub all-map : (P Q : Entry → Type 0) → ((entry : Entry) → P entry → Q entry) → (list : List Entry) → All P list → All Q list
-all-map P Q f [] all = tt
-all-map P Q f (entry ∷ rest) all = (f entry (all .0), all-map P Q f rest (all .1))
+  pub all-map : (P Q : A → Type 0) → ((x : A) → P x → Q x) → (list : List A) → All P list → All Q list
+  all-map P Q f [] all = tt
+  all-map P Q f (x ∷ rest) all = (f x (all .0), all-map P Q f rest (all .1))
 
-pub all-both : (P Q : Entry → Type 0) (list : List Entry) → All P list → All Q list → All (λ (entry : Entry). P entry × Q entry) list
-all-both P Q [] all also = tt
-all-both P Q (entry ∷ rest) all also = ((all .0, also .0), all-both P Q rest (all .1) (also .1))
+  pub all-both : (P Q : A → Type 0) (list : List A) → All P list → All Q list → All (λ (x : A). P x × Q x) list
+  all-both P Q [] all also = tt
+  all-both P Q (x ∷ rest) all also = ((all .0, also .0), all-both P Q rest (all .1) (also .1))
+
+  pub all-parts : (P : A → Type 0) (list more : List A) → All P (list ++ more) → All P list × All P more
+  all-parts P [] more all = (tt, all)
+  all-parts P (x ∷ rest) more all =
+      let parts = all-parts P rest more (all .1) in
+      ((all .0, parts .0), parts .1)

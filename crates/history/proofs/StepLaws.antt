@@ -8,23 +8,23 @@ use mathlib.Core.List.{List, [], _∷_}
 use native.Mathlib.Omega.{arith}
 use lib.Dec.{eqb}
 use lib.ListN.{getD, set}
-use borrow.Author.Tests.{eqb-true, eqb-false, eq-eqb, ne-eqb, not-false}
+use borrow.Author.Tests.{eqb-true, eqb-false, eq-eqb, ne-eqb}
 use Rattle.book.specs.declared.Book.{Book}
 use Rattle.calls.specs.declared.Call.{Call}
 use Rattle.calls.specs.declared.Call.the-variants.{Join, Setting, Interruption, Amount, Mark, Rates, Index}
 use Rattle.calls.specs.Limits.{operators, years, figureCount, settingCount, indicatorCount, indexCount, figureLimit}
 use Rattle.calls.specs.Masks.{has, including, excluding, remasked}
 use Rattle.calls.specs.Held.{Same}
-use Rattle.calls.specs.Call.{named, Entry, entries}
+use Rattle.calls.specs.Call.{Entry, factsOf}
 use Rattle.book.specs.Book.{isJoined, isMarked, settingOf, figureOf, indexOf, heldBy, settingSlot, figureSlot}
-use Rattle.ledger.specs.Table.{isUnknown, lacksOperator, totalAt}
-use Rattle.ledger.specs.Calls.{withJoined, withMarks, withSettings, withFigures, withRates, withIndices, entered, enterAll, changed}
+use Rattle.ledger.specs.Table.{some, totalAt}
+use Rattle.ledger.specs.Calls.{entered, enterAll, changed}
 use Rattle.history.specs.History.{History, total, heldIn, at1, at2, summed, withEntry, withEntries, recorded}
 use Rattle.calls.proofs.Flags.{and-left, and-right, and-true-right, and-false-right}
 use Rattle.calls.proofs.MaskLaws.{including-has, excluding-has}
 use Rattle.book.proofs.Bounds.{Bounds}
 use Rattle.book.proofs.SlotLaws.{stored, setting-slot-lt, figure-slot-lt, same-setting-slot, same-figure-slot}
-use Rattle.history.proofs.EntryLaws.{All, Within, Distinct, known-lt, entries-distinct}
+use Rattle.history.proofs.EntryLaws.{All, Within, Distinct, known-lt, member-there, entries-distinct}
 use Rattle.history.proofs.TableLaws.{Passed, Enters, call-enters}
 use Rattle.history.proofs.BoundsKept.{join-bounds, setting-bounds, mark-bounds, rates-bounds, index-bounds, entry-bounds}
 
@@ -39,7 +39,7 @@ pub record Agrees (b : Book) (h : History) : Type 0 where
 
 module _ (b : Book) (h : History) (bounds : Bounds b) (held : Same (heldBy b) (heldIn h)) where
   join-holds : (operator : ℕ) → Same (heldBy (changed b (Join operator))) (heldIn (recorded h (Join operator)))
-  unfolding changed recorded withJoined isJoined isMarked settingOf figureOf indexOf total at1
+  unfolding changed recorded isJoined isMarked settingOf figureOf indexOf total at1
   join-holds operator =
       record {
         joined = λ o lt. including-has (b .joined) operator o ∙ ap (cond (eqb o operator) true) (held .joined o lt);
@@ -53,7 +53,7 @@ module _ (b : Book) (h : History) (bounds : Bounds b) (held : Same (heldBy b) (h
 
   setting-holds : (operator which value : ℕ) → operator < operators → which < settingCount
       → Same (heldBy (changed b (Setting operator which value))) (heldIn (recorded h (Setting operator which value)))
-  unfolding changed recorded withSettings isJoined isMarked settingOf figureOf indexOf total at2
+  unfolding changed recorded isJoined isMarked settingOf figureOf indexOf total at2
   setting-holds operator which value lo lw =
       record {
         joined = held .joined;
@@ -90,7 +90,7 @@ module _ (b : Book) (h : History) (bounds : Bounds b) (held : Same (heldBy b) (h
 
   mark-holds : (operator indicator mark : ℕ) → indicator < indicatorCount
       → Same (heldBy (changed b (Mark operator indicator mark))) (heldIn (recorded h (Mark operator indicator mark)))
-  unfolding changed recorded withMarks isJoined isMarked settingOf figureOf indexOf total at2
+  unfolding changed recorded isJoined isMarked settingOf figureOf indexOf total at2
   mark-holds operator indicator mark li =
       record {
         joined = held .joined;
@@ -105,7 +105,7 @@ module _ (b : Book) (h : History) (bounds : Bounds b) (held : Same (heldBy b) (h
       }
 
   rates-holds : (pot cap : ℕ) → Same (heldBy (changed b (Rates pot cap))) (heldIn (recorded h (Rates pot cap)))
-  unfolding changed recorded withRates isJoined isMarked settingOf figureOf indexOf total
+  unfolding changed recorded isJoined isMarked settingOf figureOf indexOf total
   rates-holds pot cap =
       record {
         joined = held .joined;
@@ -118,7 +118,7 @@ module _ (b : Book) (h : History) (bounds : Bounds b) (held : Same (heldBy b) (h
       }
 
   index-holds : (number value : ℕ) → number < indexCount → Same (heldBy (changed b (Index number value))) (heldIn (recorded h (Index number value)))
-  unfolding changed recorded withIndices isJoined isMarked settingOf figureOf indexOf total at1
+  unfolding changed recorded isJoined isMarked settingOf figureOf indexOf total at1
   index-holds number value ln =
       record {
         joined = held .joined;
@@ -201,14 +201,14 @@ module _ (b : Book) (h : History) (now : Agrees b h) (entry : Entry) (enters : E
       (figureOf b (entry .operator) (entry .year) (entry .figure) + entry .value)
       (figureOf b (entry .operator) (entry .year) (entry .figure) - entry .value))
       (figureOf b o y f)
-  unfolding entered withFigures figureOf
+  unfolding entered figureOf
   entered-figure o y f ly lf =
       stored (b .figures) (figureSlot (entry .operator) (entry .year) (entry .figure)) _ (figureSlot o y f)
       (rw (now .bounds .figures-long) (figure-slot-lt (entry .operator) (entry .year) (entry .figure) (w .operator-lt) (w .year-lt) (w .figure-lt)))
       ∙ rw (same-figure-slot o y f (entry .operator) (entry .year) (entry .figure) ly lf (w .year-lt) (w .figure-lt)) refl
 
   entry-holds : Same (heldBy (entered b entry)) (heldIn (withEntry h entry))
-  unfolding entered withFigures withEntry isJoined isMarked settingOf indexOf
+  unfolding entered withEntry isJoined isMarked settingOf indexOf
   entry-holds =
       record {
         joined = now .held .joined;
@@ -276,7 +276,7 @@ module _ (b : Book) (h : History) (now : Agrees b h) where
   member-joined operator lt there = now .held .joined operator lt ∙ there
 
   pub changed-agrees : (call : Call) → Passed (h .joined) (total h) call → Agrees (changed b call) (recorded h call)
-  unfolding named isUnknown lacksOperator changed recorded
+  unfolding factsOf some changed recorded
   changed-agrees (Join operator) passed =
       record {
         bounds = join-bounds b (now .bounds) operator (known-lt operator (passed .known));
@@ -286,20 +286,20 @@ module _ (b : Book) (h : History) (now : Agrees b h) where
   changed-agrees (Setting operator which value) passed =
       let lt = known-lt operator (passed .known) in
       record {
-        bounds = setting-bounds b (now .bounds) operator which value (member-joined operator lt (not-false _ (passed .present))) (passed .in-range .0) (passed .in-range .1);
+        bounds = setting-bounds b (now .bounds) operator which value (member-joined operator lt (member-there _ (passed .present))) (passed .in-range .0) (passed .in-range .1);
         held = setting-holds b h (now .bounds) (now .held) operator which value lt (passed .in-range .0);
         covered = now .covered;
       }
   changed-agrees (Interruption operator sign level cause start end weight) passed =
       let call : Call = Interruption operator sign level cause start end weight in
-      entries-agree (entries call) b h now (entries-distinct call) (call-enters (h .joined) (total h) call passed)
+      entries-agree (factsOf call .entries) b h now (entries-distinct call) (call-enters (h .joined) (total h) call passed)
   changed-agrees (Amount operator year figure sign value) passed =
       let call : Call = Amount operator year figure sign value in
-      entries-agree (entries call) b h now (entries-distinct call) (call-enters (h .joined) (total h) call passed)
+      entries-agree (factsOf call .entries) b h now (entries-distinct call) (call-enters (h .joined) (total h) call passed)
   changed-agrees (Mark operator indicator mark) passed =
       let lt = known-lt operator (passed .known) in
       record {
-        bounds = mark-bounds b (now .bounds) operator indicator mark lt (member-joined operator lt (not-false _ (passed .present))) (passed .in-range .0);
+        bounds = mark-bounds b (now .bounds) operator indicator mark lt (member-joined operator lt (member-there _ (passed .present))) (passed .in-range .0);
         held = mark-holds b h (now .bounds) (now .held) operator indicator mark (passed .in-range .0);
         covered = now .covered;
       }

@@ -5,38 +5,39 @@ use mathlib.Core.Path.{_≡_, refl, ap}
 use mathlib.Core.Logic.{_⊎_, inl, inr}
 use mathlib.Core.Bool.{Bool, true, false, not, _&&_}
 use mathlib.Core.List.{List, [], _∷_}
-use lib.Dec.{ltb, eqb}
-use borrow.Author.Tests.{ltb-false}
+use lib.Dec.{leb, ltb, eqb}
+use borrow.Author.Tests.{leb-false, ltb-false}
 use Rattle.calls.specs.declared.Call.{Call}
 use Rattle.calls.specs.Limits.{operators, years, figureCount, figureLimit}
 use Rattle.calls.specs.Answers.{Said, refused-by, accepted, firstOf, Acceptance}
-use Rattle.calls.specs.Call.{Named, newcomer, member, nobody, named, Entry, entries, valuesInRange, acceptanceOf}
-use Rattle.ledger.specs.Table.{isUnknown, joinsAgain, lacksOperator, some, totalAt, passesLimit, fallsBelow, linesFor, answerTo}
+use Rattle.calls.specs.Call.{Entry, factsOf}
+use Rattle.ledger.specs.Table.{some, totalAt, passesLimit, fallsBelow, linesFor, answerTo}
 use Rattle.calls.proofs.Flags.{and-other}
+use Rattle.ledger.proofs.AdmissionLaws.{isUnknown, joinsAgain, lacksOperator}
 use Rattle.calls.proofs.RangeLaws.{Ranges, ranges}
-use Rattle.history.proofs.EntryLaws.{All, Within, known-lt, all-map, all-both, none-some, same-some, entries-within, entries-joined}
+use Rattle.history.proofs.EntryLaws.{All, Within, all-map, all-both, all-parts, none-some, same-some, entries-within, entries-joined}
 
 -- none of the numbers 4 to 9 applies
 pub record Passed (joined : ℕ → Bool) (total : ℕ → ℕ → ℕ → ℕ) (call : Call) : Type 0 where
-  pub known : isUnknown (named call) ≡ false
+  pub known : isUnknown call ≡ false
   pub in-range : Ranges call
-  pub no-join : joinsAgain joined (named call) ≡ false
-  pub present : lacksOperator joined (named call) ≡ false
-  pub below : some (passesLimit total) (entries call) ≡ false
-  pub above : some (fallsBelow total) (entries call) ≡ false
+  pub no-join : joinsAgain joined call ≡ false
+  pub present : lacksOperator joined call ≡ false
+  pub below : some (passesLimit total) (factsOf call .entries) ≡ false
+  pub above : some (fallsBelow total) (factsOf call .entries) ≡ false
 
 module _ (joined : ℕ → Bool) (total : ℕ → ℕ → ℕ → ℕ) (call : Call) where
   abbrev pub Decided : Said Acceptance → Type 0
-  Decided answer = ((answer ≡ accepted (acceptanceOf call)) × Passed joined total call) ⊎ ((number : ℕ) × (answer ≡ refused-by number))
+  Decided answer = ((answer ≡ accepted (factsOf call .answer)) × Passed joined total call) ⊎ ((number : ℕ) × (answer ≡ refused-by number))
 
   decide : (t u v w x y : Bool)
-      → isUnknown (named call) ≡ t
-      → valuesInRange call ≡ u
-      → joinsAgain joined (named call) ≡ v
-      → lacksOperator joined (named call) ≡ w
-      → some (passesLimit total) (entries call) ≡ x
-      → some (fallsBelow total) (entries call) ≡ y
-      → Decided (firstOf ((4, t) ∷ (5, not u) ∷ (6, v) ∷ (7, w) ∷ (8, x) ∷ (9, y) ∷ []) (acceptanceOf call))
+      → isUnknown call ≡ t
+      → factsOf call .in-range ≡ u
+      → joinsAgain joined call ≡ v
+      → lacksOperator joined call ≡ w
+      → some (passesLimit total) (factsOf call .entries) ≡ x
+      → some (fallsBelow total) (factsOf call .entries) ≡ y
+      → Decided (firstOf ((4, t) ∷ (5, not u) ∷ (6, v) ∷ (7, w) ∷ (8, x) ∷ (9, y) ∷ []) (factsOf call .answer))
   unfolding firstOf
   decide true u v w x y known ranged no-join present below above = inr (4, refl)
   decide false false v w x y known ranged no-join present below above = inr (5, refl)
@@ -70,7 +71,7 @@ pub record Enters (joined : ℕ → Bool) (total : ℕ → ℕ → ℕ → ℕ) 
   pub covers : eqb (entry .sign) 1 ≡ true → entry .value ≤ totalAt total entry
 
 -- every entry of an accepted call is one
-pub call-enters : (joined : ℕ → Bool) (total : ℕ → ℕ → ℕ → ℕ) (call : Call) → Passed joined total call → All (Enters joined total) (entries call)
+pub call-enters : (joined : ℕ → Bool) (total : ℕ → ℕ → ℕ → ℕ) (call : Call) → Passed joined total call → All (Enters joined total) (factsOf call .entries)
 unfolding passesLimit fallsBelow
 call-enters joined total call passed =
     all-map _ (Enters joined total)
@@ -81,27 +82,33 @@ call-enters joined total call passed =
       fits = λ filed. ltb-false _ _ (and-other (eqb (entry .sign) 0) _ filed (each .1 .0));
       covers = λ withdrawn. ltb-false _ _ (and-other (eqb (entry .sign) 1) _ withdrawn (each .1 .1));
     })
-    (entries call)
-    (all-both _ _ (entries call)
-    (all-both _ _ (entries call) (entries-within call (passed .known) (passed .in-range)) (entries-joined joined call (passed .present)))
-    (all-both _ _ (entries call) (none-some _ (entries call) (passed .below)) (none-some _ (entries call) (passed .above))))
+    (factsOf call .entries)
+    (all-both _ _ (factsOf call .entries)
+    (all-both _ _ (factsOf call .entries) (entries-within call (passed .known) (passed .in-range)) (entries-joined joined call (passed .present)))
+    (all-both _ _ (factsOf call .entries) (none-some _ (factsOf call .entries) (passed .below)) (none-some _ (factsOf call .entries) (passed .above))))
 
 -- two tables that agree within the book
 module _ (joined known : ℕ → Bool) (total sum : ℕ → ℕ → ℕ → ℕ)
     (same-joined : (operator : ℕ) → operator < operators → joined operator ≡ known operator)
     (same-total : (operator year figure : ℕ) → operator < operators → year < years → figure < figureCount
     → total operator year figure ≡ sum operator year figure) where
-  same-joins : (names : Named) → isUnknown names ≡ false → joinsAgain joined names ≡ joinsAgain known names
-  unfolding isUnknown joinsAgain
-  same-joins (newcomer operator) e = same-joined operator (known-lt operator e)
-  same-joins (member operator) e = refl
-  same-joins nobody e = refl
+  -- operators that 4 lets pass
+  Low : ℕ → Type 0
+  Low operator = leb operators operator ≡ false
 
-  same-lacks : (names : Named) → isUnknown names ≡ false → lacksOperator joined names ≡ lacksOperator known names
-  unfolding isUnknown lacksOperator
-  same-lacks (newcomer operator) e = refl
-  same-lacks (member operator) e = ap not (same-joined operator (known-lt operator e))
-  same-lacks nobody e = refl
+  both-low : (call : Call) → isUnknown call ≡ false → All Low (factsOf call .newcomers) × All Low (factsOf call .members)
+  unfolding Low
+  both-low call e = all-parts _ (factsOf call .newcomers) (factsOf call .members) (none-some (leb operators) _ e)
+
+  same-joins : (call : Call) → isUnknown call ≡ false → joinsAgain joined call ≡ joinsAgain known call
+  unfolding Low
+  same-joins call e =
+      same-some _ _ (factsOf call .newcomers) (all-map Low _ (λ operator low. same-joined operator (leb-false operators operator low)) (factsOf call .newcomers) (both-low call e .0))
+
+  same-lacks : (call : Call) → isUnknown call ≡ false → lacksOperator joined call ≡ lacksOperator known call
+  unfolding Low
+  same-lacks call e =
+      same-some _ _ (factsOf call .members) (all-map Low _ (λ operator low. ap not (same-joined operator (leb-false operators operator low))) (factsOf call .members) (both-low call e .1))
 
   module _ (list : List Entry) (within : All Within list) where
     total-at : (entry : Entry) → Within entry → totalAt total entry ≡ totalAt sum entry
@@ -120,27 +127,27 @@ module _ (joined known : ℕ → Bool) (total sum : ℕ → ℕ → ℕ → ℕ)
 
   pub same-answer : (call : Call) → answerTo joined total call ≡ answerTo known sum call
   unfolding answerTo linesFor firstOf
-  same-answer call = go (isUnknown (named call)) (valuesInRange call) refl refl
+  same-answer call = go (isUnknown call) (factsOf call .in-range) refl refl
     where
       rest : (ℕ → Bool) → (ℕ → ℕ → ℕ → ℕ) → List (ℕ × Bool)
       rest held figures =
-          (6, joinsAgain held (named call))
-          ∷ (7, lacksOperator held (named call))
-          ∷ (8, some (passesLimit figures) (entries call))
-          ∷ (9, some (fallsBelow figures) (entries call))
+          (6, joinsAgain held call)
+          ∷ (7, lacksOperator held call)
+          ∷ (8, some (passesLimit figures) (factsOf call .entries))
+          ∷ (9, some (fallsBelow figures) (factsOf call .entries))
           ∷ []
 
-      go : (t u : Bool) → isUnknown (named call) ≡ t → valuesInRange call ≡ u
-          → firstOf ((4, t) ∷ (5, not u) ∷ rest joined total) (acceptanceOf call)
-          ≡ firstOf ((4, t) ∷ (5, not u) ∷ rest known sum) (acceptanceOf call)
+      go : (t u : Bool) → isUnknown call ≡ t → factsOf call .in-range ≡ u
+          → firstOf ((4, t) ∷ (5, not u) ∷ rest joined total) (factsOf call .answer)
+          ≡ firstOf ((4, t) ∷ (5, not u) ∷ rest known sum) (factsOf call .answer)
       go true u lt ranged = refl
       go false false lt ranged = refl
       go false true lt ranged =
           let within = entries-within call lt (ranges call ranged) in
           rw (
-            same-joins (named call) lt,
-            same-lacks (named call) lt,
-            same-passes (entries call) within,
-            same-falls (entries call) within,
+            same-joins call lt,
+            same-lacks call lt,
+            same-passes (factsOf call .entries) within,
+            same-falls (factsOf call .entries) within,
           )
           refl

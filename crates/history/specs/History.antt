@@ -6,9 +6,9 @@ use mathlib.Core.List.{List, [], _∷_}
 use lib.Dec.{eqb}
 use Rattle.calls.specs.declared.Call.{Call}
 use Rattle.calls.specs.declared.Call.the-variants.{Join, Setting, Interruption, Amount, Mark, Rates, Index}
-use Rattle.calls.specs.Held.{Held}
+use Rattle.calls.specs.Held.{Held, held}
 use Rattle.calls.specs.Answers.{Said, onAnswer, Acceptance}
-use Rattle.calls.specs.Call.{Entry, entries}
+use Rattle.calls.specs.Call.{Entry, factsOf}
 use Rattle.ledger.specs.Table.{answerTo}
 
 pub record History : Type 0 where
@@ -31,9 +31,7 @@ history joined setting mark pot cap index filed withdrawn =
 
 -- "no operator, every setting at its fresh value, and two sums of 0"
 unfoldable pub plain : History
-plain =
-    history (λ operator. false) (λ operator which. 0) (λ operator indicator. false) 0 0 (λ number. 10000) (λ operator year figure. 0)
-    (λ operator year figure. 0)
+plain = history (λ o. false) (λ o which. 0) (λ o indicator. false) 0 0 (λ number. 10000) (λ o year figure. 0) (λ o year figure. 0)
 
 -- "A figure's total, its entries less withdrawals, is filed less withdrawn"
 unfoldable pub total : History → ℕ → ℕ → ℕ → ℕ
@@ -41,8 +39,7 @@ total h operator year figure = h .filed operator year figure - h .withdrawn oper
 
 -- what a history holds
 abbrev pub heldIn : History → Held
-heldIn h =
-    record { joined = h .joined; setting = h .setting; mark = h .mark; pot-rate = h .pot-rate; cap-rate = h .cap-rate; index = h .index; total = total h }
+heldIn h = held (h .joined) (h .setting) (h .mark) (h .pot-rate) (h .cap-rate) (h .index) (total h)
 
 -- a value replaced at one place
 unfoldable pub at1 : {A : Type 0} → ℕ → A → (ℕ → A) → ℕ → A
@@ -53,8 +50,7 @@ at2 i j value old k l = cond (eqb k i && eqb l j) value (old k l)
 
 -- an entry added to a sum
 unfoldable pub summed : Entry → (ℕ → ℕ → ℕ → ℕ) → ℕ → ℕ → ℕ → ℕ
-summed entry old k y f =
-    cond (eqb k (entry .operator) && eqb y (entry .year) && eqb f (entry .figure)) (old k y f + entry .value) (old k y f)
+summed entry old k y f = cond (eqb k (entry .operator) && eqb y (entry .year) && eqb f (entry .figure)) (old k y f + entry .value) (old k y f)
 
 -- an entry goes to the filed sum of its figure, "with sign 1 to the withdrawn one"
 unfoldable pub withEntry : History → Entry → History
@@ -69,17 +65,13 @@ withEntries h (entry ∷ rest) = withEntries (withEntry h entry) rest
 
 -- "Join adds the operator. Setting, mark and index replace the value they name, rates both rates."
 unfoldable pub recorded : History → Call → History
-recorded h (Join operator) =
-    history (at1 operator true (h .joined)) (h .setting) (h .mark) (h .pot-rate) (h .cap-rate) (h .index) (h .filed) (h .withdrawn)
-recorded h (Setting operator which value) =
-    history (h .joined) (at2 operator which value (h .setting)) (h .mark) (h .pot-rate) (h .cap-rate) (h .index) (h .filed) (h .withdrawn)
-recorded h (Interruption operator sign level cause start end weight) = withEntries h (entries (Interruption operator sign level cause start end weight))
-recorded h (Amount operator year figure sign value) = withEntries h (entries (Amount operator year figure sign value))
-recorded h (Mark operator indicator mark) =
-    history (h .joined) (h .setting) (at2 operator indicator (eqb mark 1) (h .mark)) (h .pot-rate) (h .cap-rate) (h .index) (h .filed) (h .withdrawn)
+recorded h (Join operator) = history (at1 operator true (h .joined)) (h .setting) (h .mark) (h .pot-rate) (h .cap-rate) (h .index) (h .filed) (h .withdrawn)
+recorded h (Setting operator which value) = history (h .joined) (at2 operator which value (h .setting)) (h .mark) (h .pot-rate) (h .cap-rate) (h .index) (h .filed) (h .withdrawn)
+recorded h (Interruption operator sign level cause start end weight) = withEntries h (factsOf (Interruption operator sign level cause start end weight) .entries)
+recorded h (Amount operator year figure sign value) = withEntries h (factsOf (Amount operator year figure sign value) .entries)
+recorded h (Mark operator indicator mark) = history (h .joined) (h .setting) (at2 operator indicator (eqb mark 1) (h .mark)) (h .pot-rate) (h .cap-rate) (h .index) (h .filed) (h .withdrawn)
 recorded h (Rates pot cap) = history (h .joined) (h .setting) (h .mark) pot cap (h .index) (h .filed) (h .withdrawn)
-recorded h (Index number value) =
-    history (h .joined) (h .setting) (h .mark) (h .pot-rate) (h .cap-rate) (at1 number value (h .index)) (h .filed) (h .withdrawn)
+recorded h (Index number value) = history (h .joined) (h .setting) (h .mark) (h .pot-rate) (h .cap-rate) (at1 number value (h .index)) (h .filed) (h .withdrawn)
 
 -- "The table of answers .. is looked up with what the history itself holds"
 unfoldable pub noteAnswer : History → Call → Said Acceptance
