@@ -1,4 +1,4 @@
--- The lowest of 1, 2 and 3 that applies is given, and a field's answers are told apart (specs/Laws.antt).
+-- The lowest of 1, 2 and 3 that applies to a field that is there is given, and a field's answers are told apart.
 -- Assumes nothing.
 use Prim.Native.Nat.{ℕ}
 use mathlib.Core.Path.{_≡_, refl, ap}
@@ -6,13 +6,12 @@ use mathlib.Core.List.{List}
 use Rattle.fields.specs.declared.Field.{Field}
 use Rattle.fields.specs.declared.Field.the-variants.{Filing, End, Refused}
 use Rattle.calls.specs.Answers.{numberOf}
-use Rattle.calls.specs.Laws.{risesFrom, ToldApart}
+use Rattle.calls.specs.Laws.{risesFrom, Lowest, ToldApart}
 use Rattle.calls.proofs.Lowest.{lowest}
 use Rattle.calls.proofs.SaidLaws.{numbers-apart}
 use Rattle.fields.specs.Field.{fieldLines, callAt, fieldSaid}
-use Rattle.fields.specs.Laws.{LowestOfFields}
 
-pub lowest-of-fields : (bytes : List ℕ) (at : ℕ) → LowestOfFields bytes at
+pub lowest-of-fields : (bytes : List ℕ) (at : ℕ) → Lowest (fieldLines bytes at) (callAt bytes at)
 unfolding risesFrom fieldLines
 lowest-of-fields bytes at = lowest (callAt bytes at) (fieldLines bytes at) refl
 

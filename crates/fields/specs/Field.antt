@@ -61,20 +61,19 @@ pub data Found : Type 0 where
   at-end : Found
   call-then : Call → ℕ → Found
 
+-- the length that the field at an offset gives
+abbrev pub sizeAt : List ℕ → ℕ → ℕ
+sizeAt bytes at = unsigned 2 bytes (at + 1)
+
 -- 1, 2 and 3, each with whether it applies to the field at an offset
 unfoldable pub fieldLines : List ℕ → ℕ → List (ℕ × Bool)
 fieldLines bytes at =
-    let left : ℕ = length bytes - at in
-    let size : ℕ = unsigned 2 bytes (at + 1) in
-    (1, ltb left 3 || ltb (left - 3) size)
-    ∷ (2, not (isKnown (byte bytes at)))
-    ∷ (3, not (eqb size (tagged (byte bytes at) .size)))
-    ∷ []
+    -- "1 or 2 bytes left, or the length passes the end"
+    (1, ltb (length bytes - at) 3 || ltb (length bytes - at - 3) (sizeAt bytes at))
+    ∷ (2, not (isKnown (byte bytes at))) ∷ (3, not (eqb (sizeAt bytes at) (tagged (byte bytes at) .size))) ∷ []
 
 unfoldable pub callAt : List ℕ → ℕ → Found
-callAt bytes at =
-    let size : ℕ = unsigned 2 bytes (at + 1) in
-    call-then (tagged (byte bytes at) .call (take size (drop (at + 3) bytes))) (at + 3 + size)
+callAt bytes at = call-then (tagged (byte bytes at) .call (take (sizeAt bytes at) (drop (at + 3) bytes))) (at + 3 + sizeAt bytes at)
 
 unfoldable pub fieldAt : List ℕ → ℕ → Said Found
 fieldAt bytes at = cond (eqb (length bytes - at) 0) (accepted at-end) (firstOf (fieldLines bytes at) (callAt bytes at))

@@ -1,3 +1,2 @@
 -- The definitions of `fields`.
 pub mod Field
-pub mod Laws
