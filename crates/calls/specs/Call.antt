@@ -33,10 +33,7 @@ yearOf end = natAbs end / yearLength
 
 -- "An interruption of 180 seconds or less is left out as short; else cause 1, 2 or 3 is left out under that cause; else it counts"
 unfoldable pub outcome : ℕ → ℕ → ℕ → Acceptance
-outcome cause seconds year =
-    cond (leb seconds 180) left-out-as-short
-    (cond (leb 1 cause && leb cause 3) (left-out-under cause)
-    (counted-in year))
+outcome cause seconds year = cond (leb seconds 180) left-out-as-short (cond (leb 1 cause && leb cause 3) (left-out-under cause) (counted-in year))
 
 -- a value for a figure of an operator and year: added with sign 0, subtracted with sign 1
 pub record Entry : Type 0 where

@@ -16,7 +16,7 @@ use Rattle.ledger.specs.Calls.{changed, outcomeOf, apply, Outcome as Given}
 use Rattle.history.proofs.Kept.{stays}
 use Rattle.fields.specs.Field.{Found, at-end, call-then, fieldAt}
 use Rattle.filing.specs.Reader.{Fields, field, broken, followed, fieldsFrom, Outcome, reading, run}
-use Rattle.filing.specs.Steps.{Progress, stopped, moved, advanced, steppedOn, stepped}
+use Rattle.filing.specs.Steps.{Progress, stopped, advanced, steppedOn, stepped}
 use Rattle.fields.proofs.FieldLaws.{Stands, ends, stands}
 
 -- what follows an answer of the field reader
@@ -47,6 +47,10 @@ refused-leaves b call = go (changed b call) (answerTo (isJoined b) (figureOf b) 
     go : (new : Book) (answer : Said Acceptance) → isRefused (outcomeOf b new answer .said) ≡ true → outcomeOf b new answer .book ≡ b
     go new (accepted value) e = absurd (false≢true e)
     go new (refused-by number) e = refl
+
+-- a call that was applied: the next field follows
+abbrev moved : Outcome → ℕ → Given → Progress
+moved r next given = record { reached = reading (given .book) (r .applied + 1) next (given .said); continues = true }
 
 -- what a reading comes to in the end
 unfoldable pub completed : List ℕ → Progress → Outcome
@@ -87,7 +91,7 @@ module _ (bytes : List ℕ) (r : Outcome) where
   left = fieldsFrom (length bytes) bytes (r .offset)
 
   pub step-completed : completed bytes (stepped r (fieldAt bytes (r .offset))) ≡ run (r .book) (r .applied) left
-  unfolding completed stepped steppedOn stopped advanced moved run followed onAnswer
+  unfolding completed stepped steppedOn stopped advanced run followed onAnswer
   step-completed = rw (fields-next bytes (r .offset)) (go (fieldAt bytes (r .offset)))
     where
       by-answer : (call : Call) (next : ℕ) (refused : Bool) → isRefused (apply (r .book) call .said) ≡ refused
@@ -103,7 +107,7 @@ module _ (bytes : List ℕ) (r : Outcome) where
       go (refused-by number) = refl
 
   pub step-follows : Ready bytes r → Follows bytes r (stepped r (fieldAt bytes (r .offset)))
-  unfolding remaining stepped steppedOn stopped advanced moved onAnswer
+  unfolding remaining stepped steppedOn stopped advanced onAnswer
   step-follows (counted, inside, ranged) = go (fieldAt bytes (r .offset)) (stands bytes (r .offset))
     where
       by-answer : (given : Given) (next : ℕ) (refused : Bool) → inRange (given .book) ≡ true → (r .offset + 3 ≤ next) × (next ≤ length bytes)

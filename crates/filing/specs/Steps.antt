@@ -20,12 +20,11 @@ toldWalk walk = record { reached = told (walk .reading); continues = walk .conti
 unfoldable pub stopped : Outcome → Said Acceptance → Progress
 stopped r answer = record { reached = reading (r .book) (r .applied) (r .offset) answer; continues = false }
 
--- a call that was applied: the next field follows
-unfoldable pub moved : Outcome → ℕ → Given → Progress
-moved r next given = record { reached = reading (given .book) (r .applied + 1) next (given .said); continues = true }
-
+-- a call that was refused stops it; after one that was applied the next field follows
 unfoldable pub advanced : Outcome → ℕ → Given → Progress
-advanced r next given = cond (isRefused (given .said)) (stopped r (given .said)) (moved r next given)
+advanced r next given =
+    cond (isRefused (given .said)) (stopped r (given .said))
+    (record { reached = reading (given .book) (r .applied + 1) next (given .said); continues = true })
 
 unfoldable pub steppedOn : Outcome → Found → Progress
 steppedOn r at-end = stopped r (accepted yes-said)

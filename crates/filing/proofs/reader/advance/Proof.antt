@@ -6,7 +6,7 @@ use mathlib.Core.Bool.{true, false}
 use Rattle.calls.specs.Answers.{isRefused}
 use Rattle.ledger.specs.Calls.{apply}
 use Rattle.filing.specs.Reader.{reading}
-use Rattle.filing.specs.Steps.{stopped, moved, advanced}
+use Rattle.filing.specs.Steps.{stopped, advanced}
 use Rattle.filing.proofs.WalkLaws.{refused-leaves}
 use Rattle.filing.proofs.reader.advance.Statement.{statement}
 use Rattle.filing.proofs.reader.advance.Tie as tie
@@ -32,7 +32,7 @@ add-t9 c = search needs
 
 -- applied
 returns-2 : tie.Need-returns-2
-unfolding advanced moved
+unfolding advanced
 returns-2 c =
     let start = c .before .before .before .before .before in
     let gives = c .before .before .before .before .apply .ensures in
