@@ -11,7 +11,7 @@ use native.Mathlib.Decide.{ℕ-discrete, decLt}
 use lib.ListN.{length, getD, set, length-set}
 use lib.Seq.{getD-set-same, getD-set-other}
 use Rattle.apportion.specs.Sum.{sum}
-use Rattle.apportion.specs.Share.{foremost, award, incremented}
+use Rattle.apportion.specs.Share.{foremost, award}
 use Rattle.apportion.proofs.Sums.{sum-set, sum-bound}
 use Rattle.apportion.proofs.Order.{Before, no-less, foremost-lt, foremost-first}
 
@@ -43,20 +43,19 @@ next-positive remaining pos = go (decLt 0 (getD remaining (next remaining) 0))
         absurd (omega (arith, all, mul-zero (length remaining)))
 
 -- a list with one unit more at a place
+abbrev pub incremented : List ℕ → ℕ → List ℕ
+incremented shares place = set shares place (getD shares place 0 + 1)
+
 pub incremented-same : (shares : List ℕ) (i : ℕ) → i < length shares → getD (incremented shares i) i 0 ≡ getD shares i 0 + 1
-unfolding incremented
 incremented-same shares i lt = getD-set-same shares i _ 0 lt
 
 pub incremented-other : (shares : List ℕ) (i j : ℕ) → j ≢ i → getD (incremented shares i) j 0 ≡ getD shares j 0
-unfolding incremented
 incremented-other shares i j ne = getD-set-other shares i j _ 0 ne
 
 pub length-incremented : (shares : List ℕ) (i : ℕ) → length (incremented shares i) ≡ length shares
-unfolding incremented
 length-incremented shares i = length-set shares i _
 
 pub sum-incremented : (shares : List ℕ) (i : ℕ) → i < length shares → sum (incremented shares i) ≡ sum shares + 1
-unfolding incremented
 sum-incremented shares i lt = omega (arith, sum-set shares i (getD shares i 0 + 1) lt)
 
 -- remainders below s and the floors at the start; what remains and the shares now, with units still to hand out
@@ -165,6 +164,6 @@ module _ (s : ℕ) (start base : List ℕ) where
 -- one unit handed out, as the loop does it
 pub award-step : (units n place : ℕ) (remaining shares : List ℕ) → 0 < units → length remaining ≡ n → place ≡ foremost remaining n
     → award (units - 1) (set remaining place 0) (set shares place (getD shares place 0 + 1)) ≡ award units remaining shares
-unfolding award incremented
+unfolding award
 award-step zero n place remaining shares pos long e = absurd (omega arith)
 award-step (suc units) n place remaining shares pos long e = rw (sub-one (suc units), e, ← long) refl

@@ -3,7 +3,7 @@
 use mathlib.Core.Path.{_≡_, refl, sym, ap, _∙_}
 use mathlib.Core.Logic.{_⊎_, inl, inr, ⊎-elim}
 use mathlib.Core.List.{List, map}
-use Prim.Native.Nat.{ℕ, _+_, _*_, _/_, _%_, _≤_, _<_}
+use Prim.Native.Nat.{ℕ, _+_, _-_, _*_, _/_, _%_, _≤_, _<_}
 use native.Mathlib.Nat.{mul-zero, div-zero, zero-div, zero-mod, mod-lt, div-add-mod', mul-le-mul-right, le-of-mul-le-mul-right, lt-of-mul-lt-mul-right, add-sub-of-le}
 use native.Mathlib.Numerals.{add-one}
 use native.Mathlib.Omega.{arith}
@@ -11,11 +11,26 @@ use native.Mathlib.Decide.{decLt}
 use lib.ListN.{length, getD, length-map}
 use borrow.Author.Tests.{eq-eqb, ne-eqb}
 use Rattle.apportion.specs.Sum.{sum}
-use Rattle.apportion.specs.Share.{floors, remainders, leftOver, award, share}
-use Rattle.apportion.specs.Laws.{weightAt, floorAt, remainderAt, shareAt, Shared}
+use Rattle.apportion.specs.Share.{floors, remainders, award, share}
+use Rattle.apportion.specs.Laws.{Shared}
 use Rattle.apportion.proofs.Sums.{map-at, divisions}
-use Rattle.apportion.proofs.Order.{Before, no-less}
+use Rattle.apportion.proofs.Order.{Before}
 use Rattle.apportion.proofs.Awarded.{Serving, awarded, award-sum}
+
+module _ (T : ℕ) (weights : List ℕ) where
+  -- what stands at place i
+  abbrev weightAt : ℕ → ℕ
+  weightAt i = getD weights i 0
+
+  abbrev floorAt : ℕ → ℕ
+  floorAt i = getD (floors T weights) i 0
+
+  abbrev remainderAt : ℕ → ℕ
+  remainderAt i = getD (remainders T weights) i 0
+
+  -- "the units left over"
+  abbrev pub leftOver : ℕ
+  leftOver = T - sum (floors T weights)
 
 -- the two cases of the definition
 pub share-none : (T : ℕ) (weights : List ℕ) → sum weights ≡ 0 → share T weights ≡ map (λ (w : ℕ). 0) weights
@@ -55,7 +70,6 @@ module _ (T : ℕ) (weights : List ℕ) where
 
     -- the remainders are as many times the divisor as there are units left over
     pub units-left : leftOver T weights * sum weights ≡ sum (remainders T weights)
-    unfolding leftOver
     units-left =
         omega (arith, made-up, ap (λ (n : ℕ). n * sum weights) (add-sub-of-le floors-le))
 
@@ -91,7 +105,6 @@ module _ (T : ℕ) (weights : List ℕ) where
     put-together i lt = rw (floor-at i lt, remainder-at i lt) (div-add-mod' (T * weightAt T weights i) (sum weights))
 
     whole-some : sum out ≡ T
-    unfolding leftOver
     whole-some = omega (arith, award-sum _ _ _ (leftOver T weights) _ _ pos started, floors-le)
 
     none-some : (i : ℕ) → i < length weights → weightAt T weights i ≡ 0 → getD out i 0 ≡ 0
@@ -121,15 +134,14 @@ module _ (T : ℕ) (weights : List ℕ) where
           long = rw (share-some T weights pos) (ended .1 .as-long ∙ length-remainders);
           whole = λ _. rw (share-some T weights pos) whole-some;
           floor-or-next = λ i lt. rw (share-some T weights pos) (⊎-elim (λ w. inl w) (λ v. inr (v .0)) (served i lt));
-          largest = λ i j li lj. rw (share-some T weights pos) (λ ei ej. no-less _ _ _ _ (ahead i j li lj ei ej));
-          lower = λ i j li lj. rw (share-some T weights pos) (λ ei ej e. ⊎-elim (λ a. absurd (omega (arith, a, e))) (λ b. b .1) (ahead i j li lj ei ej));
+          order = λ i j li lj. rw (share-some T weights pos) (ahead i j li lj);
           none = λ i lt e. rw (share-some T weights pos) (none-some i lt e);
           within = λ le i lt. rw (share-some T weights pos) (within-some le i lt);
           alike = λ i j li lj e. rw (share-some T weights pos) (alike-some i j li lj e);
         }
 
   module _ (zero-sum : sum weights ≡ 0) where
-    zero-share : (i : ℕ) → i < length weights → shareAt T weights i ≡ 0
+    zero-share : (i : ℕ) → i < length weights → getD (share T weights) i 0 ≡ 0
     zero-share i lt = rw (share-none T weights zero-sum) (map-at _ weights i lt)
 
     zero-floor : (i : ℕ) → i < length weights → floorAt T weights i ≡ 0
@@ -141,8 +153,7 @@ module _ (T : ℕ) (weights : List ℕ) where
           long = rw (share-none T weights zero-sum) (length-map weights _);
           whole = λ pos. absurd (omega (arith, pos, zero-sum));
           floor-or-next = λ i lt. inl (zero-share i lt ∙ sym (zero-floor i lt));
-          largest = λ i j li lj ei ej. absurd (omega (arith, zero-share i li, ei));
-          lower = λ i j li lj ei ej e. absurd (omega (arith, zero-share i li, ei));
+          order = λ i j li lj ei ej. absurd (omega (arith, zero-share i li, ei));
           none = λ i lt e. zero-share i lt;
           within = λ le i lt. omega (arith, zero-share i lt);
           alike = λ i j li lj e. omega (arith, zero-share i li);

@@ -28,24 +28,14 @@ unfoldable pub foremost : List ℕ → ℕ → ℕ
 foremost remaining zero = 0
 foremost remaining (suc n) = earlier remaining n (foremost remaining n)
 
--- one unit more at a place
-unfoldable pub incremented : List ℕ → ℕ → List ℕ
-incremented shares place = set shares place (getD shares place 0 + 1)
-
 -- units handed out one each: the foremost place gets one, and its remainder is spent
 unfoldable pub award : ℕ → List ℕ → List ℕ → List ℕ
 award zero remaining shares = shares
 award (suc units) remaining shares =
     let place : ℕ = foremost remaining (length remaining) in
-    award units (set remaining place 0) (incremented shares place)
+    award units (set remaining place 0) (set shares place (getD shares place 0 + 1))
 
--- "the units left over"
-unfoldable pub leftOver : ℕ → List ℕ → ℕ
-leftOver T weights = T - sum (floors T weights)
-
--- the shares of T by weights; "All weights 0: all get 0"
+-- the shares of T by weights: the floors, and "the units left over"; "All weights 0: all get 0"
 unfoldable pub share : ℕ → List ℕ → List ℕ
 share T weights =
-    cond (eqb (sum weights) 0)
-    (map (λ (weight : ℕ). 0) weights)
-    (award (leftOver T weights) (remainders T weights) (floors T weights))
+    cond (eqb (sum weights) 0) (map (λ (weight : ℕ). 0) weights) (award (T - sum (floors T weights)) (remainders T weights) (floors T weights))

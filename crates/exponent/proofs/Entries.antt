@@ -2,10 +2,14 @@
 -- Assumes nothing.
 use mathlib.Core.Path.{_≡_, refl, _∙_, sym, ap}
 use mathlib.Core.List.{List, [], _∷_}
-use Prim.Native.Nat.{ℕ, zero, suc, _+_, _<_}
+use Prim.Native.Nat.{ℕ, zero, suc, _+_, _*_, _/_, _<_}
 use native.Mathlib.Nat.{add-zero, zero-add, add-suc, suc-add, le-of-suc-le-suc, not-suc-le-zero}
 use lib.ListN.{getD}
-use Rattle.exponent.specs.Weight.{next, weightOf}
+use Rattle.exponent.specs.Weight.{weightOf}
+
+-- 999/1000 of a weight, rounded down
+abbrev pub next : ℕ → ℕ
+next weight = weight * 999 / 1000
 
 -- n weights, made one from the other. The proof of `weight` has the whole table compared with these, once.
 abbrev pub recurrence : ℕ → ℕ → List ℕ

@@ -1,20 +1,18 @@
--- Laws of the exponent weights, from their recurrence (specs/Laws.antt).
+-- Laws of the exponent weights, from their recurrence (specs/Weight.antt).
 -- Assumes nothing.
 use Prim.Native.Nat.{ℕ, zero, suc, _≤_, _<_}
 use mathlib.Core.Logic.{⊎-elim}
 use native.Mathlib.Nat.{eq-or-lt-of-le, lt-of-lt-of-le}
 use lib.Dec.{lit<}
 use native.Mathlib.Omega.{arith}
-use Rattle.exponent.specs.Weight.{next, weightOf}
-use Rattle.exponent.specs.Laws.{WeightsFall}
+use Rattle.exponent.specs.Weight.{weightOf, WeightsFall}
+use Rattle.exponent.proofs.Entries.{next}
 
 next-le : (weight : ℕ) → next weight ≤ weight
-unfolding next
 next-le weight = omega arith
 
 -- a weight above 0 falls
 next-lt : (weight : ℕ) → 0 < weight → next weight < weight
-unfolding next
 next-lt weight pos = omega arith
 
 -- a later weight is no larger
@@ -35,7 +33,7 @@ pub weight-least : (k : ℕ) → k ≤ 1000 → weightOf 1000 ≤ weightOf k
 weight-least k le = weight-mono k 1000 le
 
 pub weight-positive : (k : ℕ) → k ≤ 1000 → 0 < weightOf k
-unfolding weightOf next
+unfolding weightOf
 weight-positive k le = lt-of-lt-of-le (lit< tt) (weight-least k le)
 
 -- strict fall

@@ -1,3 +1,2 @@
 -- The definitions of `exponent`.
 pub mod Weight
-pub mod Laws

@@ -1,2 +1,3 @@
 -- The laws that the proofs of `guarantees`, and of the crates above it, use.
 pub mod MarkedHold
+pub mod AnswersGiven

@@ -13,7 +13,7 @@ use Rattle.filing.specs.Reader.{reading, read}
 use Rattle.filing.proofs.Opened.{filing-opened}
 use Rattle.text.proofs.Opened.{text-opened}
 use Rattle.report.specs.Report.{textOf}
-use Rattle.output.specs.Output.{longestFiling, refusedBy, refusedField, settlementText, readingText, outputOf}
+use Rattle.output.specs.Output.{refusedBy, refusedField, settlementText, readingText, outputOf}
 use Rattle.output.proofs.OutputLaws.{output-refused}
 use Rattle.output.proofs.Opened.{output-opened}
 use Rattle.history.specs.Demand.{bookOf}
@@ -60,7 +60,7 @@ unfolding output-opened
 printed-m = refl
 
 output-m : outputOf filingM ≡ linesM
-unfolding outputOf longestFiling readingText settlementText onAnswer
+unfolding outputOf readingText settlementText onAnswer
 output-m = rw (read-m, settles-m) printed-m
 
 pub all-hold : All marked

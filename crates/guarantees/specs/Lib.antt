@@ -1,2 +1,3 @@
 -- The definitions of `guarantees`.
 pub mod Marked
+pub mod Answers

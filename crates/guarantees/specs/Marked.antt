@@ -32,34 +32,23 @@ lasting start end = Interruption 0 0 0 0 (pos start) (pos end) 1
 -- fees 50,000, connections 100; rates 5000 and" a cap rate
 abbrev pub caseM : ℕ → List Call
 caseM cap =
-    Join 0 ∷ Join 1
-    ∷ Setting 0 0 100 ∷ Setting 1 0 100 ∷ Setting 0 1 1000 ∷ Setting 1 1 3000 ∷ Setting 0 2 100000000 ∷ Setting 1 2 200000000
-    ∷ Amount 1 0 4 0 50000 ∷ Amount 1 0 5 0 100
-    ∷ Rates 5000 cap ∷ []
+    Join 0 ∷ Join 1 ∷ Setting 0 0 100 ∷ Setting 1 0 100 ∷ Setting 0 1 1000 ∷ Setting 1 1 3000 ∷ Setting 0 2 100000000 ∷ Setting 1 2 200000000
+    ∷ Amount 1 0 4 0 50000 ∷ Amount 1 0 5 0 100 ∷ Rates 5000 cap ∷ []
 
--- the same in the bytes of a filing, a field a line
+-- the same in the bytes of a filing, two fields a line and the rates
 abbrev pub filingM : List ℕ
 filingM =
-    1 ∷ 0 ∷ 1 ∷ 0
-    ∷ 1 ∷ 0 ∷ 1 ∷ 1
-    ∷ 2 ∷ 0 ∷ 10 ∷ 0 ∷ 0 ∷ 0 ∷ 0 ∷ 0 ∷ 0 ∷ 0 ∷ 0 ∷ 0 ∷ 100
-    ∷ 2 ∷ 0 ∷ 10 ∷ 1 ∷ 0 ∷ 0 ∷ 0 ∷ 0 ∷ 0 ∷ 0 ∷ 0 ∷ 0 ∷ 100
-    ∷ 2 ∷ 0 ∷ 10 ∷ 0 ∷ 1 ∷ 0 ∷ 0 ∷ 0 ∷ 0 ∷ 0 ∷ 0 ∷ 3 ∷ 232
-    ∷ 2 ∷ 0 ∷ 10 ∷ 1 ∷ 1 ∷ 0 ∷ 0 ∷ 0 ∷ 0 ∷ 0 ∷ 0 ∷ 11 ∷ 184
-    ∷ 2 ∷ 0 ∷ 10 ∷ 0 ∷ 2 ∷ 0 ∷ 0 ∷ 0 ∷ 0 ∷ 5 ∷ 245 ∷ 225 ∷ 0
-    ∷ 2 ∷ 0 ∷ 10 ∷ 1 ∷ 2 ∷ 0 ∷ 0 ∷ 0 ∷ 0 ∷ 11 ∷ 235 ∷ 194 ∷ 0
-    ∷ 4 ∷ 0 ∷ 12 ∷ 1 ∷ 0 ∷ 4 ∷ 0 ∷ 0 ∷ 0 ∷ 0 ∷ 0 ∷ 0 ∷ 0 ∷ 195 ∷ 80
-    ∷ 4 ∷ 0 ∷ 12 ∷ 1 ∷ 0 ∷ 5 ∷ 0 ∷ 0 ∷ 0 ∷ 0 ∷ 0 ∷ 0 ∷ 0 ∷ 0 ∷ 100
+    1 ∷ 0 ∷ 1 ∷ 0 ∷ 1 ∷ 0 ∷ 1 ∷ 1
+    ∷ 2 ∷ 0 ∷ 10 ∷ 0 ∷ 0 ∷ 0 ∷ 0 ∷ 0 ∷ 0 ∷ 0 ∷ 0 ∷ 0 ∷ 100 ∷ 2 ∷ 0 ∷ 10 ∷ 1 ∷ 0 ∷ 0 ∷ 0 ∷ 0 ∷ 0 ∷ 0 ∷ 0 ∷ 0 ∷ 100
+    ∷ 2 ∷ 0 ∷ 10 ∷ 0 ∷ 1 ∷ 0 ∷ 0 ∷ 0 ∷ 0 ∷ 0 ∷ 0 ∷ 3 ∷ 232 ∷ 2 ∷ 0 ∷ 10 ∷ 1 ∷ 1 ∷ 0 ∷ 0 ∷ 0 ∷ 0 ∷ 0 ∷ 0 ∷ 11 ∷ 184
+    ∷ 2 ∷ 0 ∷ 10 ∷ 0 ∷ 2 ∷ 0 ∷ 0 ∷ 0 ∷ 0 ∷ 5 ∷ 245 ∷ 225 ∷ 0 ∷ 2 ∷ 0 ∷ 10 ∷ 1 ∷ 2 ∷ 0 ∷ 0 ∷ 0 ∷ 0 ∷ 11 ∷ 235 ∷ 194 ∷ 0
+    ∷ 4 ∷ 0 ∷ 12 ∷ 1 ∷ 0 ∷ 4 ∷ 0 ∷ 0 ∷ 0 ∷ 0 ∷ 0 ∷ 0 ∷ 0 ∷ 195 ∷ 80 ∷ 4 ∷ 0 ∷ 12 ∷ 1 ∷ 0 ∷ 5 ∷ 0 ∷ 0 ∷ 0 ∷ 0 ∷ 0 ∷ 0 ∷ 0 ∷ 0 ∷ 100
     ∷ 6 ∷ 0 ∷ 8 ∷ 0 ∷ 0 ∷ 19 ∷ 136 ∷ 0 ∷ 0 ∷ 39 ∷ 16 ∷ []
 
 -- the lines that 01 shows for M
 abbrev pub linesM : List ℕ
 linesM =
-    bytesOf
-    "operator points out in adjustment\n0 65036 375000 386463 11463\n1 62464 1125000 1113537 -11463\nall 127500 1500000 1500000 0\n"
-
-abbrev pub firstTwo : {A : Type 0} → List A → List A
-firstTwo list = take 2 list
+    bytesOf "operator points out in adjustment\n0 65036 375000 386463 11463\n1 62464 1125000 1113537 -11463\nall 127500 1500000 1500000 0\n"
 
 -- every statement of a list holds
 abbrev pub All : List (Type 0) → Type 0
@@ -75,16 +64,14 @@ refusedFilings =
     ∷ (outputOf (1 ∷ 0 ∷ 2 ∷ 0 ∷ 0 ∷ []) ≡ bytesOf "refused 3 at 0\n")
     ∷ (outputOf (5 ∷ 0 ∷ 3 ∷ 0 ∷ 6 ∷ 1 ∷ []) ≡ bytesOf "refused 5 at 0\n")
     ∷ (outputOf (1 ∷ 0 ∷ 1 ∷ 0 ∷ 1 ∷ 0 ∷ 1 ∷ 0 ∷ []) ≡ bytesOf "refused 6 at 4\n")
-    ∷ (outputOf (5 ∷ 0 ∷ 3 ∷ 0 ∷ 0 ∷ 1 ∷ []) ≡ bytesOf "refused 7 at 0\n")
-    ∷ []
+    ∷ (outputOf (5 ∷ 0 ∷ 3 ∷ 0 ∷ 0 ∷ 1 ∷ []) ≡ bytesOf "refused 7 at 0\n") ∷ []
 
 abbrev pub marked : List (Type 0)
 marked =
     -- "sharing 10 by 1, 1, 1 gives 4, 3, 3"
     (share 10 (1 ∷ 1 ∷ 1 ∷ []) ≡ 4 ∷ 3 ∷ 3 ∷ [])
     -- "the table's weight for k = 4 is 996,005,996 (k = 0 has the first)"
-    ∷ (weightOf 4 ≡ 996005996)
-    ∷ (weightOf 0 ≡ 1000000000)
+    ∷ (weightOf 4 ≡ 996005996) ∷ (weightOf 0 ≡ 1000000000)
     -- "180 s is short, 181 s counts"
     ∷ (lastSaid (Join 0 ∷ lasting 0 180 ∷ []) ≡ accepted left-out-as-short)
     ∷ (lastSaid (Join 0 ∷ lasting 0 181 ∷ []) ≡ accepted (counted-in 0))
@@ -99,11 +86,10 @@ marked =
     -- "The program .. prints this for marked case M"
     ∷ (outputOf filingM ≡ linesM)
     -- "M with cap rate 50 adjusts by 5000 and -5000"
-    ∷ (firstTwo (settled (bookOf (caseM 50)) .settlement .adjustments) ≡ pos 5000 ∷ negℤ (pos 5000) ∷ [])
+    ∷ (take 2 (settled (bookOf (caseM 50)) .settlement .adjustments) ≡ pos 5000 ∷ negℤ (pos 5000) ∷ [])
     -- filings that are refused at a field
     ∷ All refusedFilings
     -- "a refused settlement `refused 10`": a fresh book
     ∷ (outputOf [] ≡ bytesOf "refused 10\n")
     -- "weights 10, 8, 4 with the first two better become 18, 18, 8"
-    ∷ (take 3 (each (levelled (λ (operator : ℕ). ltb operator 2) (λ (operator : ℕ). getD (10 ∷ 8 ∷ 4 ∷ []) operator 0))) ≡ 18 ∷ 18 ∷ 8 ∷ [])
-    ∷ []
+    ∷ (take 3 (each (levelled (λ (operator : ℕ). ltb operator 2) (λ (operator : ℕ). getD (10 ∷ 8 ∷ 4 ∷ []) operator 0))) ≡ 18 ∷ 18 ∷ 8 ∷ []) ∷ []

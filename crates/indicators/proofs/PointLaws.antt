@@ -8,7 +8,7 @@ use native.Mathlib.Nat.{mul-zero, mul-comm, mul-le-mul-left, mul-le-mul, lt-of-l
 use native.Mathlib.Omega.{arith}
 use native.Mathlib.Decide.{decLt}
 use lib.Bits.{and-le-l}
-use lib.Count.{ones-le}
+use lib.Count.{ones, ones-le}
 use lib.ListN.{length, getD}
 use Rattle.calls.specs.Masks.{has}
 use Rattle.calls.proofs.Flags.{and-left}
@@ -21,9 +21,9 @@ use Rattle.apportion.specs.Laws.{Shared}
 use Rattle.apportion.proofs.Sums.{element-le}
 use Rattle.apportion.proofs.Shared.{shared}
 use Rattle.values.specs.Operators.{count}
-use Rattle.values.specs.Indicator.{Indicator, reliableMask, isReliable, joinedCount, reliableCount, pool, scores}
+use Rattle.values.specs.Indicator.{Indicator, reliableMask, pool, scores}
 use Rattle.indicators.specs.Points.{exponentWeight, isBetter, isLevelled, weights, points}
-use Rattle.indicators.specs.Laws.{PointsMadeUpIfInRange}
+use Rattle.indicators.specs.Laws.{PointsMadeUp}
 use Rattle.values.proofs.InRange.{mark-set-small}
 use Rattle.values.proofs.Tables.{sum-none}
 use Rattle.values.proofs.CountLaws.{count-positive, count-mono, some-passes}
@@ -32,8 +32,8 @@ use Rattle.indicators.proofs.WeightLaws.{together, over-most, over-some
 
 module _ (b : Book) (indicator : Indicator) where
   -- who takes part has joined
-  pub reliable-joined : (operator : ℕ) → isReliable b indicator operator ≡ true → isJoined b operator ≡ true
-  unfolding isReliable reliableMask isJoined
+  pub reliable-joined : (operator : ℕ) → has (reliableMask b indicator) operator ≡ true → isJoined b operator ≡ true
+  unfolding reliableMask isJoined
   reliable-joined operator reliable = and-left _ _ (sym (and-has _ _ operator) ∙ reliable)
 
   abbrev weighed : List ℕ
@@ -50,76 +50,73 @@ module _ (b : Book) (indicator : Indicator) where
   place : (operator : ℕ) → operator < 16 → operator < length weighed
   place operator lt = rw weights-length lt
 
-  pub points-none : (operator : ℕ) → operator < 16 → isReliable b indicator operator ≡ false → getD (points b indicator) operator 0 ≡ 0
-  unfolding points isReliable
+  pub points-none : (operator : ℕ) → operator < 16 → has (reliableMask b indicator) operator ≡ false → getD (points b indicator) operator 0 ≡ 0
+  unfolding points
   points-none operator lt marked = points-shared .none operator (place operator lt) (weight-none _ _ _ operator lt marked)
 
   -- an operator with points takes part
-  pub points-reliable : (operator : ℕ) → operator < 16 → 0 < getD (points b indicator) operator 0 → isReliable b indicator operator ≡ true
-  points-reliable operator lt pos = go (isReliable b indicator operator) refl
+  pub points-reliable : (operator : ℕ) → operator < 16 → 0 < getD (points b indicator) operator 0 → has (reliableMask b indicator) operator ≡ true
+  points-reliable operator lt pos = go (has (reliableMask b indicator) operator) refl
     where
-      go : (t : Bool) → isReliable b indicator operator ≡ t → isReliable b indicator operator ≡ true
+      go : (t : Bool) → has (reliableMask b indicator) operator ≡ t → has (reliableMask b indicator) operator ≡ true
       go true reliable = reliable
       go false marked = absurd (omega (arith, pos, points-none operator lt marked))
 
   module _ (ranged : inRange b ≡ true) where
     -- "those without a mark at this indicator"
-    pub reliable-exactly : (operator : ℕ) → operator < 16 → isReliable b indicator operator ≡ isJoined b operator && not (isMarked b operator (indicator .number))
-    unfolding isReliable reliableMask isJoined isMarked
+    pub reliable-exactly : (operator : ℕ) → operator < 16 → has (reliableMask b indicator) operator ≡ isJoined b operator && not (isMarked b operator (indicator .number))
+    unfolding reliableMask isJoined isMarked
     reliable-exactly operator lt =
         and-has _ _ operator ∙ ap (λ (t : Bool). has (b .joined) operator && t) (complement 16 _ operator (mark-set-small b ranged (indicator .number)) lt)
 
     small : b .joined < 2 ^ 16
     small = bounded b ranged .joined-small
 
-    pub joined-counted : joinedCount b ≡ count 16 (isJoined b)
-    unfolding joinedCount isJoined
+    pub joined-counted : ones (b .joined) ≡ count 16 (isJoined b)
+    unfolding isJoined
     joined-counted = ones-counted 16 (b .joined) small
 
     pub reliable-small : reliableMask b indicator < 2 ^ 16
     unfolding reliableMask
     reliable-small = lt-of-le-of-lt (and-le-l (b .joined) _) small
 
-    pub reliable-counted : reliableCount b indicator ≡ count 16 (isReliable b indicator)
-    unfolding reliableCount isReliable
+    pub reliable-counted : ones (reliableMask b indicator) ≡ count 16 (has (reliableMask b indicator))
     reliable-counted = ones-counted 16 (reliableMask b indicator) reliable-small
 
-    pub joined-few : joinedCount b ≤ 16
-    unfolding joinedCount
+    pub joined-few : ones (b .joined) ≤ 16
     joined-few = ones-le 16 (b .joined) small
 
-    pub reliable-few : reliableCount b indicator ≤ joinedCount b
-    reliable-few = rw (reliable-counted, joined-counted) (count-mono 16 (isReliable b indicator) (isJoined b) reliable-joined)
+    pub reliable-few : ones (reliableMask b indicator) ≤ ones (b .joined)
+    reliable-few = rw (reliable-counted, joined-counted) (count-mono 16 (has (reliableMask b indicator)) (isJoined b) reliable-joined)
 
     -- no pool passes three years of its points
     pub pool-most : pool b indicator ≤ 300 * indicator .points
     unfolding pool
     pool-most =
-        over-most (300 * indicator .points * reliableCount b indicator) (joinedCount b) (300 * indicator .points)
-        (rw (mul-comm (joinedCount b) (300 * indicator .points)) (mul-le-mul-left (300 * indicator .points) reliable-few))
+        over-most (300 * indicator .points * ones (reliableMask b indicator)) (ones (b .joined)) (300 * indicator .points)
+        (rw (mul-comm (ones (b .joined)) (300 * indicator .points)) (mul-le-mul-left (300 * indicator .points) reliable-few))
 
     -- a pool is above 0 where points are to be had and somebody takes part
-    pub pool-above : 0 < indicator .points → (operator : ℕ) → operator < 16 → isReliable b indicator operator ≡ true → 0 < pool b indicator
+    pub pool-above : 0 < indicator .points → (operator : ℕ) → operator < 16 → has (reliableMask b indicator) operator ≡ true → 0 < pool b indicator
     unfolding pool
     pool-above worth operator lt reliable =
-        let m : 0 < reliableCount b indicator = rw reliable-counted (count-positive 16 _ operator lt reliable) in
-        let n : 0 < joinedCount b = rw joined-counted (count-positive 16 _ operator lt (reliable-joined operator reliable)) in
-        rw (over-some _ (joinedCount b) n) (le-div-iff-mul-le n .1 (omega (arith, joined-few, mul-le-mul worth m)))
+        let m : 0 < ones (reliableMask b indicator) = rw reliable-counted (count-positive 16 _ operator lt reliable) in
+        let n : 0 < ones (b .joined) = rw joined-counted (count-positive 16 _ operator lt (reliable-joined operator reliable)) in
+        rw (over-some _ (ones (b .joined)) n) (le-div-iff-mul-le n .1 (omega (arith, joined-few, mul-le-mul worth m)))
 
     -- nobody takes part: the pool is 0
-    pub pool-none : reliableCount b indicator ≡ 0 → pool b indicator ≡ 0
+    pub pool-none : ones (reliableMask b indicator) ≡ 0 → pool b indicator ≡ 0
     unfolding pool
     pool-none none =
-        let dividend : 300 * indicator .points * reliableCount b indicator ≡ 0 = rw none (mul-zero _) in
-        omega (arith, over-most (300 * indicator .points * reliableCount b indicator) (joinedCount b) 0 (omega (arith, dividend)))
+        let dividend : 300 * indicator .points * ones (reliableMask b indicator) ≡ 0 = rw none (mul-zero _) in
+        omega (arith, over-most (300 * indicator .points * ones (reliableMask b indicator)) (ones (b .joined)) 0 (omega (arith, dividend)))
 
-    nobody-weighs : ((i : ℕ) → getD weighed i 0 ≡ 0) → reliableCount b indicator ≡ 0
-    unfolding isReliable
-    nobody-weighs noughts = rw reliable-counted (go (decLt 0 (count 16 (isReliable b indicator))))
+    nobody-weighs : ((i : ℕ) → getD weighed i 0 ≡ 0) → ones (reliableMask b indicator) ≡ 0
+    nobody-weighs noughts = rw reliable-counted (go (decLt 0 (count 16 (has (reliableMask b indicator)))))
       where
-        go : Dec (0 < count 16 (isReliable b indicator)) → count 16 (isReliable b indicator) ≡ 0
+        go : Dec (0 < count 16 (has (reliableMask b indicator))) → count 16 (has (reliableMask b indicator)) ≡ 0
         go (yes some) =
-            let found = some-passes 16 (isReliable b indicator) some in
+            let found = some-passes 16 (has (reliableMask b indicator)) some in
             absurd (omega (arith, noughts (found .0), weight-better (indicator .measure) (reliableMask b indicator) (scores b indicator) (found .0) (found .1) (found .2)))
         go (no none) = omega (arith, none)
 
@@ -131,7 +128,7 @@ module _ (b : Book) (indicator : Indicator) where
         go (yes pos) = points-shared .whole pos
         go (no none) =
             let noughts : (i : ℕ) → getD weighed i 0 ≡ 0 = λ i. omega (arith, none, element-le weighed i) in
-            let nobody : reliableCount b indicator ≡ 0 = nobody-weighs noughts in
+            let nobody : ones (reliableMask b indicator) ≡ 0 = nobody-weighs noughts in
             let shares : sum (share (pool b indicator) weighed) ≡ 0 =
             sum-none _ (λ i lt. points-shared .none i (rw (points-shared .long) at lt) (noughts i)) in
             shares ∙ sym (pool-none nobody)
@@ -154,7 +151,7 @@ module _ (b : Book) (indicator : Indicator) where
         better-weight k inside is =
             weight-reliable _ _ _ k inside (better-reliable _ _ k is) ∙ one-better _ _ _ levels k inside is
 
-pub points-made-up : (b : Book) (indicator : Indicator) → PointsMadeUpIfInRange b indicator
+pub points-made-up : (b : Book) (indicator : Indicator) (ranged : inRange b ≡ true) → PointsMadeUp b indicator ranged
 points-made-up b indicator ranged =
     record {
       joined-counted = joined-counted b indicator ranged;

@@ -3,30 +3,29 @@
 use Prim.Native.Nat.{ℕ, _+_, _≤_, _<_}
 use mathlib.Core.Path.{_≡_}
 use mathlib.Core.Bool.{true, false, not, _&&_}
+use lib.Count.{ones}
 use lib.ListN.{getD}
 use Rattle.calls.specs.Limits.{operators}
+use Rattle.calls.specs.Masks.{has}
 use Rattle.book.specs.declared.Book.{Book}
 use Rattle.book.specs.Book.{isJoined, isMarked, inRange}
 use Rattle.apportion.specs.Sum.{sum}
 use Rattle.values.specs.Operators.{count}
-use Rattle.values.specs.Indicator.{Indicator, joinedCount, reliableCount, reliableMask, isReliable, pool, scores}
+use Rattle.values.specs.Indicator.{Indicator, reliableMask, pool, scores}
 use Rattle.indicators.specs.Points.{isBetter, isLevelled, points}
 
-pub record PointsMadeUp (b : Book) (indicator : Indicator) : Type 0 where
+pub record PointsMadeUp (b : Book) (indicator : Indicator) (ranged : inRange b ≡ true) : Type 0 where
   -- n and m, ones of masks, are the counts over the operators
-  pub joined-counted : joinedCount b ≡ count operators (isJoined b)
-  pub reliable-counted : reliableCount b indicator ≡ count operators (isReliable b indicator)
+  pub joined-counted : ones (b .joined) ≡ count operators (isJoined b)
+  pub reliable-counted : ones (reliableMask b indicator) ≡ count operators (has (reliableMask b indicator))
   -- who takes part: the joined operators "without a mark at this indicator"
   pub reliable-exactly : (operator : ℕ) → operator < operators
-      → isReliable b indicator operator ≡ isJoined b operator && not (isMarked b operator (indicator .number))
+      → has (reliableMask b indicator) operator ≡ isJoined b operator && not (isMarked b operator (indicator .number))
   -- points add up to the pool
   pub whole : sum (points b indicator) ≡ pool b indicator
   -- who does not take part gets 0
-  pub others-none : (operator : ℕ) → operator < operators → isReliable b indicator operator ≡ false → getD (points b indicator) operator 0 ≡ 0
+  pub others-none : (operator : ℕ) → operator < operators → has (reliableMask b indicator) operator ≡ false → getD (points b indicator) operator 0 ≡ 0
   -- "Within the group points differ by at most a hundredth"
   pub better-alike : isLevelled (indicator .measure) ≡ true → (operator other : ℕ) → operator < operators → other < operators
       → isBetter (reliableMask b indicator) (scores b indicator) operator ≡ true → isBetter (reliableMask b indicator) (scores b indicator) other ≡ true
       → getD (points b indicator) operator 0 ≤ getD (points b indicator) other 0 + 1
-
-abbrev pub PointsMadeUpIfInRange : Book → Indicator → Type 0
-PointsMadeUpIfInRange b indicator = inRange b ≡ true → PointsMadeUp b indicator

@@ -10,13 +10,12 @@ ghost use Rattle.calls.specs.Masks.{has};
 ghost use Rattle.apportion.specs.Sum.{sum as Sum·sum};
 ghost use Rattle.values.specs.Operators.{each, count};
 ghost use Rattle.values.specs.Indicator.{Measure, over};
-ghost use Rattle.values.specs.Steps.{Scored};
 ghost use Rattle.indicators.specs.Points.{largest, exponentWeight, isBetter, isLevelled, weights};
 use calls::has_bit;
 
 // A indicators: better operators share alike.
 pub(crate) fn levelled_weights(mask: u16, scores: [u64; 16]) -> [u64; 16]
-    requires { ⌜ Scored scores ⌝ }
+    requires { ⌜ ((place : ℕ) → getD scores place 0 ≤ 300000000000000000) ⌝ }
     ensures { λ r. ⌜ ((measure : Measure) → isLevelled measure ≡ true → r ≡ weights measure mask scores) ⌝ }
 {
     let own = exponent_weights(scores);
@@ -34,7 +33,7 @@ pub(crate) fn levelled_weights(mask: u16, scores: [u64; 16]) -> [u64; 16]
 
 // D indicators.
 pub(crate) fn linear_weights(mask: u16, scores: [u64; 16]) -> [u64; 16]
-    requires { ⌜ Scored scores ⌝ }
+    requires { ⌜ ((place : ℕ) → getD scores place 0 ≤ 300000000000000000) ⌝ }
     ensures { λ r. ⌜ ((measure : Measure) → isLevelled measure ≡ false → r ≡ weights measure mask scores) ⌝ }
 {
     let top = largest_of(scores);
@@ -49,7 +48,7 @@ pub(crate) fn linear_weights(mask: u16, scores: [u64; 16]) -> [u64; 16]
 
 // The table's weight of each score's thousandths of the largest.
 fn exponent_weights(scores: [u64; 16]) -> [u64; 16]
-    requires { ⌜ Scored scores ⌝ }
+    requires { ⌜ ((place : ℕ) → getD scores place 0 ≤ 300000000000000000) ⌝ }
     ensures { λ r. ⌜ r ≡ each (exponentWeight scores) ⌝ }
 {
     let top = largest_of(scores);
@@ -114,7 +113,7 @@ pub(crate) fn ones_of(mask: u16) -> u64
 }
 
 fn count_better(mask: u16, scores: [u64; 16], sum: u64) -> u64
-    requires { ⌜ (Scored scores) × (sum ≡ Sum·sum scores) ⌝ }
+    requires { ⌜ ((place : ℕ) → getD scores place 0 ≤ 300000000000000000) × (sum ≡ Sum·sum scores) ⌝ }
     ensures { λ r. ⌜ (r ≡ count operators (isBetter mask scores)) × (r ≤ 16) ⌝ }
 {
     let mut g = 0;
@@ -130,7 +129,7 @@ fn count_better(mask: u16, scores: [u64; 16], sum: u64) -> u64
 
 // The better operators' weights together.
 fn weigh_better(mask: u16, scores: [u64; 16], sum: u64, own: [u64; 16]) -> u64
-    requires { ⌜ (Scored scores) × (sum ≡ Sum·sum scores) × ((k : ℕ) → getD own k 0 ≤ 1000000000) ⌝ }
+    requires { ⌜ ((place : ℕ) → getD scores place 0 ≤ 300000000000000000) × (sum ≡ Sum·sum scores) × ((k : ℕ) → getD own k 0 ≤ 1000000000) ⌝ }
     ensures { λ r. ⌜ r ≡ Sum·sum (each (λ (operator : ℕ). cond (isBetter mask scores operator) (getD own operator 0) 0)) ⌝ }
 {
     let mut counted = [0u64; 16];

@@ -1,3 +1,2 @@
 -- The definitions of `lines`.
 pub mod Lines
-pub mod Steps

@@ -1,9 +1,10 @@
 -- The printed settlement: its lines as bytes (01, "The printed settlement").
 -- Assumes nothing.
-use Prim.Native.Nat.{ℕ, zero, suc, _+_, _*_}
+use Prim.Native.Nat.{ℕ, zero, suc, _+_, _*_, _^_, _<_}
+use mathlib.Core.Path.{_≡_}
 use mathlib.Core.Bool.{cond}
 use mathlib.Core.List.{List, [], _∷_, _++_}
-use lib.IntN.{ℤ, pos}
+use lib.IntN.{ℤ, pos, natAbs}
 use lib.ListN.{getD}
 use Rattle.calls.specs.Limits.{operators, indicatorCount}
 use Rattle.book.specs.declared.Book.{Book}
@@ -16,8 +17,7 @@ use Rattle.text.specs.Text.{bytesOf, decimal, signedDecimal}
 
 -- "single spaces, each line ended by byte 10"
 unfoldable pub line : List ℕ → List ℕ → List ℕ → List ℕ → List ℕ → List ℕ
-line name points out received adjustment =
-    name ++ (32 ∷ points) ++ (32 ∷ out) ++ (32 ∷ received) ++ (32 ∷ adjustment) ++ (10 ∷ [])
+line name points out received adjustment = name ++ (32 ∷ points) ++ (32 ∷ out) ++ (32 ∷ received) ++ (32 ∷ adjustment) ++ (10 ∷ [])
 
 unfoldable pub header : List ℕ
 header = line (bytesOf "operator") (bytesOf "points") (bytesOf "out") (bytesOf "in") (bytesOf "adjustment")
@@ -47,3 +47,11 @@ lastLine s = numberLine (bytesOf "all") (sum (s .points)) (sum (s .contributions
 
 unfoldable pub printed : Book → Settlement → List ℕ
 printed b s = header ++ operatorLines b s operators ++ lastLine s
+
+-- a settlement that inner functions print: sums and sizes stay within a machine's numbers, and adjustments cancel
+pub record Printable (s : Settlement) : Type 0 where
+  pub points-few : sum (s .points) < 2 ^ 60
+  pub contributions-few : sum (s .contributions) < 2 ^ 60
+  pub returns-few : sum (s .returns) < 2 ^ 60
+  pub adjustments-small : (operator : ℕ) → operator < operators → natAbs (getD (s .adjustments) operator (pos 0)) < 2 ^ 60
+  pub adjustments-cancel : sumℤ (s .adjustments) ≡ pos 0

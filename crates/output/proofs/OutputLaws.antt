@@ -10,7 +10,7 @@ use Rattle.calls.specs.Answers.{Said, refused-by, accepted, onAnswer, isRefused
 use Rattle.book.specs.Book.{freshBook}
 use Rattle.filing.specs.Reader.{Outcome, read}
 use Rattle.text.specs.Text.{bytesOf}
-use Rattle.output.specs.Output.{longestFiling, refusedField, settlementText, readingText, outputOf}
+use Rattle.output.specs.Output.{refusedField, settlementText, readingText, outputOf}
 
 -- what follows from an answer that is no refusal
 pub fine-text : {A : Type 0} (answer : Said A) → isRefused answer ≡ false → (refused : ℕ → List ℕ) (text : List ℕ)
@@ -21,16 +21,16 @@ fine-text (accepted value) fine refused text = refl
 
 module _ (filing : List ℕ) where
   pub output-long : 65536 < length filing → bytesOf "too long\n" ≡ outputOf filing
-  unfolding outputOf longestFiling
+  unfolding outputOf
   output-long long = rw (lt-ltb 65536 (length filing) long) refl
 
   module _ (short : length filing ≤ 65536) where
     pub output-refused : (number : ℕ) → read freshBook filing .said ≡ refused-by number → refusedField number (read freshBook filing .offset) ≡ outputOf filing
-    unfolding outputOf longestFiling readingText onAnswer
+    unfolding outputOf readingText onAnswer
     output-refused number refused = rw (le-ltb 65536 (length filing) short, refused) refl
 
     pub output-read : isRefused (read freshBook filing .said) ≡ false → settlementText (read freshBook filing .book) ≡ outputOf filing
-    unfolding outputOf longestFiling readingText
+    unfolding outputOf readingText
     output-read fine =
         let r : Outcome = read freshBook filing in
         rw (

@@ -13,7 +13,8 @@ use Rattle.report.specs.Report.{textOf, reportAnswer, reportBuffer}
 use Rattle.report.proofs.PrintedLaws.{text-fits}
 use Rattle.text.proofs.FittingLaws.{fits}
 use Rattle.report.proofs.AnswerLaws.{settled-yes, report-accepted, report-refused}
-use Rattle.output.specs.Output.{refusedSettlement, settlementText}
+use Rattle.output.specs.Output.{settlementText}
+use Rattle.output.proofs.RefusalLaws.{refusedSettlement}
 
 -- what a report's answer says of the text to be printed and of the buffer
 abbrev pub Told : Book → List ℕ → Said ℕ → Type 0

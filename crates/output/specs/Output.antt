@@ -13,10 +13,6 @@ use Rattle.filing.specs.Reader.{Outcome, read}
 use Rattle.text.specs.Text.{bytesOf, decimal}
 use Rattle.report.specs.Report.{textOf}
 
--- "a longer file prints `too long`"
-unfoldable pub longestFiling : ℕ
-longestFiling = 65536
-
 unfoldable pub refusedBy : ℕ → List ℕ
 refusedBy number = bytesOf "refused " ++ decimal number
 
@@ -24,17 +20,14 @@ refusedBy number = bytesOf "refused " ++ decimal number
 unfoldable pub refusedField : ℕ → ℕ → List ℕ
 refusedField number offset = refusedBy number ++ bytesOf " at " ++ decimal offset ++ bytesOf "\n"
 
--- "a refused settlement `refused 10`"
-unfoldable pub refusedSettlement : ℕ → List ℕ
-refusedSettlement number = refusedBy number ++ bytesOf "\n"
-
--- the printed settlement of a book, or its refusal
+-- the printed settlement of a book; "a refused settlement `refused 10`"
 unfoldable pub settlementText : Book → List ℕ
-settlementText b = onAnswer refusedSettlement (λ (value : Acceptance). textOf b) (settled b .said)
+settlementText b = onAnswer (λ (number : ℕ). refusedBy number ++ bytesOf "\n") (λ (value : Acceptance). textOf b) (settled b .said)
 
 -- a filing that was read: the first field refused, or the settlement of the book
 unfoldable pub readingText : Outcome → List ℕ
 readingText r = onAnswer (λ (number : ℕ). refusedField number (r .offset)) (λ (value : Acceptance). settlementText (r .book)) (r .said)
 
+-- "at most 65,536 bytes (a longer file prints `too long` ..)"
 unfoldable pub outputOf : List ℕ → List ℕ
-outputOf filing = cond (ltb longestFiling (length filing)) (bytesOf "too long\n") (readingText (read freshBook filing))
+outputOf filing = cond (ltb 65536 (length filing)) (bytesOf "too long\n") (readingText (read freshBook filing))

@@ -1,10 +1,12 @@
 // From the bytes of a filing to the bytes that the program prints: every decision of the program.
 ghost use mathlib.Core.Path.{_≡_};
 ghost use Prim.Native.Nat.{_+_, _≤_};
+ghost use mathlib.Core.List.{_++_};
 ghost use lib.ListN.{length};
+ghost use Rattle.text.specs.Text.{bytesOf};
 ghost use Rattle.text.specs.Buffer.{putInto};
 ghost use Rattle.text.specs.Steps.{written};
-ghost use Rattle.output.specs.Output.{refusedBy, refusedField, refusedSettlement, settlementText, outputOf};
+ghost use Rattle.output.specs.Output.{refusedBy, refusedField, settlementText, outputOf};
 use book::Book;
 use calls::Answer;
 use calls::number_of;
@@ -48,8 +50,8 @@ fn put_settlement(out: &mut [u8], b: Book) -> usize
 
 fn put_refused_settlement(out: &mut [u8], number: u8) -> usize
     requires { ⌜ 2048 ≤ length (now out) ⌝ }
-    ensures { λ r. ⌜ r ≡ length (refusedSettlement number) ⌝ }
-    ensures { λ r. ⌜ now (out .exit) ≡ putInto (now (out .entry)) (refusedSettlement number) ⌝ }
+    ensures { λ r. ⌜ r ≡ length (refusedBy number ++ bytesOf "\n") ⌝ }
+    ensures { λ r. ⌜ now (out .exit) ≡ putInto (now (out .entry)) (refusedBy number ++ bytesOf "\n") ⌝ }
 {
     let last = put_refused(out, number);
     put_word(out, last, b"\n")

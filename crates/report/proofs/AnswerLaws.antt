@@ -9,16 +9,15 @@ use Rattle.book.specs.declared.Book.{Book}
 use Rattle.report.specs.declared.Reported.{Reported}
 use Rattle.report.specs.declared.Reported.the-variants.{Written, Refused}
 use Rattle.calls.specs.Answers.{refused-by, accepted, onAnswer, isRefused, yes-said, numberOf}
-use Rattle.calls.specs.Laws.{risesFrom, ToldApart}
+use Rattle.calls.specs.Laws.{risesFrom, Lowest, ToldApart}
 use Rattle.calls.proofs.Lowest.{lowest, only-value, first-refuses, first-passes}
 use Rattle.calls.proofs.SaidLaws.{numbers-apart}
 use Rattle.values.specs.Indicator.{electricity}
 use Rattle.settlement.specs.Settlement.{settlingLines, settledBy, settled}
 use Rattle.text.specs.Buffer.{tooShort, bufferAfter, fitting}
 use Rattle.report.specs.Report.{textOf, reportLines, reportAnswer, reportBuffer, reportSaid}
-use Rattle.report.specs.Laws.{LowestOfReports}
 
-pub lowest-of-reports : (b : Book) (buffer : List ℕ) → LowestOfReports b buffer
+pub lowest-of-reports : (b : Book) (buffer : List ℕ) → Lowest (reportLines b buffer) (length (textOf b))
 unfolding risesFrom reportLines settlingLines
 lowest-of-reports b buffer = lowest (length (textOf b)) (reportLines b buffer) refl
 

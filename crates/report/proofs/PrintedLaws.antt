@@ -28,7 +28,7 @@ use Rattle.settlement.proofs.SettledLaws.{worth-electricity, settles-exactly, s
 use Rattle.text.specs.Text.{bytesOf, decimal}
 use Rattle.lines.specs.Lines.{line, header, pointsOfOperator, operatorLine, operatorLines, lastLine, printed}
 use Rattle.report.specs.Report.{textOf}
-use Rattle.lines.specs.Steps.{Printable}
+use Rattle.lines.specs.Lines.{Printable}
 use Rattle.text.proofs.DigitLaws.{decimal-length, signed-length}
 use Rattle.lines.proofs.SumLaws.{points-most}
 

@@ -1,3 +1,2 @@
 -- The definitions of `report`.
 pub mod Report
-pub mod Laws

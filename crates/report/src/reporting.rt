@@ -3,7 +3,7 @@ ghost use mathlib.Core.Path.{_≡_};
 ghost use Rattle.lines.specs.Lines.{printed};
 ghost use Rattle.text.specs.Buffer.{bufferAfter, fitting};
 ghost use Rattle.report.specs.Report.{reportAnswer, reportBuffer, reportSaid};
-ghost use Rattle.lines.specs.Steps.{Printable};
+ghost use Rattle.lines.specs.Lines.{Printable};
 use crate::Reported;
 use book::Book;
 use calls::Answer;

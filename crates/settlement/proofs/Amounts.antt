@@ -11,10 +11,10 @@ use Rattle.book.specs.declared.Book.{Book}
 use Rattle.book.specs.Book.{settingOf, inRange}
 use Rattle.apportion.specs.Sum.{sum}
 use Rattle.apportion.proofs.Sums.{sum-bound}
-use Rattle.values.specs.Operators.{each}
+use Rattle.values.specs.Operators.{each, settingsOf}
 use Rattle.values.specs.Indicator.{Indicator}
 use Rattle.indicators.specs.Points.{allPoints}
-use Rattle.settlement.specs.Money.{accessPoints, returnWeights, limits, capped, balanced}
+use Rattle.settlement.specs.Money.{limits, capped, balanced}
 use Rattle.values.proofs.Tables.{length-each, each-at, each-same}
 use Rattle.settlement.proofs.InRange.{access-at, limit-product-le}
 use Rattle.values.proofs.InRange.{points-le}
@@ -39,11 +39,10 @@ module _ (more less limit : List ℕ) (bounded : (k : ℕ) → k < 16 → getD l
   balanced-le other k lt = le-trans (balanced-within (capped more less limit) other k (rw (capped-length more less limit) lt)) (cut-le k lt)
 
 module _ (b : Book) (ranged : inRange b ≡ true) where
-  pub access-most : (k : ℕ) → k < 16 → getD (accessPoints b) k 0 ≤ 4000000
+  pub access-most : (k : ℕ) → k < 16 → getD (settingsOf b 1) k 0 ≤ 4000000
   access-most k lt = rw (access-at b k lt) (points-le b ranged k lt)
 
-  pub access-sum : sum (accessPoints b) ≤ 64000000
-  unfolding accessPoints
+  pub access-sum : sum (settingsOf b 1) ≤ 64000000
   access-sum = each-sum-le (λ (operator : ℕ). settingOf b operator 1) 4000000 (λ k lt. points-le b ranged k lt)
 
   pub limit-most : (k : ℕ) → k < 16 → getD (limits b) k 0 ≤ 2000000000
@@ -51,9 +50,8 @@ module _ (b : Book) (ranged : inRange b ≡ true) where
   limit-most k lt = rw (each-at (λ (operator : ℕ). b .«cap_rate» * settingOf b operator 2 / 1000000) k lt) (omega (arith, limit-product-le b ranged k lt))
 
 -- the weights of returns, as the code makes them
-pub weights-same : (b : Book) (indicators : List Indicator) (access totals : List ℕ) → access ≡ accessPoints b → totals ≡ each (allPoints b indicators)
-    → each (λ (operator : ℕ). getD access operator 0 * getD totals operator 0) ≡ returnWeights b indicators
-unfolding returnWeights
+pub weights-same : (b : Book) (indicators : List Indicator) (access totals : List ℕ) → access ≡ settingsOf b 1 → totals ≡ each (allPoints b indicators)
+    → each (λ (operator : ℕ). getD access operator 0 * getD totals operator 0) ≡ each (λ (operator : ℕ). settingOf b operator 1 * allPoints b indicators operator)
 weights-same b indicators access totals ea et =
     each-same _ _ (λ k lt. rw (ea, et, access-at b k lt, each-at (allPoints b indicators) k lt) refl)
 

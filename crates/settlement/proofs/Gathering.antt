@@ -17,7 +17,7 @@ use Rattle.apportion.specs.Share.{share}
 use Rattle.apportion.proofs.Sums.{element-le}
 use Rattle.apportion.proofs.Shared.{shared}
 use Rattle.values.specs.Operators.{table, each}
-use Rattle.values.specs.Indicator.{Indicator, electricity, numbered, reliableMask, reliableCount, pool}
+use Rattle.values.specs.Indicator.{Indicator, electricity, numbered, reliableMask, pool}
 use Rattle.indicators.specs.Points.{points, allPoints}
 use Rattle.values.proofs.Scores.{over-le}
 use Rattle.indicators.proofs.PointLaws.{points-length}
@@ -48,7 +48,7 @@ points-most (suc (suc (suc (suc (suc zero))))) lt = omega arith
 points-most (suc (suc (suc (suc (suc (suc n)))))) lt = absurd (omega arith)
 
 pub pool-le : (b : Book) (number : ℕ) → number < 6 → pool b (numbered number) ≤ 739200
-unfolding pool reliableCount reliableMask
+unfolding pool reliableMask
 pool-le b number lt =
     let mask : ℕ = bitAnd (b .joined) (65535 - getD (b .marks) (numbered number .number) 0) in
     let small : mask < 2 ^ 16 = omega (arith, and-le-r (b .joined) (65535 - getD (b .marks) (numbered number .number) 0)) in

@@ -10,26 +10,24 @@ use Rattle.book.specs.declared.Book.{Book}
 use Rattle.book.specs.Book.{settingOf, inRange}
 use Rattle.apportion.specs.Sum.{sum}
 use Rattle.apportion.proofs.Sums.{sum-bound}
-use Rattle.settlement.specs.Money.{accessPoints, incomes, pot}
+use Rattle.values.specs.Operators.{settingsOf}
+use Rattle.settlement.specs.Money.{pot}
 use Rattle.values.proofs.InRange.{income-le, pot-rate-le, cap-rate-le}
 use Rattle.values.proofs.Tables.{length-each, each-at}
 
-pub access-at : (b : Book) (operator : ℕ) → operator < 16 → getD (accessPoints b) operator 0 ≡ settingOf b operator 1
-unfolding accessPoints
+pub access-at : (b : Book) (operator : ℕ) → operator < 16 → getD (settingsOf b 1) operator 0 ≡ settingOf b operator 1
 access-at b operator lt = each-at _ operator lt
 
-pub income-at : (b : Book) (operator : ℕ) → operator < 16 → getD (incomes b) operator 0 ≡ settingOf b operator 2
-unfolding incomes
+pub income-at : (b : Book) (operator : ℕ) → operator < 16 → getD (settingsOf b 2) operator 0 ≡ settingOf b operator 2
 income-at b operator lt = each-at _ operator lt
 
 module _ (b : Book) (in-range : inRange b ≡ true) where
-  pub incomes-le : sum (incomes b) ≤ 1600000000000
-  unfolding incomes
+  pub incomes-le : sum (settingsOf b 2) ≤ 1600000000000
   incomes-le =
-      let long : length (incomes b) ≡ 16 = length-each _ in
-      omega (arith, sum-bound (incomes b) 100000000000 (λ i lt. rw (income-at b i (omega arith)) (income-le b in-range i (omega arith))))
+      let long : length (settingsOf b 2) ≡ 16 = length-each _ in
+      omega (arith, sum-bound (settingsOf b 2) 100000000000 (λ i lt. rw (income-at b i (omega arith)) (income-le b in-range i (omega arith))))
 
-  pub pot-product-le : b .«pot_rate» * sum (incomes b) ≤ 32000000000000000
+  pub pot-product-le : b .«pot_rate» * sum (settingsOf b 2) ≤ 32000000000000000
   pot-product-le = mul-le-mul (pot-rate-le b in-range) incomes-le
 
   pub pot-le : pot b ≤ 32000000000

@@ -13,7 +13,7 @@ use Rattle.book.specs.declared.Book.{Book}
 use Rattle.book.specs.Every.{every}
 use Rattle.book.specs.Book.{isJoined, isMarked, inRange}
 use Rattle.book.proofs.EveryLaws.{every-of-each, every-fails}
-use Rattle.values.specs.Indicator.{Indicator, reliableMask, isReliable}
+use Rattle.values.specs.Indicator.{Indicator, reliableMask}
 use Rattle.indicators.proofs.OnesLaws.{some-one}
 use Rattle.indicators.proofs.PointLaws.{reliable-small, reliable-exactly}
 use Rattle.settlement.specs.Settlement.{isMarkedAtAll, allMarked}
@@ -62,7 +62,7 @@ marked-none b = every-of-each 16 _ (λ k lt. or-true (isJoined b k))
 
 pub marked-more : (b : Book) → inRange b ≡ true → (indicator : Indicator) (rest : List Indicator)
     → allMarked b (indicator ∷ rest) ≡ eqb (reliableMask b indicator) 0 && allMarked b rest
-unfolding allMarked isMarkedAtAll isReliable
+unfolding allMarked isMarkedAtAll
 marked-more b ranged indicator rest =
     every-split 16 (isJoined b) (λ (k : ℕ). isMarked b k (indicator .number)) _
     ∙ ap (λ (t : Bool). t && allMarked b rest)

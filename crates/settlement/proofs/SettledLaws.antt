@@ -13,23 +13,23 @@ use borrow.Author.Tests.{eqb-false, not-false}
 use Rattle.apportion.specs.Sum.{sum}
 use Rattle.apportion.specs.Share.{share}
 use Rattle.apportion.proofs.Shared.{shared}
-use Rattle.calls.specs.Answers.{Acceptance, accepted, yes-said, onAnswer, firstOf}
-use Rattle.calls.specs.Laws.{applies, risesFrom}
+use Rattle.calls.specs.Answers.{yes-said, onAnswer}
+use Rattle.calls.specs.Laws.{applies, risesFrom, Lowest}
 use Rattle.calls.proofs.Flags.{or-right, and-other}
 use Rattle.calls.proofs.Lowest.{lowest}
 use Rattle.book.specs.declared.Book.{Book}
 use Rattle.book.specs.Book.{isJoined, settingOf, inRange}
 use Rattle.book.proofs.Bounds.{bounded}
 use Rattle.values.specs.Operators.{each}
-use Rattle.values.specs.Indicator.{Indicator, electricity, reliableMask, isReliable, pool}
+use Rattle.values.specs.Indicator.{Indicator, electricity, reliableMask, pool}
 use Rattle.values.proofs.AnyLaws.{or-left, each-of-none}
 use Rattle.values.proofs.Tables.{each-le-sum, some-place}
 use Rattle.indicators.specs.Points.{points, allPoints}
 use Rattle.indicators.proofs.OnesLaws.{some-one}
 use Rattle.indicators.proofs.PointLaws.{points-made-up, points-length, points-reliable, reliable-joined, reliable-small, pool-above}
-use Rattle.settlement.specs.Money.{accessPoints, pot, contributions, returnWeights, returns}
+use Rattle.settlement.specs.Money.{pot, contributions, returns}
 use Rattle.settlement.specs.Settlement.{networkMissing, allMarked, pointsOfAll, settlementBy, settlingLines, settledBy, settled}
-use Rattle.settlement.specs.Laws.{Worth, Settles, SettlesExactly, LowestOfSettling, pointsAt, Balanced, BalancedIfSettles, SettleAlike}
+use Rattle.settlement.specs.Laws.{Worth, Settles, SettlesExactly, pointsAt, Balanced, BalancedIfSettles, SettleAlike}
 use Rattle.settlement.proofs.MarkLaws.{marked-none, marked-more}
 use Rattle.settlement.proofs.AdjustmentLaws.{adjustments-cancel, within-limits}
 use Rattle.settlement.proofs.UnjoinedLaws.{points-unjoined, contribution-none, return-none, limit-none, adjustment-none}
@@ -38,26 +38,14 @@ pub worth-electricity : Worth electricity
 unfolding electricity
 worth-electricity = (lit< tt, (lit< tt, (lit< tt, (lit< tt, (lit< tt, (lit< tt, tt))))))
 
--- a table refuses, or gives its value
-only-value : (lines : List (ℕ × Bool)) → onAnswer (λ (number : ℕ). yes-said) (λ (said : Acceptance). said) (firstOf lines yes-said) ≡ yes-said
-unfolding firstOf onAnswer
-only-value [] = refl
-only-value ((number, true) ∷ rest) = refl
-only-value ((number, false) ∷ rest) = only-value rest
-
 module _ (b : Book) (indicators : List Indicator) where
-  pub lowest-of-settling : LowestOfSettling b indicators
+  pub lowest-of-settling : Lowest (settlingLines b indicators) yes-said
   unfolding risesFrom settlingLines
   lowest-of-settling = lowest yes-said (settlingLines b indicators) refl
 
   pub settles-exactly : SettlesExactly b indicators
   unfolding settledBy
   settles-exactly = (lowest-of-settling .answered .1, lowest-of-settling .answered .0)
-
-  -- settling accepts with nothing but yes
-  pub accepted-yes : (value : Acceptance) → settledBy b indicators .said ≡ accepted value → value ≡ yes-said
-  unfolding settledBy onAnswer
-  accepted-yes value e = sym (ap (onAnswer (λ (number : ℕ). yes-said) (λ (said : Acceptance). said)) e) ∙ only-value (settlingLines b indicators)
 
   -- a book that settles passes the four tests, and is given its settlement
   module _ (settles : Settles b indicators) where
@@ -93,7 +81,6 @@ module _ (b : Book) (ranged : inRange b ≡ true) where
   -- where somebody takes part, a joined operator has points
   indicator-points : (indicator : Indicator) → 0 < indicator .points → 0 < reliableMask b indicator
       → (operator : ℕ) × (operator < 16) × (isJoined b operator ≡ true) × (0 < getD (points b indicator) operator 0)
-  unfolding isReliable
   indicator-points indicator worth somebody =
       let one = some-one 16 (reliableMask b indicator) (reliable-small b indicator ranged) somebody in
       let above : 0 < pool b indicator = pool-above b indicator ranged worth (one .0) (one .1) (one .2) in
@@ -124,14 +111,14 @@ shared-whole : (T : ℕ) (f : ℕ → ℕ) (k : ℕ) → k < 16 → 0 < f k → 
 shared-whole T f k lt above = shared T (each f) .whole (omega (arith, above, each-le-sum f k lt))
 
 contributions-whole : (b : Book) → inRange b ≡ true → eqb (b .joined) 0 ≡ false → networkMissing b ≡ false → sum (contributions b) ≡ pot b
-unfolding contributions accessPoints isJoined
+unfolding contributions isJoined
 contributions-whole b ranged somebody network =
     let found = some-one 16 (b .joined) (bounded b ranged .joined-small) (omega (arith, eqb-false (b .joined) 0 somebody)) in
     shared-whole (pot b) _ (found .0) (found .1) (joined-access b network (found .0) (found .1) (found .2))
 
 returns-whole : (b : Book) (indicators : List Indicator) → inRange b ≡ true → Worth indicators → networkMissing b ≡ false
     → allMarked b indicators ≡ false → sum (returns b indicators) ≡ pot b
-unfolding returns returnWeights
+unfolding returns
 returns-whole b indicators ranged worth network reliable =
     let found = some-points b ranged indicators worth reliable in
     shared-whole (pot b) _ (found .0) (found .1) (mul-pos (joined-access b network (found .0) (found .1) (found .2)) (found .3))

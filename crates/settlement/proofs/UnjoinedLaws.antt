@@ -10,15 +10,16 @@ use lib.IntN.{ℤ, pos, negsuc, natAbs}
 use lib.ListN.{getD}
 use Rattle.apportion.specs.Share.{share}
 use Rattle.apportion.proofs.Shared.{shared}
+use Rattle.calls.specs.Masks.{has}
 use Rattle.book.specs.declared.Book.{Book}
 use Rattle.book.specs.Book.{isJoined, settingOf, most, inRange}
 use Rattle.book.proofs.Bounds.{bounded}
 use Rattle.values.specs.Operators.{each}
-use Rattle.values.specs.Indicator.{Indicator, isReliable}
+use Rattle.values.specs.Indicator.{Indicator, reliableMask}
 use Rattle.indicators.specs.Points.{points}
 use Rattle.values.proofs.Tables.{length-each, each-at}
 use Rattle.indicators.proofs.PointLaws.{reliable-joined, points-none}
-use Rattle.settlement.specs.Money.{accessPoints, pot, contributions, returnWeights, returns, limits, adjustments}
+use Rattle.settlement.specs.Money.{pot, contributions, returns, limits, adjustments}
 use Rattle.settlement.proofs.AdjustmentLaws.{within-limits}
 
 -- a share by a weight of 0
@@ -38,14 +39,14 @@ module _ (b : Book) (ranged : inRange b ≡ true) (operator : ℕ) (lt : operato
       omega (arith, none)
 
   pub points-unjoined : (indicator : Indicator) → getD (points b indicator) operator 0 ≡ 0
-  points-unjoined indicator = points-none b indicator operator lt (go (isReliable b indicator operator) refl)
+  points-unjoined indicator = points-none b indicator operator lt (go (has (reliableMask b indicator) operator) refl)
     where
-      go : (t : Bool) → isReliable b indicator operator ≡ t → isReliable b indicator operator ≡ false
+      go : (t : Bool) → has (reliableMask b indicator) operator ≡ t → has (reliableMask b indicator) operator ≡ false
       go true reliable = absurd (false≢true (sym apart ∙ reliable-joined b indicator operator reliable))
       go false marked = marked
 
   pub contribution-none : getD (contributions b) operator 0 ≡ 0
-  unfolding contributions accessPoints
+  unfolding contributions
   contribution-none = none-shared (pot b) _ operator lt (setting-none 1 (omega arith))
 
   pub limit-none : getD (limits b) operator 0 ≡ 0
@@ -54,7 +55,7 @@ module _ (b : Book) (ranged : inRange b ≡ true) (operator : ℕ) (lt : operato
 
   module _ (indicators : List Indicator) where
     pub return-none : getD (returns b indicators) operator 0 ≡ 0
-    unfolding returns returnWeights
+    unfolding returns
     return-none = none-shared (pot b) _ operator lt (rw (setting-none 1 (omega arith)) (zero-mul _))
 
     pub adjustment-none : getD (adjustments b indicators) operator (pos 0) ≡ pos 0

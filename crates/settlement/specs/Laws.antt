@@ -9,7 +9,7 @@ use lib.IntN.{ℤ, pos, natAbs, _+ℤ_}
 use lib.ListN.{length, getD, take, drop}
 use Rattle.calls.specs.Limits.{operators}
 use Rattle.calls.specs.Answers.{accepted, yes-said}
-use Rattle.calls.specs.Laws.{applies, Lowest}
+use Rattle.calls.specs.Laws.{applies}
 use Rattle.book.specs.declared.Book.{Book}
 use Rattle.book.specs.Book.{isJoined}
 use Rattle.apportion.specs.Sum.{sum}
@@ -33,10 +33,6 @@ Settles b indicators = (number : ℕ) → applies (settlingLines b indicators) n
 abbrev pub SettlesExactly : Book → List Indicator → Type 0
 SettlesExactly b indicators = Settles b indicators ↔ (settledBy b indicators .said ≡ accepted yes-said)
 
--- "The lowest number that applies is given"
-abbrev pub LowestOfSettling : Book → List Indicator → Type 0
-LowestOfSettling b indicators = Lowest (settlingLines b indicators) yes-said
-
 -- the points of the indicator at a place of the list, by operator
 unfoldable pub pointsAt : Settlement → ℕ → List ℕ
 pointsAt s place = take operators (drop (operators * place) (s .points))
@@ -51,10 +47,8 @@ pub record Balanced (b : Book) (indicators : List Indicator) (s : Settlement) : 
   -- "it is all 0 .. for operators not joined"
   pub unjoined-nought : (operator : ℕ) → operator < operators → isJoined b operator ≡ false
       → ((place : ℕ) → place < length indicators → getD (pointsAt s place) operator 0 ≡ 0)
-      × (getD (s .contributions) operator 0 ≡ 0)
-      × (getD (s .returns) operator 0 ≡ 0)
-      × (getD (s .limits) operator 0 ≡ 0)
-      × (getD (s .adjustments) operator (pos 0) ≡ pos 0)
+      × (getD (s .contributions) operator 0 ≡ 0) × (getD (s .returns) operator 0 ≡ 0)
+      × (getD (s .limits) operator 0 ≡ 0) × (getD (s .adjustments) operator (pos 0) ≡ pos 0)
 
 -- for every list of indicators worth points, what a book that settles is given is balanced
 abbrev pub BalancedIfSettles : Book → List Indicator → Type 0

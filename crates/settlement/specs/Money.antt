@@ -15,25 +15,16 @@ use Rattle.values.specs.Operators.{table, each, settingsOf}
 use Rattle.values.specs.Indicator.{Indicator}
 use Rattle.indicators.specs.Points.{allPoints}
 
-unfoldable pub accessPoints : Book → List ℕ
-accessPoints b = settingsOf b 1
-
-unfoldable pub incomes : Book → List ℕ
-incomes b = settingsOf b 2
-
--- "Pot = pot rate × (sum of incomes) / 1,000,000, rounded down"
+-- "Pot = pot rate × (sum of incomes) / 1,000,000, rounded down"; access points are setting 1, income is setting 2
 unfoldable pub pot : Book → ℕ
-pot b = b .«pot_rate» * sum (incomes b) / 1000000
+pot b = b .«pot_rate» * sum (settingsOf b 2) / 1000000
 
 -- "Contributions share the pot by access points. Returns share it by access points × points."
 unfoldable pub contributions : Book → List ℕ
-contributions b = share (pot b) (accessPoints b)
-
-unfoldable pub returnWeights : Book → List Indicator → List ℕ
-returnWeights b indicators = each (λ (operator : ℕ). settingOf b operator 1 * allPoints b indicators operator)
+contributions b = share (pot b) (settingsOf b 1)
 
 unfoldable pub returns : Book → List Indicator → List ℕ
-returns b indicators = share (pot b) (returnWeights b indicators)
+returns b indicators = share (pot b) (each (λ (operator : ℕ). settingOf b operator 1 * allPoints b indicators operator))
 
 -- "Limit = cap rate × income / 1,000,000, rounded down"
 unfoldable pub limits : Book → List ℕ

@@ -4,7 +4,7 @@ use Prim.Native.Nat.{ℕ, _*_}
 use mathlib.Core.Bool.{Bool, true, not, _&&_, _||_}
 use mathlib.Core.List.{List, [], _∷_, _++_, map}
 use lib.Dec.{eqb}
-use lib.IntN.{pos}
+use lib.IntN.{ℤ, pos}
 use lib.ListN.{replicate}
 use Rattle.settlement.specs.declared.Settlement.{Settlement}
 use Rattle.calls.specs.Limits.{operators, indicatorCount}
@@ -19,8 +19,7 @@ use Rattle.settlement.specs.Money.{pot, contributions, returns, limits, 
 
 -- 11: "a joined operator has 0 cabins or access points"
 unfoldable pub networkMissing : Book → Bool
-networkMissing b =
-    any operators (λ (operator : ℕ). isJoined b operator && (eqb (settingOf b operator 0) 0 || eqb (settingOf b operator 1) 0))
+networkMissing b = any operators (λ (operator : ℕ). isJoined b operator && (eqb (settingOf b operator 0) 0 || eqb (settingOf b operator 1) 0))
 
 -- 12: "every joined operator marked at all six indicators", here at all of a list
 unfoldable pub isMarkedAtAll : Book → List Indicator → ℕ → Bool
@@ -35,35 +34,24 @@ unfoldable pub pointsOfAll : Book → List Indicator → List ℕ
 pointsOfAll b [] = []
 pointsOfAll b (indicator ∷ rest) = points b indicator ++ pointsOfAll b rest
 
+-- a settlement by its parts: pools, points, pot, contributions, returns, limits, adjustments
+abbrev pub settlement : List ℕ → List ℕ → ℕ → List ℕ → List ℕ → List ℕ → List ℤ → Settlement
+settlement pools points pot out received limits adjustments =
+    record { pools = pools; points = points; pot = pot; contributions = out; returns = received; limits = limits; adjustments = adjustments }
+
 unfoldable pub settlementBy : Book → List Indicator → Settlement
 settlementBy b indicators =
-    record {
-      pools = map (pool b) indicators;
-      points = pointsOfAll b indicators;
-      pot = pot b;
-      contributions = contributions b;
-      returns = returns b indicators;
-      limits = limits b;
-      adjustments = adjustments b indicators;
-    }
+    settlement (map (pool b) indicators) (pointsOfAll b indicators) (pot b) (contributions b) (returns b indicators) (limits b) (adjustments b indicators)
 
 -- "it is all 0 on refusal"
 unfoldable pub nothing : Settlement
 nothing =
-    record {
-      pools = replicate indicatorCount 0;
-      points = replicate (operators * indicatorCount) 0;
-      pot = 0;
-      contributions = replicate operators 0;
-      returns = replicate operators 0;
-      limits = replicate operators 0;
-      adjustments = replicate operators (pos 0);
-    }
+    let none : List ℕ = replicate operators 0 in
+    settlement (replicate indicatorCount 0) (replicate (operators * indicatorCount) 0) 0 none none none (replicate operators (pos 0))
 
 -- the numbers by which settling refuses
 unfoldable pub settlingLines : Book → List Indicator → List (ℕ × Bool)
-settlingLines b indicators =
-    (5, not (inRange b)) ∷ (10, eqb (b .joined) 0) ∷ (11, networkMissing b) ∷ (12, allMarked b indicators) ∷ []
+settlingLines b indicators = (5, not (inRange b)) ∷ (10, eqb (b .joined) 0) ∷ (11, networkMissing b) ∷ (12, allMarked b indicators) ∷ []
 
 -- what settling gives
 pub record Outcome : Type 0 where

@@ -7,8 +7,8 @@ ghost use lib.ListN.{getD};
 ghost use Rattle.calls.specs.Limits.{operators};
 ghost use Rattle.apportion.specs.Sum.{sum};
 ghost use Rattle.book.specs.Book.{inRange};
-ghost use Rattle.values.specs.Operators.{table, each};
-ghost use Rattle.settlement.specs.Money.{accessPoints, incomes, pot, limits, capped, balanced};
+ghost use Rattle.values.specs.Operators.{table, each, settingsOf};
+ghost use Rattle.settlement.specs.Money.{pot, limits, capped, balanced};
 use apportion::share;
 use apportion::total;
 use book::Book;
@@ -17,13 +17,13 @@ use values::settings_of;
 const MILLION: u64 = 1000000;
 
 pub(crate) fn access_points_of(b: Book) -> [u64; 16]
-    ensures { λ r. ⌜ r ≡ accessPoints b ⌝ }
+    ensures { λ r. ⌜ r ≡ settingsOf b 1 ⌝ }
 {
     settings_of(b, 1)
 }
 
 pub(crate) fn incomes_of(b: Book) -> [u64; 16]
-    ensures { λ r. ⌜ r ≡ incomes b ⌝ }
+    ensures { λ r. ⌜ r ≡ settingsOf b 2 ⌝ }
 {
     settings_of(b, 2)
 }

@@ -3,6 +3,7 @@
 use Prim.Native.Nat.{ℕ, zero, suc, _^_, _≤_, _<_}
 use mathlib.Core.Path.{_≡_}
 use mathlib.Core.Bool.{Bool, true, false, cond}
+use mathlib.Core.List.{List}
 use native.Mathlib.Omega.{arith}
 use native.Mathlib.Decide.{decLt}
 use native.Mathlib.Nat.{le-trans}
@@ -11,8 +12,12 @@ use Rattle.book.specs.declared.Book.{Book}
 use Rattle.calls.specs.Limits.{settingLimit, figureLimit}
 use Rattle.book.specs.Book.{isJoined, settingOf, figureOf, indexOf, most, inRange}
 use Rattle.book.proofs.Bounds.{bounded}
-use Rattle.values.specs.Operators.{settingsOf, figuresOf}
+use Rattle.values.specs.Operators.{each, settingsOf}
 use Rattle.values.proofs.Tables.{each-le}
+
+-- one figure of a year of each operator
+abbrev pub figuresOf : Book → ℕ → ℕ → List ℕ
+figuresOf b year figure = each (λ (operator : ℕ). figureOf b operator year figure)
 
 -- at most the limit, joined or not
 most-le : (b : Book) (operator limit : ℕ) → most b operator limit ≤ limit

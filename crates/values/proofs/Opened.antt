@@ -1,6 +1,6 @@
 -- The definitions of `values`, and of the crates that they rest on, opened by one name, for cases that are computed.
 -- Assumes nothing.
-use Rattle.values.specs.Indicator.{electricity, over, yearlyValue, threeYears, reliableMask, isReliable, scores, joinedCount, reliableCount, pool, numbered}
+use Rattle.values.specs.Indicator.{electricity, over, yearlyValue, threeYears, reliableMask, scores, pool, numbered}
 use Rattle.values.specs.Operators.{table, each, count, any}
 use Rattle.calls.proofs.Opened.{calls-opened}
 use Rattle.book.proofs.Opened.{book-opened}
@@ -8,5 +8,5 @@ use Rattle.apportion.proofs.Opened.{apportion-opened}
 use lib.Count.{ones, onesIn}
 
 unfoldable pub values-opened : Unit {0}
-unfolding electricity over yearlyValue threeYears reliableMask isReliable scores joinedCount reliableCount pool numbered table each count any calls-opened book-opened apportion-opened ones onesIn
+unfolding electricity over yearlyValue threeYears reliableMask scores pool numbered table each count any calls-opened book-opened apportion-opened ones onesIn
 values-opened = tt

@@ -7,13 +7,14 @@ use native.Mathlib.Nat.{div-le-self, mul-le-mul, le-trans}
 use native.Mathlib.Omega.{arith}
 use lib.Dec.{eqb}
 use lib.ListN.{getD}
+use Rattle.calls.specs.Masks.{has}
 use Rattle.book.specs.declared.Book.{Book}
 use Rattle.book.specs.Book.{inRange}
-use Rattle.values.specs.Indicator.{frequency, duration, fee, electricity, numbered, over, yearlyValue, threeYears, isReliable, scores}
-use Rattle.values.specs.Steps.{Scored, yearlyValues}
+use Rattle.values.specs.Indicator.{frequency, duration, fee, electricity, numbered, over, yearlyValue, threeYears, reliableMask, scores}
 use Rattle.values.proofs.CountLaws.{cond-le}
 use Rattle.values.proofs.Tables.{each-le}
 use Rattle.values.proofs.InRange.{figure-le, index-between}
+use Rattle.values.proofs.Numbered.{yearlyValues}
 
 pub over-le : (dividend divisor : ℕ) → over dividend divisor ≤ dividend
 unfolding over
@@ -61,7 +62,7 @@ pub yearlies-le : (b : Book) → inRange b ≡ true → (number year : ℕ) → 
 yearlies-le b ranged number year ln ly = each-le _ _ (λ k lt. yearly-le b ranged k year lt ly number ln)
 
 -- no score passes three years of the largest yearly value
-pub scored : (b : Book) → inRange b ≡ true → (number : ℕ) → number < 6 → Scored (scores b (numbered number))
+pub scored : (b : Book) → inRange b ≡ true → (number : ℕ) → number < 6 → (place : ℕ) → getD (scores b (numbered number)) place 0 ≤ 300000000000000000
 unfolding scores
 scored b ranged number ln =
-    each-le _ _ (λ operator lo. cond-le (isReliable b (numbered number) operator) (three-years-le b ranged number ln operator lo) zero-le)
+    each-le _ _ (λ operator lo. cond-le (has (reliableMask b (numbered number)) operator) (three-years-le b ranged number ln operator lo) zero-le)

@@ -1,7 +1,7 @@
 -- The indicators: what each measures in a year, its points, its pool, and who takes part (01, "Indicators"; annex 9, table 3).
 -- Assumes nothing.
 use Prim.Native.Nat.{ℕ, _+_, _*_, _-_, _/_}
-use mathlib.Core.Bool.{Bool, cond}
+use mathlib.Core.Bool.{cond}
 use mathlib.Core.List.{List, [], _∷_}
 use lib.Bits.{bitAnd}
 use lib.Count.{ones}
@@ -31,13 +31,9 @@ pub record Indicator : Type 0 where
 -- "A1 154, A2 126, A3 66, A4 54, D1 20, D2 5; indicators 0 to 5"
 unfoldable pub electricity : List Indicator
 electricity =
-    record { number = 0; points = 154; measure = frequency 0 0 }
-    ∷ record { number = 1; points = 126; measure = duration 1 0 }
-    ∷ record { number = 2; points = 66; measure = frequency 2 1 }
-    ∷ record { number = 3; points = 54; measure = duration 3 2 }
-    ∷ record { number = 4; points = 20; measure = fee 4 5 }
-    ∷ record { number = 5; points = 5; measure = fee 6 7 }
-    ∷ []
+    record { number = 0; points = 154; measure = frequency 0 0 } ∷ record { number = 1; points = 126; measure = duration 1 0 }
+    ∷ record { number = 2; points = 66; measure = frequency 2 1 } ∷ record { number = 3; points = 54; measure = duration 3 2 }
+    ∷ record { number = 4; points = 20; measure = fee 4 5 } ∷ record { number = 5; points = 5; measure = fee 6 7 } ∷ []
 
 -- "rounded down; a zero divisor gives 0"
 unfoldable pub over : ℕ → ℕ → ℕ
@@ -54,27 +50,18 @@ yearlyValue b (fee fees connections) operator year =
 unfoldable pub threeYears : Book → Measure → ℕ → ℕ
 threeYears b measure operator = yearlyValue b measure operator 0 + yearlyValue b measure operator 1 + yearlyValue b measure operator 2
 
--- the operators that take part: joined and without a mark
+-- the operators that take part, as bits: joined and without a mark
 unfoldable pub reliableMask : Book → Indicator → ℕ
 reliableMask b indicator = bitAnd (b .joined) (65535 - getD (b .marks) (indicator .number) 0)
 
-unfoldable pub isReliable : Book → Indicator → ℕ → Bool
-isReliable b indicator operator = has (reliableMask b indicator) operator
-
 -- the s of those that take part; "Marked operators get 0 and count nowhere else"
 unfoldable pub scores : Book → Indicator → List ℕ
-scores b indicator = each (λ (operator : ℕ). cond (isReliable b indicator operator) (threeYears b (indicator .measure) operator) 0)
+scores b indicator = each (λ (operator : ℕ). cond (has (reliableMask b indicator) operator) (threeYears b (indicator .measure) operator) 0)
 
--- "Let n be the number of joined operators, m of those without a mark at this indicator"
-unfoldable pub joinedCount : Book → ℕ
-joinedCount b = ones (b .joined)
-
-unfoldable pub reliableCount : Book → Indicator → ℕ
-reliableCount b indicator = ones (reliableMask b indicator)
-
--- "Pool, in hundredths: 300 × points × m / n, rounded down"
+-- "Let n be the number of joined operators, m of those without a mark at this indicator. Pool, in hundredths: 300 × points × m / n, rounded
+-- down"
 unfoldable pub pool : Book → Indicator → ℕ
-pool b indicator = over (300 * indicator .points * reliableCount b indicator) (joinedCount b)
+pool b indicator = over (300 * indicator .points * ones (reliableMask b indicator)) (ones (b .joined))
 
 -- an indicator by its number
 unfoldable pub numbered : ℕ → Indicator

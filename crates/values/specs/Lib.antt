@@ -1,4 +1,3 @@
 -- The definitions of `values`.
 pub mod Operators
 pub mod Indicator
-pub mod Steps

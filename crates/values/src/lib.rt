@@ -4,10 +4,9 @@ ghost use mathlib.Core.Bool.{true, cond};
 ghost use Prim.Native.Nat.{ℕ, _+_, _*_, _-_, _≤_, _<_};
 ghost use lib.ListN.{getD};
 ghost use Rattle.calls.specs.Masks.{has};
-ghost use Rattle.book.specs.Book.{inRange};
-ghost use Rattle.values.specs.Operators.{each, settingsOf, figuresOf};
-ghost use Rattle.values.specs.Indicator.{frequency, duration, fee, over, reliableMask, scores, numbered};
-ghost use Rattle.values.specs.Steps.{yearlyValues};
+ghost use Rattle.book.specs.Book.{figureOf, inRange};
+ghost use Rattle.values.specs.Operators.{each, settingsOf};
+ghost use Rattle.values.specs.Indicator.{frequency, duration, fee, over, yearlyValue, reliableMask, scores, numbered};
 use book::Book;
 use calls::has_bit;
 
@@ -60,7 +59,7 @@ fn others(mask: u16) -> u16
 // The values of a year, by operator.
 fn yearly_values(b: Book, number: u8, year: u8) -> [u64; 16]
     requires { ⌜ (inRange b ≡ true) × (number < 6) × (year < 3) ⌝ }
-    ensures { λ r. ⌜ r ≡ yearlyValues b (numbered number .measure) year ⌝ }
+    ensures { λ r. ⌜ r ≡ each (λ (operator : ℕ). yearlyValue b (numbered number .measure) operator year) ⌝ }
 {
     match number {
         0 => frequencies(b, year, 0, 0),
@@ -74,7 +73,7 @@ fn yearly_values(b: Book, number: u8, year: u8) -> [u64; 16]
 
 fn frequencies(b: Book, year: u8, figure: u8, which: u8) -> [u64; 16]
     requires { ⌜ (inRange b ≡ true) × (year < 3) × (figure < 8) × (which < 3) ⌝ }
-    ensures { λ r. ⌜ r ≡ yearlyValues b (frequency figure which) year ⌝ }
+    ensures { λ r. ⌜ r ≡ each (λ (operator : ℕ). yearlyValue b (frequency figure which) operator year) ⌝ }
 {
     quotients(
         1000000,
@@ -86,7 +85,7 @@ fn frequencies(b: Book, year: u8, figure: u8, which: u8) -> [u64; 16]
 
 fn durations(b: Book, year: u8, seconds: u8, weight: u8) -> [u64; 16]
     requires { ⌜ (inRange b ≡ true) × (year < 3) × (seconds < 8) × (weight < 8) ⌝ }
-    ensures { λ r. ⌜ r ≡ yearlyValues b (duration seconds weight) year ⌝ }
+    ensures { λ r. ⌜ r ≡ each (λ (operator : ℕ). yearlyValue b (duration seconds weight) operator year) ⌝ }
 {
     quotients(
         1000,
@@ -99,7 +98,7 @@ fn durations(b: Book, year: u8, seconds: u8, weight: u8) -> [u64; 16]
 // Fees per connection, in the money of June 2013.
 fn fees(b: Book, year: u8, paid: u8, connections: u8) -> [u64; 16]
     requires { ⌜ (inRange b ≡ true) × (year < 3) × (paid < 8) × (connections < 8) ⌝ }
-    ensures { λ r. ⌜ r ≡ yearlyValues b (fee paid connections) year ⌝ }
+    ensures { λ r. ⌜ r ≡ each (λ (operator : ℕ). yearlyValue b (fee paid connections) operator year) ⌝ }
 {
     let indices = b.indices;
     let base = widened(indices[3]);
@@ -115,7 +114,7 @@ fn fees(b: Book, year: u8, paid: u8, connections: u8) -> [u64; 16]
 // One figure of each operator in a year.
 fn figures_of(b: Book, year: u8, figure: u8) -> [u64; 16]
     requires { ⌜ (year < 3) × (figure < 8) ⌝ }
-    ensures { λ r. ⌜ r ≡ figuresOf b year figure ⌝ }
+    ensures { λ r. ⌜ r ≡ each (λ (operator : ℕ). figureOf b operator year figure) ⌝ }
 {
     let figures = b.figures;
     let mut list = [0u64; 16];

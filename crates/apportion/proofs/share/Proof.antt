@@ -5,7 +5,6 @@ use Prim.Native.Nat.{ℕ, _<_}
 use native.Mathlib.Omega.{arith}
 use lib.ListN.{length, replicate}
 use Rattle.apportion.specs.Sum.{sum}
-use Rattle.apportion.specs.Share.{leftOver}
 use Rattle.apportion.proofs.Fill.{constant}
 use Rattle.apportion.proofs.Shared.{share-none, share-some, floors-below}
 use borrow.Author.Needs.{needs}
@@ -50,7 +49,6 @@ award-units-requires c κs =
     omega (arith, c .total2 .ensures, fits)
 
 returns-2 : tie.Need-returns-2
-unfolding leftOver
 returns-2 c =
     let start = c .before .before .before .before .before .before in
     let some : 0 < sum (start .args .weights) = omega (arith, c .before .before .before .before .before .total .ensures, c .before .before .before .before .if1 .left) in

@@ -1,7 +1,7 @@
 -- `exponent::weight` meets its contract: the table follows the recurrence, by one test over all its entries.
 -- Assumes nothing.
 use native.Mathlib.Omega.{arith}
-use Rattle.exponent.specs.Weight.{next, weightOf}
+use Rattle.exponent.specs.Weight.{weightOf}
 use Rattle.exponent.proofs.Entries.{entry-at}
 use borrow.Author.Needs.{needs}
 use Rattle.exponent.proofs.weight.Statement.{statement}
@@ -14,7 +14,7 @@ array-read-result : tie.Need-array-read-result
 array-read-result c = search needs
 
 returns : tie.Need-returns
-unfolding next weightOf
+unfolding weightOf
 returns c = entry-at 1001 (c .args .k) (omega arith)
 
 pub weight-spec : {M : Type 1} → statement M

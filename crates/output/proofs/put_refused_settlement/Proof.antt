@@ -4,8 +4,8 @@ use Prim.Native.Nat.{_^_, _<_}
 use native.Mathlib.Omega.{arith}
 use Rattle.text.specs.Text.{bytesOf}
 use Rattle.text.proofs.WrittenLaws.{room-after, put-then}
-use Rattle.output.specs.Output.{refusedBy, refusedSettlement}
-use Rattle.output.proofs.RefusalLaws.{settlement-length, room, at-front}
+use Rattle.output.specs.Output.{refusedBy}
+use Rattle.output.proofs.RefusalLaws.{refusedSettlement, settlement-length, room, at-front}
 use borrow.Author.Needs.{needs}
 use Rattle.output.proofs.put_refused_settlement.Statement.{statement}
 use Rattle.output.proofs.put_refused_settlement.Tie as tie
@@ -21,7 +21,7 @@ slice-aggregate-put-word : tie.Need-slice-aggregate-put-word
 slice-aggregate-put-word c = search needs
 
 put-word-requires : tie.Need-put-word-requires
-unfolding refusedSettlement bytesOf
+unfolding bytesOf
 put-word-requires c κs =
     let begun = c .before .before .before .before .before .before .before in
     let number = begun .args .number in
@@ -33,7 +33,7 @@ same-length : tie.Need-same-length
 same-length c = search needs
 
 returns : tie.Need-returns
-unfolding refusedSettlement bytesOf
+unfolding bytesOf
 returns c =
     let begun = c .before .before .before .before .before .before .before .before .before .before in
     let number = begun .args .number in

@@ -4,7 +4,8 @@ use mathlib.Core.Path.{_≡_, sym, ap, subst, _∙_}
 use lib.ListN.{length}
 use Rattle.text.specs.Buffer.{putInto}
 use Rattle.report.specs.Report.{reportSaid}
-use Rattle.output.specs.Output.{refusedSettlement, settlementText}
+use Rattle.output.specs.Output.{settlementText}
+use Rattle.output.proofs.RefusalLaws.{refusedSettlement}
 use Rattle.output.proofs.SettlementLaws.{Told, told}
 use borrow.Author.Needs.{needs}
 use Rattle.output.proofs.put_settlement.Statement.{statement}

@@ -7,7 +7,7 @@ use mathlib.Core.Bool.{cond}
 use Prim.Native.Nat.{ℕ, _+_, _-_}
 use lib.ListN.{getD}
 use Rattle.calls.specs.Masks.{has}
-use Rattle.values.specs.Indicator.{numbered, threeYears, isReliable, scores, yearlyValue}
+use Rattle.values.specs.Indicator.{numbered, threeYears, scores, yearlyValue}
 use Rattle.values.proofs.Tables.{Filling, filling-none, filling-more, filling-each, each-at, each-same}
 use Rattle.values.proofs.Scores.{yearlies-le}
 use Rattle.values.proofs.scores_of.Statement.{statement}
@@ -86,7 +86,7 @@ loop-again : tie.Need-loop-again Inv-loop μ-loop
 loop-again c = filling-more _ _ (c .before .before .loop .inv) (omega arith) (c .score .ensures)
 
 returns : tie.Need-returns Inv-loop μ-loop
-unfolding scores isReliable threeYears
+unfolding scores threeYears
 returns c =
     let start = c .before .before .before .before .before .before in
     let value : ℕ → ℕ → ℕ = λ year k. yearlyValue (start .args .b) (numbered (start .args .number) .measure) k year in

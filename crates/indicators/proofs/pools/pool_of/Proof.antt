@@ -3,7 +3,7 @@
 use mathlib.Core.Path.{refl, _∙_}
 use native.Mathlib.Omega.{arith}
 use native.Mathlib.Nat.{mul-le-mul}
-use Rattle.values.specs.Indicator.{pool, joinedCount, reliableCount}
+use Rattle.values.specs.Indicator.{pool}
 use borrow.Author.Needs.{needs}
 use Rattle.indicators.proofs.pools.pool_of.Statement.{statement}
 use Rattle.indicators.proofs.pools.pool_of.Tie as tie
@@ -32,7 +32,7 @@ divide-requires : tie.Need-divide-requires
 divide-requires c κs = search needs
 
 returns : tie.Need-returns
-unfolding pool joinedCount reliableCount
+unfolding pool
 returns c =
     let product = mul-le-mul (c .before .before .before .before .points-a-year .ensures .1) (c .before .before .ones-of .ensures .1) in (
       c .divide .ensures .0

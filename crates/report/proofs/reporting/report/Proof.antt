@@ -4,7 +4,7 @@ use mathlib.Core.Path.{_≡_, sym, ap, subst, _∙_}
 use Rattle.settlement.specs.declared.Settlement.{Settlement}
 use Rattle.calls.specs.Answers.{accepted, isRefused, yes-said, said}
 use Rattle.calls.proofs.SaidLaws.{told-accepted}
-use Rattle.lines.specs.Steps.{Printable}
+use Rattle.lines.specs.Lines.{Printable}
 use Rattle.settlement.specs.Settlement.{settled}
 use Rattle.report.specs.Report.{textOf}
 use Rattle.report.proofs.PrintedLaws.{printable}

@@ -1,6 +1,5 @@
 -- `settlement::money::access_points_of` meets its contract.
 -- Assumes nothing.
-use Rattle.settlement.specs.Money.{accessPoints}
 use borrow.Author.Needs.{needs}
 use Rattle.settlement.proofs.money.access_points_of.Statement.{statement}
 use Rattle.settlement.proofs.money.access_points_of.Tie as tie
@@ -9,7 +8,6 @@ settings-of-requires : tie.Need-settings-of-requires
 settings-of-requires c κs = search needs
 
 returns : tie.Need-returns
-unfolding accessPoints
 returns c = c .settings-of .ensures
 
 pub access-points-of-spec : {M : Type 1} → statement M

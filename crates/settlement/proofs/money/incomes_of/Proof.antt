@@ -1,6 +1,5 @@
 -- `settlement::money::incomes_of` meets its contract.
 -- Assumes nothing.
-use Rattle.settlement.specs.Money.{incomes}
 use borrow.Author.Needs.{needs}
 use Rattle.settlement.proofs.money.incomes_of.Statement.{statement}
 use Rattle.settlement.proofs.money.incomes_of.Tie as tie
@@ -9,7 +8,6 @@ settings-of-requires : tie.Need-settings-of-requires
 settings-of-requires c κs = search needs
 
 returns : tie.Need-returns
-unfolding incomes
 returns c = c .settings-of .ensures
 
 pub incomes-of-spec : {M : Type 1} → statement M
