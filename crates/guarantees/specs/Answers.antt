@@ -6,7 +6,7 @@ use mathlib.Core.List.{List}
 use lib.ListN.{length}
 use Rattle.calls.specs.declared.Call.{Call}
 use Rattle.calls.specs.Answers.{yes-said}
-use Rattle.calls.specs.Call.{acceptanceOf}
+use Rattle.calls.specs.Call.{factsOf}
 use Rattle.calls.specs.Laws.{Lowest}
 use Rattle.book.specs.declared.Book.{Book}
 use Rattle.ledger.specs.Table.{linesFor}
@@ -17,7 +17,7 @@ use Rattle.report.specs.Report.{textOf, reportLines}
 
 pub record LowestGiven : Type 0 where
   -- a filing call, by who has joined and what the figures come to
-  pub calls : (joined : ℕ → Bool) (total : ℕ → ℕ → ℕ → ℕ) (call : Call) → Lowest (linesFor joined total call) (acceptanceOf call)
+  pub calls : (joined : ℕ → Bool) (total : ℕ → ℕ → ℕ → ℕ) (call : Call) → Lowest (linesFor joined total call) (factsOf call .answer)
   -- the field that begins at an offset
   pub fields : (bytes : List ℕ) (at : ℕ) → Lowest (fieldLines bytes at) (callAt bytes at)
   -- settling over any list of indicators

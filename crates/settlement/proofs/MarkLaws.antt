@@ -10,8 +10,7 @@ use borrow.Author.Tests.{eqb-true, eqb-false}
 use Rattle.calls.specs.Masks.{has}
 use Rattle.calls.proofs.MaskLaws.{has-zero}
 use Rattle.book.specs.declared.Book.{Book}
-use Rattle.book.specs.Every.{every}
-use Rattle.book.specs.Book.{isJoined, isMarked, inRange}
+use Rattle.book.specs.Book.{isJoined, isMarked, inRange, every}
 use Rattle.book.proofs.EveryLaws.{every-of-each, every-fails}
 use Rattle.values.specs.Indicator.{Indicator, reliableMask}
 use Rattle.indicators.proofs.OnesLaws.{some-one}

@@ -10,8 +10,7 @@ use Rattle.settlement.specs.declared.Settlement.{Settlement}
 use Rattle.calls.specs.Limits.{operators, indicatorCount}
 use Rattle.calls.specs.Answers.{Said, Acceptance, yes-said, onAnswer, firstOf}
 use Rattle.book.specs.declared.Book.{Book}
-use Rattle.book.specs.Every.{every}
-use Rattle.book.specs.Book.{isJoined, isMarked, settingOf, inRange}
+use Rattle.book.specs.Book.{isJoined, isMarked, settingOf, inRange, every}
 use Rattle.values.specs.Operators.{any}
 use Rattle.values.specs.Indicator.{Indicator, electricity, pool}
 use Rattle.indicators.specs.Points.{points}

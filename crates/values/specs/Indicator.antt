@@ -31,9 +31,12 @@ pub record Indicator : Type 0 where
 -- "A1 154, A2 126, A3 66, A4 54, D1 20, D2 5; indicators 0 to 5"
 unfoldable pub electricity : List Indicator
 electricity =
-    record { number = 0; points = 154; measure = frequency 0 0 } ∷ record { number = 1; points = 126; measure = duration 1 0 }
-    ∷ record { number = 2; points = 66; measure = frequency 2 1 } ∷ record { number = 3; points = 54; measure = duration 3 2 }
-    ∷ record { number = 4; points = 20; measure = fee 4 5 } ∷ record { number = 5; points = 5; measure = fee 6 7 } ∷ []
+    record { number = 0; points = 154; measure = frequency 0 0 }
+    ∷ record { number = 1; points = 126; measure = duration 1 0 }
+    ∷ record { number = 2; points = 66; measure = frequency 2 1 }
+    ∷ record { number = 3; points = 54; measure = duration 3 2 }
+    ∷ record { number = 4; points = 20; measure = fee 4 5 }
+    ∷ record { number = 5; points = 5; measure = fee 6 7 } ∷ []
 
 -- "rounded down; a zero divisor gives 0"
 unfoldable pub over : ℕ → ℕ → ℕ
