@@ -1,4 +1,4 @@
--- What holds of settling every book, over a list of indicators. Proofs: proofs/SettledLaws.antt.
+-- What holds of settling every book, over a list of indicators. The proof is `settling` of proofs/SettledLaws.antt.
 -- Assumes nothing.
 use Prim.Native.Nat.{ℕ, _*_, _≤_, _<_}
 use mathlib.Core.Path.{_≡_}
