@@ -6,7 +6,6 @@ use mathlib.Core.List.{List, [], _∷_}
 use native.Mathlib.Omega.{arith}
 use lib.ListN.{length}
 use Rattle.calls.specs.Answers.{refused-by, accepted, yes-said, onAnswer}
-use Rattle.calls.proofs.Opened.{calls-opened}
 use Rattle.book.specs.Book.{freshBook}
 use Rattle.settlement.specs.Settlement.{settled}
 use Rattle.filing.specs.Reader.{reading, read}

@@ -1,7 +1,7 @@
 -- The cases that document 01 marks, and its examples in bytes, gathered in one list of statements. One theorem covers the list: `all-hold` of proofs/MarkedHold.antt.
 -- Assumes nothing.
 use mathlib.Core.Path.{_≡_}
-use mathlib.Core.List.{List, [], _∷_, reverse}
+use mathlib.Core.List.{List, [], _∷_}
 use Prim.Native.Nat.{ℕ}
 use lib.Dec.{ltb}
 use lib.IntN.{pos, negℤ}
@@ -20,9 +20,9 @@ use Rattle.settlement.specs.Settlement.{settled}
 use Rattle.text.specs.Text.{bytesOf}
 use Rattle.output.specs.Output.{outputOf}
 
--- what the last of some calls on a fresh book is answered
-abbrev pub lastSaid : List Call → Said Acceptance
-lastSaid calls = getD (reverse (filedAnswers freshBook calls)) 0 (accepted yes-said)
+-- what a call is answered after operator 0 has joined a fresh book
+abbrev pub saidTo : Call → Said Acceptance
+saidTo call = getD (filedAnswers freshBook (Join 0 ∷ call ∷ [])) 1 (refused-by 0)
 
 -- operator 0 files an interruption of its own MV network with one cabin
 abbrev pub lasting : ℕ → ℕ → Call
@@ -47,8 +47,7 @@ filingM =
 
 -- the lines that 01 shows for M
 abbrev pub linesM : List ℕ
-linesM =
-    bytesOf "operator points out in adjustment\n0 65036 375000 386463 11463\n1 62464 1125000 1113537 -11463\nall 127500 1500000 1500000 0\n"
+linesM = bytesOf "operator points out in adjustment\n0 65036 375000 386463 11463\n1 62464 1125000 1113537 -11463\nall 127500 1500000 1500000 0\n"
 
 -- every statement of a list holds
 abbrev pub All : List (Type 0) → Type 0
@@ -58,12 +57,9 @@ All (statement ∷ rest) = statement × All rest
 -- "A refused field prints `refused 4 at 0` (number, offset)", and the examples that the table of answers gives in bytes
 abbrev pub refusedFilings : List (Type 0)
 refusedFilings =
-    (outputOf (1 ∷ 0 ∷ 1 ∷ 16 ∷ []) ≡ bytesOf "refused 4 at 0\n")
-    ∷ (outputOf (1 ∷ 0 ∷ []) ≡ bytesOf "refused 1 at 0\n")
-    ∷ (outputOf (99 ∷ 0 ∷ 0 ∷ []) ≡ bytesOf "refused 2 at 0\n")
-    ∷ (outputOf (1 ∷ 0 ∷ 2 ∷ 0 ∷ 0 ∷ []) ≡ bytesOf "refused 3 at 0\n")
-    ∷ (outputOf (5 ∷ 0 ∷ 3 ∷ 0 ∷ 6 ∷ 1 ∷ []) ≡ bytesOf "refused 5 at 0\n")
-    ∷ (outputOf (1 ∷ 0 ∷ 1 ∷ 0 ∷ 1 ∷ 0 ∷ 1 ∷ 0 ∷ []) ≡ bytesOf "refused 6 at 4\n")
+    (outputOf (1 ∷ 0 ∷ 1 ∷ 16 ∷ []) ≡ bytesOf "refused 4 at 0\n") ∷ (outputOf (1 ∷ 0 ∷ []) ≡ bytesOf "refused 1 at 0\n")
+    ∷ (outputOf (99 ∷ 0 ∷ 0 ∷ []) ≡ bytesOf "refused 2 at 0\n") ∷ (outputOf (1 ∷ 0 ∷ 2 ∷ 0 ∷ 0 ∷ []) ≡ bytesOf "refused 3 at 0\n")
+    ∷ (outputOf (5 ∷ 0 ∷ 3 ∷ 0 ∷ 6 ∷ 1 ∷ []) ≡ bytesOf "refused 5 at 0\n") ∷ (outputOf (1 ∷ 0 ∷ 1 ∷ 0 ∷ 1 ∷ 0 ∷ 1 ∷ 0 ∷ []) ≡ bytesOf "refused 6 at 4\n")
     ∷ (outputOf (5 ∷ 0 ∷ 3 ∷ 0 ∷ 0 ∷ 1 ∷ []) ≡ bytesOf "refused 7 at 0\n") ∷ []
 
 abbrev pub marked : List (Type 0)
@@ -73,15 +69,13 @@ marked =
     -- "the table's weight for k = 4 is 996,005,996 (k = 0 has the first)"
     ∷ (weightOf 4 ≡ 996005996) ∷ (weightOf 0 ≡ 1000000000)
     -- "180 s is short, 181 s counts"
-    ∷ (lastSaid (Join 0 ∷ lasting 0 180 ∷ []) ≡ accepted left-out-as-short)
-    ∷ (lastSaid (Join 0 ∷ lasting 0 181 ∷ []) ≡ accepted (counted-in 0))
+    ∷ (saidTo (lasting 0 180) ≡ accepted left-out-as-short) ∷ (saidTo (lasting 0 181) ≡ accepted (counted-in 0))
     -- "end 31,535,999 is year 0, 31,536,000 year 1"
-    ∷ (lastSaid (Join 0 ∷ lasting 31535000 31535999 ∷ []) ≡ accepted (counted-in 0))
-    ∷ (lastSaid (Join 0 ∷ lasting 31535000 31536000 ∷ []) ≡ accepted (counted-in 1))
+    ∷ (saidTo (lasting 31535000 31535999) ≡ accepted (counted-in 0)) ∷ (saidTo (lasting 31535000 31536000) ≡ accepted (counted-in 1))
     -- "end 94,608,000 gives 5"
-    ∷ (lastSaid (Join 0 ∷ lasting 94607000 94608000 ∷ []) ≡ refused-by 5)
+    ∷ (saidTo (lasting 94607000 94608000) ≡ refused-by 5)
     -- "a figure of exactly 10^11 is taken"
-    ∷ (lastSaid (Join 0 ∷ Amount 0 0 4 0 100000000000 ∷ []) ≡ accepted yes-said)
+    ∷ (saidTo (Amount 0 0 4 0 100000000000) ≡ accepted yes-said)
     ∷ (figureOf (bookOf (Join 0 ∷ Amount 0 0 4 0 100000000000 ∷ [])) 0 0 4 ≡ 100000000000)
     -- "The program .. prints this for marked case M"
     ∷ (outputOf filingM ≡ linesM)

@@ -1,6 +1,6 @@
 -- The weights of an indicator: above 0 for whoever takes part, and small enough to add up in 64 bits.
 -- Assumes nothing.
-use Prim.Native.Nat.{ℕ, _*_, _/_, _≤_, _<_, zero-le}
+use Prim.Native.Nat.{ℕ, _-_, _*_, _/_, _≤_, _<_, zero-le}
 use mathlib.Core.Path.{_≡_, refl, _∙_}
 use mathlib.Core.Bool.{Bool, true, false, cond}
 use mathlib.Core.List.{List}
@@ -15,10 +15,14 @@ use Rattle.calls.specs.Masks.{has}
 use Rattle.calls.proofs.Flags.{and-left}
 use Rattle.values.specs.Operators.{each, count}
 use Rattle.values.specs.Indicator.{Measure, over}
-use Rattle.indicators.specs.Points.{largest, normalised, exponentWeight, isBetter, levelled, linearWeight, isLevelled, weightOfOne, weights}
+use Rattle.indicators.specs.Points.{largest, normalised, exponentWeight, isBetter, levelled, isLevelled, weightOfOne, weights}
 use Rattle.values.proofs.Tables.{length-each, each-at, each-le-sum, sum-each-le}
 use Rattle.values.proofs.CountLaws.{cond-le, count-le, count-positive}
 use Rattle.indicators.proofs.Largest.{largest-ge}
+
+-- D: "the weight is 1,000,000 - 6 × e"
+abbrev pub linearWeight : List ℕ → ℕ → ℕ
+linearWeight scores operator = 1000000 - 6 * normalised 100000 scores operator
 
 -- a quotient, or 0, is at most a number that many times the divisor reaches
 pub over-most : (dividend divisor most : ℕ) → dividend ≤ divisor * most → over dividend divisor ≤ most
@@ -45,11 +49,9 @@ module _ (list : List ℕ) (operator : ℕ) where
   exponent-most = weight-most _
 
   pub linear-least : 400000 ≤ linearWeight list operator
-  unfolding linearWeight
   linear-least = omega (arith, normalised-most 100000)
 
   pub linear-most : linearWeight list operator ≤ 1000000
-  unfolding linearWeight
   linear-most = omega arith
 
 -- the weights of the better in one

@@ -10,9 +10,9 @@ use Rattle.calls.specs.Masks.{has}
 use Rattle.apportion.specs.Sum.{sum}
 use Rattle.values.specs.Operators.{each}
 use Rattle.values.specs.Indicator.{Measure, electricity, numbered}
-use Rattle.indicators.specs.Points.{exponentWeight, linearWeight, isBetter, levelled, isLevelled, weightOfOne, weights}
+use Rattle.indicators.specs.Points.{exponentWeight, isBetter, levelled, isLevelled, weightOfOne, weights}
 use Rattle.values.proofs.Tables.{each-at, each-same}
-use Rattle.indicators.proofs.WeightLaws.{together}
+use Rattle.indicators.proofs.WeightLaws.{linearWeight, together}
 
 -- the first four indicators are levelled, the others linear
 pub levels : (number : ℕ) → number < 4 → isLevelled (numbered number .measure) ≡ true

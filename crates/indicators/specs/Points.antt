@@ -28,10 +28,6 @@ normalised parts scores operator = over (parts * getD scores operator 0) (larges
 unfoldable pub exponentWeight : List ℕ → ℕ → ℕ
 exponentWeight scores operator = weightOf (normalised 1000 scores operator)
 
--- D: "the weight is 1,000,000 - 6 × e"
-unfoldable pub linearWeight : List ℕ → ℕ → ℕ
-linearWeight scores operator = 1000000 - 6 * normalised 100000 scores operator
-
 -- among those of a mask: "Better operators have m × s below the sum of all s"
 unfoldable pub isBetter : ℕ → List ℕ → ℕ → Bool
 isBetter mask scores operator = has mask operator && ltb (ones mask * getD scores operator 0) (sum scores)
@@ -50,10 +46,10 @@ isLevelled (frequency figure which) = true
 isLevelled (duration seconds weight) = true
 isLevelled (fee fees connections) = false
 
--- the weight of one that takes part
+-- the weight of one that takes part; D: "the weight is 1,000,000 - 6 × e"
 unfoldable pub weightOfOne : Measure → ℕ → List ℕ → ℕ → ℕ
 weightOfOne measure mask scores operator =
-    cond (isLevelled measure) (levelled (isBetter mask scores) (exponentWeight scores) operator) (linearWeight scores operator)
+    cond (isLevelled measure) (levelled (isBetter mask scores) (exponentWeight scores) operator) (1000000 - 6 * normalised 100000 scores operator)
 
 unfoldable pub weights : Measure → ℕ → List ℕ → List ℕ
 weights measure mask scores = each (λ (operator : ℕ). cond (has mask operator) (weightOfOne measure mask scores operator) 0)

@@ -11,7 +11,6 @@ ghost use Rattle.ledger.specs.Steps.{Gives, memberLines, admissionSaid, 
 use crate::Admission;
 use crate::Filed;
 use crate::interruptions;
-use crate::refused;
 use book::Book;
 use calls::Answer;
 use calls::Call;
@@ -70,11 +69,17 @@ fn join(b: Book, operator: u8) -> Filed
     ensures { λ r. ⌜ Gives r (Calls·apply b (Call.Join operator)) ⌝ }
 {
     if 15 < operator {
-        return refused(b, Refusal::UnknownOperator);
+        return Filed {
+            book: b,
+            answer: Answer::Refused(Refusal::UnknownOperator),
+        };
     }
     let joined = b.joined;
     if has_bit(joined, operator) {
-        return refused(b, Refusal::AlreadyJoined);
+        return Filed {
+            book: b,
+            answer: Answer::Refused(Refusal::AlreadyJoined),
+        };
     }
     let mut next = b;
     next.joined = include_bit(joined, operator);
@@ -113,7 +118,10 @@ fn setting(b: Book, operator: u8, which: u8, value: u64) -> Filed
                 answer: Answer::Yes,
             }
         }
-        Admission::Refused(refusal) => refused(b, refusal),
+        Admission::Refused(refusal) => Filed {
+            book: b,
+            answer: Answer::Refused(refusal),
+        },
     }
 }
 
@@ -122,7 +130,10 @@ fn amount(b: Book, operator: u8, year: u8, figure: u8, sign: u8, value: u64) -> 
 {
     match admit(b.joined, operator, amount_in_range(year, figure, sign)) {
         Admission::Admitted => enter_amount(b, operator, year, figure, sign, value),
-        Admission::Refused(refusal) => refused(b, refusal),
+        Admission::Refused(refusal) => Filed {
+            book: b,
+            answer: Answer::Refused(refusal),
+        },
     }
 }
 
@@ -142,8 +153,14 @@ fn enter_amount(b: Book, operator: u8, year: u8, figure: u8, sign: u8, value: u6
                 answer: Answer::Yes,
             }
         }
-        Moved::Above => refused(b, Refusal::AboveLimit),
-        Moved::Below => refused(b, Refusal::BelowZero),
+        Moved::Above => Filed {
+            book: b,
+            answer: Answer::Refused(Refusal::AboveLimit),
+        },
+        Moved::Below => Filed {
+            book: b,
+            answer: Answer::Refused(Refusal::BelowZero),
+        },
     }
 }
 
@@ -161,7 +178,10 @@ fn mark_indicator(b: Book, operator: u8, indicator: u8, mark: u8) -> Filed
                 answer: Answer::Yes,
             }
         }
-        Admission::Refused(refusal) => refused(b, refusal),
+        Admission::Refused(refusal) => Filed {
+            book: b,
+            answer: Answer::Refused(refusal),
+        },
     }
 }
 
@@ -169,7 +189,10 @@ fn rates(b: Book, pot: u32, cap: u32) -> Filed
     ensures { λ r. ⌜ Gives r (Calls·apply b (Call.Rates pot cap)) ⌝ }
 {
     if !rates_in_range(pot, cap) {
-        return refused(b, Refusal::OutOfRange);
+        return Filed {
+            book: b,
+            answer: Answer::Refused(Refusal::OutOfRange),
+        };
     }
     let mut next = b;
     next.pot_rate = pot;
@@ -184,7 +207,10 @@ fn index(b: Book, number: u8, value: u32) -> Filed
     ensures { λ r. ⌜ Gives r (Calls·apply b (Call.Index number value)) ⌝ }
 {
     if !index_in_range(number, value) {
-        return refused(b, Refusal::OutOfRange);
+        return Filed {
+            book: b,
+            answer: Answer::Refused(Refusal::OutOfRange),
+        };
     }
     let mut next = b;
     let at = number as usize;

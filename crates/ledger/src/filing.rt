@@ -4,7 +4,6 @@ ghost use Rattle.calls.specs.Answers.{said};
 ghost use Rattle.ledger.specs.Calls.{file as Calls·file};
 use crate::Filed;
 use crate::dispatch::apply;
-use crate::refused;
 use book::Book;
 use book::in_range;
 use calls::Answer;
@@ -16,7 +15,10 @@ pub fn file(b: Book, filing_call: Call) -> Filed
     ensures { λ r. ⌜ (said (r .answer) ≡ Calls·file b «filing_call» .said) × (r .book ≡ Calls·file b «filing_call» .book) ⌝ }
 {
     if !in_range(b) {
-        return refused(b, Refusal::OutOfRange);
+        return Filed {
+            book: b,
+            answer: Answer::Refused(Refusal::OutOfRange),
+        };
     }
     apply(b, filing_call)
 }

@@ -9,7 +9,6 @@ ghost use Rattle.ledger.specs.Steps.{Gives, entering};
 use crate::Admission;
 use crate::Filed;
 use crate::dispatch::admit;
-use crate::refused;
 use book::Book;
 use calls::Answer;
 use calls::Call;
@@ -40,7 +39,10 @@ pub(crate) fn interruption(
         interruption_in_range(sign, level, cause, start, end, weight),
     ) {
         Admission::Admitted => enter(b, operator, sign, level, cause, start, end, weight),
-        Admission::Refused(refusal) => refused(b, refusal),
+        Admission::Refused(refusal) => Filed {
+            book: b,
+            answer: Answer::Refused(refusal),
+        },
     }
 }
 
@@ -104,10 +106,22 @@ fn enter_counted(
                     answer: Answer::Counted { year },
                 }
             }
-            Moved::Above => refused(b, Refusal::AboveLimit),
-            Moved::Below => refused(b, Refusal::BelowZero),
+            Moved::Above => Filed {
+                book: b,
+                answer: Answer::Refused(Refusal::AboveLimit),
+            },
+            Moved::Below => Filed {
+                book: b,
+                answer: Answer::Refused(Refusal::BelowZero),
+            },
         },
-        Moved::Above => refused(b, Refusal::AboveLimit),
-        Moved::Below => refused(b, Refusal::BelowZero),
+        Moved::Above => Filed {
+            book: b,
+            answer: Answer::Refused(Refusal::AboveLimit),
+        },
+        Moved::Below => Filed {
+            book: b,
+            answer: Answer::Refused(Refusal::BelowZero),
+        },
     }
 }

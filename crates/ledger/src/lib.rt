@@ -3,8 +3,6 @@ mod dispatch;
 mod filing;
 mod interruptions;
 
-ghost use mathlib.Core.Path.{_≡_};
-ghost use Rattle.calls.specs.Answers.{refused-by, numberOf, said};
 use book::Book;
 use calls::Answer;
 use calls::Refusal;
@@ -28,14 +26,4 @@ pub struct Filed {
 pub(crate) enum Admission {
     Admitted,
     Refused(Refusal),
-}
-
-// A refused call leaves the book.
-pub(crate) fn refused(b: Book, refusal: Refusal) -> Filed
-    ensures { λ r. ⌜ (said (r .answer) ≡ refused-by (numberOf refusal)) × (r .book ≡ b) ⌝ }
-{
-    Filed {
-        book: b,
-        answer: Answer::Refused(refusal),
-    }
 }

@@ -2,6 +2,7 @@
 -- Assumes nothing.
 use Prim.Native.Nat.{ℕ, zero, suc, _+_, _*_, _<_}
 use mathlib.Core.Path.{_≡_, refl, sym, ap, _∙_}
+use mathlib.Core.Logic.{_↔_}
 use mathlib.Core.Bool.{Bool, true, false, not, _&&_, _||_, false≢true}
 use mathlib.Core.List.{List, [], _∷_, map}
 use native.Mathlib.Nat.{mul-pos}
@@ -13,7 +14,7 @@ use borrow.Author.Tests.{eqb-false, not-false}
 use Rattle.apportion.specs.Sum.{sum}
 use Rattle.apportion.specs.Share.{share}
 use Rattle.apportion.proofs.Shared.{shared}
-use Rattle.calls.specs.Answers.{yes-said, onAnswer}
+use Rattle.calls.specs.Answers.{accepted, yes-said, onAnswer}
 use Rattle.calls.specs.Laws.{applies, risesFrom, Lowest}
 use Rattle.calls.proofs.Flags.{or-right, and-other}
 use Rattle.calls.proofs.Lowest.{lowest}
@@ -28,8 +29,8 @@ use Rattle.indicators.specs.Points.{points, allPoints}
 use Rattle.indicators.proofs.OnesLaws.{some-one}
 use Rattle.indicators.proofs.PointLaws.{points-made-up, points-length, points-reliable, reliable-joined, reliable-small, pool-above}
 use Rattle.settlement.specs.Money.{pot, contributions, returns}
-use Rattle.settlement.specs.Settlement.{networkMissing, allMarked, pointsOfAll, settlementBy, settlingLines, settledBy, settled}
-use Rattle.settlement.specs.Laws.{Worth, Settles, SettlesExactly, pointsAt, Balanced, BalancedIfSettles, SettleAlike}
+use Rattle.settlement.specs.Settlement.{networkMissing, allMarked, pointsOfAll, settlementBy, settlingLines, settledBy}
+use Rattle.settlement.specs.Laws.{Worth, Settles, pointsAt, Balanced, Settling}
 use Rattle.settlement.proofs.MarkLaws.{marked-none, marked-more}
 use Rattle.settlement.proofs.AdjustmentLaws.{adjustments-cancel, within-limits}
 use Rattle.settlement.proofs.UnjoinedLaws.{points-unjoined, contribution-none, return-none, limit-none, adjustment-none}
@@ -43,7 +44,7 @@ module _ (b : Book) (indicators : List Indicator) where
   unfolding risesFrom settlingLines
   lowest-of-settling = lowest yes-said (settlingLines b indicators) refl
 
-  pub settles-exactly : SettlesExactly b indicators
+  pub settles-exactly : Settles b indicators ↔ (settledBy b indicators .said ≡ accepted yes-said)
   unfolding settledBy
   settles-exactly = (lowest-of-settling .answered .1, lowest-of-settling .answered .0)
 
@@ -159,8 +160,14 @@ balanced-settlement b indicators worth settles =
       );
     }
 
-pub balanced-if-settles : (b : Book) (indicators : List Indicator) → BalancedIfSettles b indicators
+pub balanced-if-settles : (b : Book) (indicators : List Indicator) → Worth indicators → Settles b indicators
+    → Balanced b indicators (settledBy b indicators .settlement)
 balanced-if-settles b indicators worth settles = rw (settled-so b indicators settles) (balanced-settlement b indicators worth settles)
 
-pub settle-alike : (b other : Book) → SettleAlike b other
-settle-alike b other same = ap settled same
+pub settling : (b : Book) (indicators : List Indicator) → Settling b indicators
+settling b indicators =
+    record {
+      exactly = settles-exactly b indicators;
+      balanced = balanced-if-settles b indicators;
+      alike = λ other same. ap (λ (a : Book). settledBy a indicators) same;
+    }

@@ -1,4 +1,4 @@
--- What holds of settling every book, over a list of indicators. Proofs: proofs/SettledLaws.antt.
+-- What holds of settling every book, over a list of indicators. The proof is `settling` of proofs/SettledLaws.antt.
 -- Assumes nothing.
 use Prim.Native.Nat.{ℕ, _*_, _≤_, _<_}
 use mathlib.Core.Path.{_≡_}
@@ -15,7 +15,7 @@ use Rattle.book.specs.Book.{isJoined}
 use Rattle.apportion.specs.Sum.{sum}
 use Rattle.values.specs.Indicator.{Indicator}
 use Rattle.settlement.specs.declared.Settlement.{Settlement}
-use Rattle.settlement.specs.Settlement.{settlingLines, settledBy, settled}
+use Rattle.settlement.specs.Settlement.{settlingLines, settledBy}
 
 unfoldable pub sumℤ : List ℤ → ℤ
 sumℤ [] = pos 0
@@ -29,9 +29,6 @@ Worth (indicator ∷ rest) = (0 < indicator .points) × Worth rest
 -- "A book settles when none of 5, 10, 11 and 12 applies to it"
 abbrev pub Settles : Book → List Indicator → Type 0
 Settles b indicators = (number : ℕ) → applies (settlingLines b indicators) number ≡ false
-
-abbrev pub SettlesExactly : Book → List Indicator → Type 0
-SettlesExactly b indicators = Settles b indicators ↔ (settledBy b indicators .said ≡ accepted yes-said)
 
 -- the points of the indicator at a place of the list, by operator
 unfoldable pub pointsAt : Settlement → ℕ → List ℕ
@@ -50,10 +47,10 @@ pub record Balanced (b : Book) (indicators : List Indicator) (s : Settlement) : 
       × (getD (s .contributions) operator 0 ≡ 0) × (getD (s .returns) operator 0 ≡ 0)
       × (getD (s .limits) operator 0 ≡ 0) × (getD (s .adjustments) operator (pos 0) ≡ pos 0)
 
--- for every list of indicators worth points, what a book that settles is given is balanced
-abbrev pub BalancedIfSettles : Book → List Indicator → Type 0
-BalancedIfSettles b indicators = Worth indicators → Settles b indicators → Balanced b indicators (settledBy b indicators .settlement)
-
--- equal books give equal settlements or the same refusal
-abbrev pub SettleAlike : Book → Book → Type 0
-SettleAlike b other = b ≡ other → settled b ≡ settled other
+pub record Settling (b : Book) (indicators : List Indicator) : Type 0 where
+  -- the answer is yes exactly when the book settles,
+  pub exactly : Settles b indicators ↔ (settledBy b indicators .said ≡ accepted yes-said)
+  -- and what it is then given is balanced, if the indicators are worth points
+  pub balanced : Worth indicators → Settles b indicators → Balanced b indicators (settledBy b indicators .settlement)
+  -- equal books give equal settlements or the same refusal
+  pub alike : (other : Book) → b ≡ other → settledBy b indicators ≡ settledBy other indicators

@@ -6,7 +6,8 @@ use mathlib.Core.Bool.{cond}
 use mathlib.Core.List.{List}
 use Prim.Native.Nat.{ℕ, _-_}
 use native.Mathlib.Omega.{arith}
-use Rattle.indicators.specs.Points.{normalised, linearWeight}
+use Rattle.indicators.specs.Points.{normalised}
+use Rattle.indicators.proofs.WeightLaws.{linearWeight}
 use Rattle.calls.specs.Masks.{has}
 use Rattle.values.proofs.Tables.{Filling, filling-none, filling-more, filling-each}
 use Rattle.indicators.proofs.Largest.{largest-ge, largest-le}
@@ -59,7 +60,7 @@ loop-less : tie.Need-loop-less Inv-loop μ-loop
 loop-less c = omega arith
 
 loop-again : tie.Need-loop-again Inv-loop μ-loop
-unfolding linearWeight normalised
+unfolding normalised
 loop-again c =
     let begun = c .before .before .before .before in
     let f = linearAt (begun .args .mask) (begun .args .t2) in

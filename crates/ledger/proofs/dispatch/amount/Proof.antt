@@ -32,9 +32,6 @@ enter-amount-requires c κs =
 enum-known-refusal : tie.Need-enum-known-refusal
 enum-known-refusal c = search needs
 
-refused-requires : tie.Need-refused-requires
-refused-requires c κs = search needs
-
 returns : tie.Need-returns
 unfolding factsOf changed
 returns c =
@@ -46,9 +43,9 @@ returns c =
 returns-2 : tie.Need-returns-2
 unfolding factsOf
 returns-2 c =
-    let start = c .before .before .before .before .before .before in
-    rw (member-decided (start .args .b) (Amount (start .args .operator) (start .args .year) (start .args .figure) (start .args .sign) (start .args .value)) (start .args .operator) _ refl refl (sym (c .before .before .before .before .before .amount-in-range .ensures)) _ (sym (c .before .before .before .before .admit .ensures) ∙ ap admissionSaid (c .before .before .refusal .given .1)))
-    (c .refused .ensures)
+    let start = c .before .before .before .before .before in
+    rw (member-decided (start .args .b) (Amount (start .args .operator) (start .args .year) (start .args .figure) (start .args .sign) (start .args .value)) (start .args .operator) _ refl refl (sym (c .before .before .before .before .amount-in-range .ensures)) _ (sym (c .before .before .before .admit .ensures) ∙ ap admissionSaid (c .before .refusal .given .1)))
+    (refl, refl)
 
 pub amount-spec : {M : Type 1} → statement M
 amount-spec =
@@ -59,6 +56,5 @@ amount-spec =
     enum-told
     enter-amount-requires
     enum-known-refusal
-    refused-requires
     returns
     returns-2)

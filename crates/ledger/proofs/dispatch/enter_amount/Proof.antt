@@ -43,14 +43,8 @@ element-write-next c = omega arith
 enum-told : tie.Need-enum-told
 enum-told c = search needs
 
-refused-requires : tie.Need-refused-requires
-refused-requires c κs = search needs
-
 enum-told-2 : tie.Need-enum-told-2
 enum-told-2 c = search needs
-
-refused-requires-2 : tie.Need-refused-requires-2
-refused-requires-2 c κs = search needs
 
 returns : tie.Need-returns
 unfolding figureOf figureSlot
@@ -63,17 +57,17 @@ returns c =
 returns-2 : tie.Need-returns-2
 unfolding figureOf figureSlot
 returns-2 c =
-    let start = c .before .before .before .before .before in
-    rw (one-above (start .args .b) (entry (start .args .operator) (start .args .year) (start .args .figure) (start .args .sign) (start .args .value)) yes-said (moved-as (start .args .sign) (start .args .value) _ (start .pre .3) _ (sym (c .before .before .before .move-figure .ensures) ∙ c .before .enum-told .given .1)))
-    (c .refused .ensures)
+    let start = c .before .before .before .before in
+    rw (one-above (start .args .b) (entry (start .args .operator) (start .args .year) (start .args .figure) (start .args .sign) (start .args .value)) yes-said (moved-as (start .args .sign) (start .args .value) _ (start .pre .3) _ (sym (c .before .before .move-figure .ensures) ∙ c .enum-told .given .1)))
+    (refl, refl)
 
 -- 9
 returns-3 : tie.Need-returns-3
 unfolding figureOf figureSlot
 returns-3 c =
-    let start = c .before .before .before .before .before in
-    rw (one-below (start .args .b) (entry (start .args .operator) (start .args .year) (start .args .figure) (start .args .sign) (start .args .value)) yes-said (moved-as (start .args .sign) (start .args .value) _ (start .pre .3) _ (sym (c .before .before .before .move-figure .ensures) ∙ c .before .enum-told2 .given .1)))
-    (c .refused2 .ensures)
+    let start = c .before .before .before .before in
+    rw (one-below (start .args .b) (entry (start .args .operator) (start .args .year) (start .args .figure) (start .args .sign) (start .args .value)) yes-said (moved-as (start .args .sign) (start .args .value) _ (start .pre .3) _ (sym (c .before .before .move-figure .ensures) ∙ c .enum-told2 .given .1)))
+    (refl, refl)
 
 pub enter-amount-spec : {M : Type 1} → statement M
 enter-amount-spec =
@@ -90,9 +84,7 @@ enter-amount-spec =
     mul-next
     element-write-next
     enum-told
-    refused-requires
     enum-told-2
-    refused-requires-2
     returns
     returns-2
     returns-3)

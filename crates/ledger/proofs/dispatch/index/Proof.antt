@@ -15,16 +15,13 @@ use Rattle.ledger.proofs.dispatch.index.Tie as tie
 index-in-range-requires : tie.Need-index-in-range-requires
 index-in-range-requires c κs = search needs
 
-refused-requires : tie.Need-refused-requires
-refused-requires c κs = search needs
-
 -- 5
 returns : tie.Need-returns
 unfolding factsOf some
 returns c =
-    let start = c .before .before .before in
-    rw (out-of-range (start .args .b) (Index (start .args .number) (start .args .value)) refl (denied (c .before .before .index-in-range .ensures) (c .before .if1 .taken)))
-    (c .refused .ensures)
+    let start = c .before .before in
+    rw (out-of-range (start .args .b) (Index (start .args .number) (start .args .value)) refl (denied (c .before .index-in-range .ensures) (c .if1 .taken)))
+    (refl, refl)
 
 mul-next : tie.Need-mul-next
 mul-next c = search needs
@@ -47,7 +44,6 @@ index-spec =
     tie.close
     (tie.spec
     index-in-range-requires
-    refused-requires
     returns
     mul-next
     element-write-next

@@ -15,27 +15,21 @@ use borrow.Author.Needs.{needs}
 use Rattle.ledger.proofs.dispatch.join.Statement.{statement}
 use Rattle.ledger.proofs.dispatch.join.Tie as tie
 
-refused-requires : tie.Need-refused-requires
-refused-requires c κs = search needs
-
 -- 4
 returns : tie.Need-returns
 unfolding factsOf some
-returns c = rw (unknown-operator (c .before .before .args .b) (Join (c .before .before .args .operator)) (rw (le-leb 16 (c .before .before .args .operator) (c .before .if1 .taken)) refl)) (c .refused .ensures)
+returns c = rw (unknown-operator (c .before .args .b) (Join (c .before .args .operator)) (rw (le-leb 16 (c .before .args .operator) (c .if1 .taken)) refl)) (refl, refl)
 
 has-bit-requires : tie.Need-has-bit-requires
 has-bit-requires c κs = search needs
-
-refused-requires-2 : tie.Need-refused-requires-2
-refused-requires-2 c κs = search needs
 
 -- 6
 returns-2 : tie.Need-returns-2
 unfolding factsOf some isJoined
 returns-2 c =
-    let start = c .before .before .before .before in
-    rw (already-joined (start .args .b) (Join (start .args .operator)) (rw (lt-leb 16 (start .args .operator) (omega arith)) refl) refl (rw (sym (c .before .before .has-bit .ensures) ∙ c .before .if2 .taken) refl))
-    (c .refused2 .ensures)
+    let start = c .before .before .before in
+    rw (already-joined (start .args .b) (Join (start .args .operator)) (rw (lt-leb 16 (start .args .operator) (omega arith)) refl) refl (rw (sym (c .before .has-bit .ensures) ∙ c .if2 .taken) refl))
+    (refl, refl)
 
 include-bit-requires : tie.Need-include-bit-requires
 include-bit-requires c κs = search needs
@@ -53,10 +47,8 @@ pub join-spec : {M : Type 1} → statement M
 join-spec =
     tie.close
     (tie.spec
-    refused-requires
     returns
     has-bit-requires
-    refused-requires-2
     returns-2
     include-bit-requires
     returns-3)

@@ -50,9 +50,6 @@ element-write-next c =
 enum-known-refusal : tie.Need-enum-known-refusal
 enum-known-refusal c = search needs
 
-refused-requires : tie.Need-refused-requires
-refused-requires c κs = search needs
-
 returns : tie.Need-returns
 unfolding factsOf changed
 returns c =
@@ -64,9 +61,9 @@ returns c =
 returns-2 : tie.Need-returns-2
 unfolding factsOf
 returns-2 c =
-    let start = c .before .before .before .before .before .before in
-    rw (member-decided (start .args .b) (Mark (start .args .operator) (start .args .indicator) (start .args .mark)) (start .args .operator) _ refl refl (sym (c .before .before .before .before .before .mark-in-range .ensures)) _ (sym (c .before .before .before .before .admit .ensures) ∙ ap admissionSaid (c .before .before .refusal .given .1)))
-    (c .refused .ensures)
+    let start = c .before .before .before .before .before in
+    rw (member-decided (start .args .b) (Mark (start .args .operator) (start .args .indicator) (start .args .mark)) (start .args .operator) _ refl refl (sym (c .before .before .before .before .mark-in-range .ensures)) _ (sym (c .before .before .before .admit .ensures) ∙ ap admissionSaid (c .before .refusal .given .1)))
+    (refl, refl)
 
 pub mark-indicator-spec : {M : Type 1} → statement M
 mark-indicator-spec =
@@ -81,6 +78,5 @@ mark-indicator-spec =
     mul-next
     element-write-next
     enum-known-refusal
-    refused-requires
     returns
     returns-2)

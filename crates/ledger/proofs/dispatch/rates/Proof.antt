@@ -14,16 +14,13 @@ use Rattle.ledger.proofs.dispatch.rates.Tie as tie
 rates-in-range-requires : tie.Need-rates-in-range-requires
 rates-in-range-requires c κs = search needs
 
-refused-requires : tie.Need-refused-requires
-refused-requires c κs = search needs
-
 -- 5
 returns : tie.Need-returns
 unfolding factsOf some
 returns c =
-    let start = c .before .before .before in
-    rw (out-of-range (start .args .b) (Rates (start .args .pot) (start .args .cap)) refl (denied (c .before .before .rates-in-range .ensures) (c .before .if1 .taken)))
-    (c .refused .ensures)
+    let start = c .before .before in
+    rw (out-of-range (start .args .b) (Rates (start .args .pot) (start .args .cap)) refl (denied (c .before .rates-in-range .ensures) (c .if1 .taken)))
+    (refl, refl)
 
 -- both rates
 returns-2 : tie.Need-returns-2
@@ -34,4 +31,4 @@ returns-2 c =
     (refl, refl)
 
 pub rates-spec : {M : Type 1} → statement M
-rates-spec = tie.close (tie.spec rates-in-range-requires refused-requires returns returns-2)
+rates-spec = tie.close (tie.spec rates-in-range-requires returns returns-2)

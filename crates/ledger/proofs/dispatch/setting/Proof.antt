@@ -42,9 +42,6 @@ element-write-next c =
 enum-known-refusal : tie.Need-enum-known-refusal
 enum-known-refusal c = search needs
 
-refused-requires : tie.Need-refused-requires
-refused-requires c κs = search needs
-
 returns : tie.Need-returns
 unfolding factsOf changed settingSlot
 returns c =
@@ -56,9 +53,9 @@ returns c =
 returns-2 : tie.Need-returns-2
 unfolding factsOf
 returns-2 c =
-    let start = c .before .before .before .before .before .before in
-    rw (member-decided (start .args .b) (Setting (start .args .operator) (start .args .which) (start .args .value)) (start .args .operator) _ refl refl (sym (c .before .before .before .before .before .setting-in-range .ensures)) _ (sym (c .before .before .before .before .admit .ensures) ∙ ap admissionSaid (c .before .before .refusal .given .1)))
-    (c .refused .ensures)
+    let start = c .before .before .before .before .before in
+    rw (member-decided (start .args .b) (Setting (start .args .operator) (start .args .which) (start .args .value)) (start .args .operator) _ refl refl (sym (c .before .before .before .before .setting-in-range .ensures)) _ (sym (c .before .before .before .admit .ensures) ∙ ap admissionSaid (c .before .refusal .given .1)))
+    (refl, refl)
 
 pub setting-spec : {M : Type 1} → statement M
 setting-spec =
@@ -72,6 +69,5 @@ setting-spec =
     mul-next
     element-write-next
     enum-known-refusal
-    refused-requires
     returns
     returns-2)

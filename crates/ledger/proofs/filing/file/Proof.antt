@@ -1,5 +1,6 @@
 -- `ledger::filing::file` meets its contract.
 -- Assumes nothing.
+use mathlib.Core.Path.{refl}
 use Rattle.calls.proofs.Flags.{denied, granted}
 use Rattle.calls.specs.Answers.{onAnswer}
 use Rattle.ledger.specs.Calls.{outcomeOf, file}
@@ -10,13 +11,10 @@ use Rattle.ledger.proofs.filing.file.Tie as tie
 in-range-requires : tie.Need-in-range-requires
 in-range-requires c κs = search needs
 
-refused-requires : tie.Need-refused-requires
-refused-requires c κs = search needs
-
 -- 5, of the book
 returns : tie.Need-returns
 unfolding file outcomeOf onAnswer
-returns c = rw (denied (c .before .before .in-range .ensures) (c .before .if1 .taken)) (c .refused .ensures)
+returns c = rw (denied (c .before .in-range .ensures) (c .if1 .taken)) (refl, refl)
 
 apply-requires : tie.Need-apply-requires
 apply-requires c κs = granted (c .before .in-range .ensures) (c .if1 .left)
@@ -27,4 +25,4 @@ returns-2 c = rw (granted (c .before .before .in-range .ensures) (c .before .if1
 
 pub file-spec : {M : Type 1} → statement M
 file-spec =
-    tie.close (tie.spec in-range-requires refused-requires returns apply-requires returns-2)
+    tie.close (tie.spec in-range-requires returns apply-requires returns-2)

@@ -81,26 +81,14 @@ element-write-next-2 c = search needs
 enum-told : tie.Need-enum-told
 enum-told c = search needs
 
-refused-requires : tie.Need-refused-requires
-refused-requires c κs = search needs
-
 enum-told-2 : tie.Need-enum-told-2
 enum-told-2 c = search needs
-
-refused-requires-2 : tie.Need-refused-requires-2
-refused-requires-2 c κs = search needs
 
 enum-told-3 : tie.Need-enum-told-3
 enum-told-3 c = search needs
 
-refused-requires-3 : tie.Need-refused-requires-3
-refused-requires-3 c κs = search needs
-
 enum-told-4 : tie.Need-enum-told-4
 enum-told-4 c = search needs
-
-refused-requires-4 : tie.Need-refused-requires-4
-refused-requires-4 c κs = search needs
 
 returns : tie.Need-returns
 unfolding interruptionEntries figureOf figureSlot
@@ -113,33 +101,33 @@ returns c =
 returns-2 : tie.Need-returns-2
 unfolding interruptionEntries figureOf figureSlot
 returns-2 c =
-    let start = c .before .before .before .before .before .before .before .before .before in
-    rw (second-above (start .args .b) (entry (start .args .operator) (start .args .year) (2 * start .args .level) (start .args .sign) (start .args .weight)) (counted-in (start .args .year)) (entry (start .args .operator) (start .args .year) (2 * start .args .level + 1) (start .args .sign) (start .args .weight * start .args .seconds)) _ (moved-as (start .args .sign) (start .args .weight) _ (start .pre .1) _ (sym (c .before .before .before .before .before .before .before .move-figure .ensures) ∙ c .before .before .before .before .before .moved .given .1)) (moved-as (start .args .sign) (start .args .weight * start .args .seconds) _ (start .pre .1) _ (sym (c .before .before .before .move-figure2 .ensures) ∙ c .before .enum-told .given .1)))
-    (c .refused .ensures)
+    let start = c .before .before .before .before .before .before .before .before in
+    rw (second-above (start .args .b) (entry (start .args .operator) (start .args .year) (2 * start .args .level) (start .args .sign) (start .args .weight)) (counted-in (start .args .year)) (entry (start .args .operator) (start .args .year) (2 * start .args .level + 1) (start .args .sign) (start .args .weight * start .args .seconds)) _ (moved-as (start .args .sign) (start .args .weight) _ (start .pre .1) _ (sym (c .before .before .before .before .before .before .move-figure .ensures) ∙ c .before .before .before .before .moved .given .1)) (moved-as (start .args .sign) (start .args .weight * start .args .seconds) _ (start .pre .1) _ (sym (c .before .before .move-figure2 .ensures) ∙ c .enum-told .given .1)))
+    (refl, refl)
 
 -- 9, by the seconds
 returns-3 : tie.Need-returns-3
 unfolding interruptionEntries figureOf figureSlot
 returns-3 c =
-    let start = c .before .before .before .before .before .before .before .before .before in
-    rw (second-below (start .args .b) (entry (start .args .operator) (start .args .year) (2 * start .args .level) (start .args .sign) (start .args .weight)) (counted-in (start .args .year)) (entry (start .args .operator) (start .args .year) (2 * start .args .level + 1) (start .args .sign) (start .args .weight * start .args .seconds)) _ (moved-as (start .args .sign) (start .args .weight) _ (start .pre .1) _ (sym (c .before .before .before .before .before .before .before .move-figure .ensures) ∙ c .before .before .before .before .before .moved .given .1)) (moved-as (start .args .sign) (start .args .weight * start .args .seconds) _ (start .pre .1) _ (sym (c .before .before .before .move-figure2 .ensures) ∙ c .before .enum-told2 .given .1)))
-    (c .refused2 .ensures)
+    let start = c .before .before .before .before .before .before .before .before in
+    rw (second-below (start .args .b) (entry (start .args .operator) (start .args .year) (2 * start .args .level) (start .args .sign) (start .args .weight)) (counted-in (start .args .year)) (entry (start .args .operator) (start .args .year) (2 * start .args .level + 1) (start .args .sign) (start .args .weight * start .args .seconds)) _ (moved-as (start .args .sign) (start .args .weight) _ (start .pre .1) _ (sym (c .before .before .before .before .before .before .move-figure .ensures) ∙ c .before .before .before .before .moved .given .1)) (moved-as (start .args .sign) (start .args .weight * start .args .seconds) _ (start .pre .1) _ (sym (c .before .before .move-figure2 .ensures) ∙ c .enum-told2 .given .1)))
+    (refl, refl)
 
 -- 8, by the weight
 returns-4 : tie.Need-returns-4
 unfolding interruptionEntries figureOf figureSlot
 returns-4 c =
-    let start = c .before .before .before .before .before in
-    rw (first-above (start .args .b) (entry (start .args .operator) (start .args .year) (2 * start .args .level) (start .args .sign) (start .args .weight)) (counted-in (start .args .year)) (entry (start .args .operator) (start .args .year) (2 * start .args .level + 1) (start .args .sign) (start .args .weight * start .args .seconds)) (moved-as (start .args .sign) (start .args .weight) _ (start .pre .1) _ (sym (c .before .before .before .move-figure .ensures) ∙ c .before .enum-told3 .given .1)))
-    (c .refused3 .ensures)
+    let start = c .before .before .before .before in
+    rw (first-above (start .args .b) (entry (start .args .operator) (start .args .year) (2 * start .args .level) (start .args .sign) (start .args .weight)) (counted-in (start .args .year)) (entry (start .args .operator) (start .args .year) (2 * start .args .level + 1) (start .args .sign) (start .args .weight * start .args .seconds)) (moved-as (start .args .sign) (start .args .weight) _ (start .pre .1) _ (sym (c .before .before .move-figure .ensures) ∙ c .enum-told3 .given .1)))
+    (refl, refl)
 
 -- 9, by the weight
 returns-5 : tie.Need-returns-5
 unfolding interruptionEntries figureOf figureSlot
 returns-5 c =
-    let start = c .before .before .before .before .before in
-    rw (first-below (start .args .b) (entry (start .args .operator) (start .args .year) (2 * start .args .level) (start .args .sign) (start .args .weight)) (counted-in (start .args .year)) (entry (start .args .operator) (start .args .year) (2 * start .args .level + 1) (start .args .sign) (start .args .weight * start .args .seconds)) refl (moved-as (start .args .sign) (start .args .weight) _ (start .pre .1) _ (sym (c .before .before .before .move-figure .ensures) ∙ c .before .enum-told4 .given .1)))
-    (c .refused4 .ensures)
+    let start = c .before .before .before .before in
+    rw (first-below (start .args .b) (entry (start .args .operator) (start .args .year) (2 * start .args .level) (start .args .sign) (start .args .weight)) (counted-in (start .args .year)) (entry (start .args .operator) (start .args .year) (2 * start .args .level + 1) (start .args .sign) (start .args .weight * start .args .seconds)) refl (moved-as (start .args .sign) (start .args .weight) _ (start .pre .1) _ (sym (c .before .before .move-figure .ensures) ∙ c .enum-told4 .given .1)))
+    (refl, refl)
 
 pub enter-counted-spec : {M : Type 1} → statement M
 enter-counted-spec =
@@ -167,13 +155,9 @@ enter-counted-spec =
     mul-next-2
     element-write-next-2
     enum-told
-    refused-requires
     enum-told-2
-    refused-requires-2
     enum-told-3
-    refused-requires-3
     enum-told-4
-    refused-requires-4
     returns
     returns-2
     returns-3

@@ -31,9 +31,6 @@ enter-requires c κs =
 enum-known-refusal : tie.Need-enum-known-refusal
 enum-known-refusal c = search needs
 
-refused-requires : tie.Need-refused-requires
-refused-requires c κs = search needs
-
 returns : tie.Need-returns
 unfolding factsOf changed
 returns c =
@@ -46,10 +43,10 @@ returns c =
 returns-2 : tie.Need-returns-2
 unfolding factsOf
 returns-2 c =
-    let start = c .before .before .before .before .before .before in
-    let ranged = sym (rw (back (start .fits .start), back (start .fits .end)) at (c .before .before .before .before .before .interruption-in-range .ensures)) in
-    rw (member-decided (start .args .b) (Interruption (start .args .operator) (start .args .sign) (start .args .level) (start .args .cause) (start .args .start) (start .args .end) (start .args .weight)) (start .args .operator) _ refl refl ranged _ (sym (c .before .before .before .before .admit .ensures) ∙ ap admissionSaid (c .before .before .refusal .given .1)))
-    (c .refused .ensures)
+    let start = c .before .before .before .before .before in
+    let ranged = sym (rw (back (start .fits .start), back (start .fits .end)) at (c .before .before .before .before .interruption-in-range .ensures)) in
+    rw (member-decided (start .args .b) (Interruption (start .args .operator) (start .args .sign) (start .args .level) (start .args .cause) (start .args .start) (start .args .end) (start .args .weight)) (start .args .operator) _ refl refl ranged _ (sym (c .before .before .before .admit .ensures) ∙ ap admissionSaid (c .before .refusal .given .1)))
+    (refl, refl)
 
 pub interruption-spec : {M : Type 1} → statement M
 interruption-spec =
@@ -60,6 +57,5 @@ interruption-spec =
     enum-told
     enter-requires
     enum-known-refusal
-    refused-requires
     returns
     returns-2)
