@@ -6,7 +6,8 @@ use mathlib.Core.List.{List, [], _∷_}
 use lib.Dec.{leb}
 use Rattle.book.specs.declared.Book.{Book}
 use mathlib.Core.Path.{_≡_}
-use Rattle.ledger.specs.declared.Filed.{Filed}
+use Rattle.calls.specs.declared.Call.{Call}
+use Rattle.calls.specs.declared.Answer.{Answer}
 use Rattle.ledger.specs.declared.Admission.{Admission}
 use Rattle.ledger.specs.declared.Admission.the-variants.{Admitted, Refused}
 use Rattle.calls.specs.Limits.{operators}
@@ -15,11 +16,11 @@ use Rattle.calls.specs.Answers.{Said, refused-by, accepted, firstOf, Acceptance
 use Rattle.calls.specs.Call.{Entry}
 use Rattle.book.specs.Book.{figureOf}
 use Rattle.ledger.specs.Table.{some, passesLimit, fallsBelow}
-use Rattle.ledger.specs.Calls.{Outcome, enterAll, outcomeOf}
+use Rattle.ledger.specs.Calls.{Outcome, enterAll, outcomeOf, apply}
 
--- what an inner function gives: the answer and the book
-abbrev pub Gives : Filed → Outcome → Type 0
-Gives r outcome = (said (r .answer) ≡ outcome .said) × (r .book ≡ outcome .book)
+-- a call on a book whose parts are lent: the answer, and the book that the parts make afterwards
+abbrev pub Leaves : Book → Call → Answer → Book → Type 0
+Leaves old call answer new = (said answer ≡ apply old call .said) × (new ≡ apply old call .book)
 
 -- 4, 5 and 7 of a call that names a member
 unfoldable pub memberLines : ℕ → ℕ → Bool → List (ℕ × Bool)

@@ -1,44 +1,39 @@
-// The calls on a book that is in range: which one a value names, and six of them.
+// The calls on a book that is in range: which one a value names, on the parts of a book lent to it, and on a book by value.
 ghost use mathlib.Core.Path.{_≡_};
 ghost use mathlib.Core.Bool.{true};
-ghost use Prim.Native.Nat.{_≤_, _<_};
-ghost use Rattle.book.specs.Book.{inRange};
-ghost use Rattle.calls.specs.Answers.{said, firstOf, yes-said};
-ghost use Rattle.calls.specs.Call.{entry};
-ghost use mathlib.Core.List.{[], _∷_};
+ghost use Rattle.book.specs.Book.{bookWith, inRange};
+ghost use Rattle.calls.specs.Answers.{said};
 ghost use Rattle.ledger.specs.Calls.{apply as Calls·apply};
-ghost use Rattle.ledger.specs.Steps.{Gives, memberLines, admissionSaid, entering};
-use crate::Admission;
+ghost use Rattle.ledger.specs.Steps.{Leaves};
 use crate::Filed;
 use crate::interruptions;
+use crate::parts;
 use book::Book;
 use calls::Answer;
 use calls::Call;
-use calls::Moved;
-use calls::Refusal;
-use calls::amount_in_range;
-use calls::has_bit;
-use calls::include_bit;
-use calls::index_in_range;
-use calls::mark_in_range;
-use calls::move_figure;
-use calls::rates_in_range;
-use calls::remask;
-use calls::setting_in_range;
 
-// Asks for a book in range and does not test it: `file` has just tested it, and the reader of filings tests a book once and then
-// knows that each call keeps it in range. Nobody can apply a call to a book that would get 5.
-pub fn apply(b: Book, filing_call: Call) -> Filed
-    requires { ⌜ inRange b ≡ true ⌝ }
-    ensures { λ r. ⌜ (said (r .answer) ≡ Calls·apply b «filing_call» .said) × (r .book ≡ Calls·apply b «filing_call» .book) ⌝ }
+// The parts of a book in range. Asks for that and does not test it: `file` has just tested it, and the reader of filings tests a book
+// once and then knows that each call keeps it in range. Nobody can apply a call to a book that would get 5.
+pub fn apply_in(
+    joined: &mut u16,
+    marks: &mut [u16; 6],
+    settings: &mut [u64; 48],
+    figures: &mut [u64; 384],
+    pot_rate: &mut u32,
+    cap_rate: &mut u32,
+    indices: &mut [u32; 4],
+    filing_call: Call,
+) -> Answer
+    requires { ⌜ inRange (bookWith (now joined) (now marks) (now settings) (now figures) (now «pot_rate») (now «cap_rate») (now indices)) ≡ true ⌝ }
+    ensures { λ r. ⌜ Leaves (bookWith (now (joined .entry)) (now (marks .entry)) (now (settings .entry)) (now (figures .entry)) (now («pot_rate» .entry)) (now («cap_rate» .entry)) (now (indices .entry))) «filing_call» r (bookWith (now (joined .exit)) (now (marks .exit)) (now (settings .exit)) (now (figures .exit)) (now («pot_rate» .exit)) (now («cap_rate» .exit)) (now (indices .exit))) ⌝ }
 {
     match filing_call {
-        Call::Join { operator } => join(b, operator),
+        Call::Join { operator } => parts::join(joined, operator),
         Call::Setting {
             operator,
             which,
             value,
-        } => setting(b, operator, which, value),
+        } => parts::setting(*joined, settings, operator, which, value),
         Call::Interruption {
             operator,
             sign,
@@ -47,176 +42,64 @@ pub fn apply(b: Book, filing_call: Call) -> Filed
             start,
             end,
             weight,
-        } => interruptions::interruption(b, operator, sign, level, cause, start, end, weight),
+        } => interruptions::interruption(
+            *joined,
+            figures,
+            operator,
+            sign,
+            level,
+            cause,
+            start,
+            end,
+            weight,
+        ),
         Call::Amount {
             operator,
             year,
             figure,
             sign,
             value,
-        } => amount(b, operator, year, figure, sign, value),
+        } => parts::amount(*joined, figures, operator, year, figure, sign, value),
         Call::Mark {
             operator,
             indicator,
             mark,
-        } => mark_indicator(b, operator, indicator, mark),
-        Call::Rates { pot, cap } => rates(b, pot, cap),
-        Call::Index { number, value } => index(b, number, value),
+        } => parts::mark_indicator(*joined, marks, operator, indicator, mark),
+        Call::Rates { pot, cap } => parts::rates(pot_rate, cap_rate, pot, cap),
+        Call::Index { number, value } => parts::index(indices, number, value),
     }
 }
 
-fn join(b: Book, operator: u8) -> Filed
-    ensures { λ r. ⌜ Gives r (Calls·apply b (Call.Join operator)) ⌝ }
+// A book by value: its parts are taken out, lent, and put together again.
+pub fn apply(b: Book, filing_call: Call) -> Filed
+    requires { ⌜ inRange b ≡ true ⌝ }
+    ensures { λ r. ⌜ (said (r .answer) ≡ Calls·apply b «filing_call» .said) × (r .book ≡ Calls·apply b «filing_call» .book) ⌝ }
 {
-    if 15 < operator {
-        return Filed {
-            book: b,
-            answer: Answer::Refused(Refusal::UnknownOperator),
-        };
-    }
-    let joined = b.joined;
-    if has_bit(joined, operator) {
-        return Filed {
-            book: b,
-            answer: Answer::Refused(Refusal::AlreadyJoined),
-        };
-    }
-    let mut next = b;
-    next.joined = include_bit(joined, operator);
-    Filed {
-        book: next,
-        answer: Answer::Yes,
-    }
-}
-
-// The checks that setting, interruption, amount and mark share: 4, 5 and 7, in the order of the table.
-pub(crate) fn admit(joined: u16, operator: u8, valid: bool) -> Admission
-    ensures { λ r. ⌜ admissionSaid r ≡ firstOf (memberLines joined operator valid) tt ⌝ }
-{
-    if 15 < operator {
-        return Admission::Refused(Refusal::UnknownOperator);
-    }
-    if !valid {
-        return Admission::Refused(Refusal::OutOfRange);
-    }
-    if !has_bit(joined, operator) {
-        return Admission::Refused(Refusal::NotJoined);
-    }
-    Admission::Admitted
-}
-
-fn setting(b: Book, operator: u8, which: u8, value: u64) -> Filed
-    ensures { λ r. ⌜ Gives r (Calls·apply b (Call.Setting operator which value)) ⌝ }
-{
-    match admit(b.joined, operator, setting_in_range(which, value)) {
-        Admission::Admitted => {
-            let mut next = b;
-            let at = operator as usize * 3 + which as usize;
-            next.settings[at] = value;
-            Filed {
-                book: next,
-                answer: Answer::Yes,
-            }
-        }
-        Admission::Refused(refusal) => Filed {
-            book: b,
-            answer: Answer::Refused(refusal),
-        },
-    }
-}
-
-fn amount(b: Book, operator: u8, year: u8, figure: u8, sign: u8, value: u64) -> Filed
-    ensures { λ r. ⌜ Gives r (Calls·apply b (Call.Amount operator year figure sign value)) ⌝ }
-{
-    match admit(b.joined, operator, amount_in_range(year, figure, sign)) {
-        Admission::Admitted => enter_amount(b, operator, year, figure, sign, value),
-        Admission::Refused(refusal) => Filed {
-            book: b,
-            answer: Answer::Refused(refusal),
-        },
-    }
-}
-
-// One figure filed to or withdrawn from.
-fn enter_amount(b: Book, operator: u8, year: u8, figure: u8, sign: u8, value: u64) -> Filed
-    requires { ⌜ (operator < 16) × (year < 3) × (figure < 8) × (sign ≤ 1) ⌝ }
-    ensures { λ r. ⌜ Gives r (entering b (entry operator year figure sign value ∷ []) yes-said) ⌝ }
-{
-    let at = (operator as usize * 3 + year as usize) * 8 + figure as usize;
-    let figures = b.figures;
-    match move_figure(sign, value, figures[at]) {
-        Moved::To(moved) => {
-            let mut next = b;
-            next.figures[at] = moved;
-            Filed {
-                book: next,
-                answer: Answer::Yes,
-            }
-        }
-        Moved::Above => Filed {
-            book: b,
-            answer: Answer::Refused(Refusal::AboveLimit),
-        },
-        Moved::Below => Filed {
-            book: b,
-            answer: Answer::Refused(Refusal::BelowZero),
-        },
-    }
-}
-
-fn mark_indicator(b: Book, operator: u8, indicator: u8, mark: u8) -> Filed
-    ensures { λ r. ⌜ Gives r (Calls·apply b (Call.Mark operator indicator mark)) ⌝ }
-{
-    match admit(b.joined, operator, mark_in_range(indicator, mark)) {
-        Admission::Admitted => {
-            let mut next = b;
-            let at = indicator as usize;
-            let marks = b.marks;
-            next.marks[at] = remask(marks[at], operator, mark);
-            Filed {
-                book: next,
-                answer: Answer::Yes,
-            }
-        }
-        Admission::Refused(refusal) => Filed {
-            book: b,
-            answer: Answer::Refused(refusal),
-        },
-    }
-}
-
-fn rates(b: Book, pot: u32, cap: u32) -> Filed
-    ensures { λ r. ⌜ Gives r (Calls·apply b (Call.Rates pot cap)) ⌝ }
-{
-    if !rates_in_range(pot, cap) {
-        return Filed {
-            book: b,
-            answer: Answer::Refused(Refusal::OutOfRange),
-        };
-    }
-    let mut next = b;
-    next.pot_rate = pot;
-    next.cap_rate = cap;
-    Filed {
-        book: next,
-        answer: Answer::Yes,
-    }
-}
-
-fn index(b: Book, number: u8, value: u32) -> Filed
-    ensures { λ r. ⌜ Gives r (Calls·apply b (Call.Index number value)) ⌝ }
-{
-    if !index_in_range(number, value) {
-        return Filed {
-            book: b,
-            answer: Answer::Refused(Refusal::OutOfRange),
-        };
-    }
-    let mut next = b;
-    let at = number as usize;
-    next.indices[at] = value;
-    Filed {
-        book: next,
-        answer: Answer::Yes,
-    }
+    let mut joined = b.joined;
+    let mut marks = b.marks;
+    let mut settings = b.settings;
+    let mut figures = b.figures;
+    let mut pot_rate = b.pot_rate;
+    let mut cap_rate = b.cap_rate;
+    let mut indices = b.indices;
+    let answer = apply_in(
+        &mut joined,
+        &mut marks,
+        &mut settings,
+        &mut figures,
+        &mut pot_rate,
+        &mut cap_rate,
+        &mut indices,
+        filing_call,
+    );
+    let book = Book {
+        joined,
+        marks,
+        settings,
+        figures,
+        pot_rate,
+        cap_rate,
+        indices,
+    };
+    Filed { book, answer }
 }

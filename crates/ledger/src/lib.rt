@@ -2,11 +2,13 @@
 mod dispatch;
 mod filing;
 mod interruptions;
+mod parts;
 
 use book::Book;
 use calls::Answer;
 use calls::Refusal;
 pub use dispatch::apply;
+pub use dispatch::apply_in;
 pub use filing::amount;
 pub use filing::file;
 pub use filing::index;

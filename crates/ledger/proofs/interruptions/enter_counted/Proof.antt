@@ -4,7 +4,7 @@ use mathlib.Core.Path.{_≡_, refl, sym, _∙_}
 use Prim.Native.Nat.{_+_, _*_}
 use native.Mathlib.Omega.{arith}
 use native.Mathlib.Nat.{mul-le-mul, le-of-lt}
-use Rattle.book.specs.Book.{figureSlot, figureOf}
+use Rattle.book.specs.Book.{bookWith, figureSlot, figureOf}
 use Rattle.calls.specs.Answers.{counted-in}
 use Rattle.calls.specs.Call.{entry, interruptionEntries}
 use Rattle.ledger.proofs.MoveLaws.{moved-as, both-moved, first-above, first-below, second-above, second-below}
@@ -39,8 +39,8 @@ add-seconds-at-2 c = search needs
 mul-move-figure : tie.Need-mul-move-figure
 mul-move-figure c = search needs
 
-array-read-move-figure : tie.Need-array-read-move-figure
-array-read-move-figure c = search needs
+element-copy-out-move-figure : tie.Need-element-copy-out-move-figure
+element-copy-out-move-figure c = search needs
 
 move-figure-requires : tie.Need-move-figure-requires
 move-figure-requires c κs = search needs
@@ -57,8 +57,8 @@ mul-move-figure-2 c =
 mul-move-figure-3 : tie.Need-mul-move-figure-3
 mul-move-figure-3 c = search needs
 
-array-read-move-figure-2 : tie.Need-array-read-move-figure-2
-array-read-move-figure-2 c = search needs
+element-copy-out-move-figure-2 : tie.Need-element-copy-out-move-figure-2
+element-copy-out-move-figure-2 c = search needs
 
 move-figure-requires-2 : tie.Need-move-figure-requires-2
 move-figure-requires-2 c κs = search needs
@@ -66,17 +66,17 @@ move-figure-requires-2 c κs = search needs
 enum-known-moved-seconds : tie.Need-enum-known-moved-seconds
 enum-known-moved-seconds c = search needs
 
-mul-next : tie.Need-mul-next
-mul-next c = search needs
+mul-figures : tie.Need-mul-figures
+mul-figures c = search needs
 
-element-write-next : tie.Need-element-write-next
-element-write-next c = search needs
+element-write-figures : tie.Need-element-write-figures
+element-write-figures c = search needs
 
-mul-next-2 : tie.Need-mul-next-2
-mul-next-2 c = search needs
+mul-figures-2 : tie.Need-mul-figures-2
+mul-figures-2 c = search needs
 
-element-write-next-2 : tie.Need-element-write-next-2
-element-write-next-2 c = search needs
+element-write-figures-2 : tie.Need-element-write-figures-2
+element-write-figures-2 c = search needs
 
 enum-told : tie.Need-enum-told
 enum-told c = search needs
@@ -90,44 +90,40 @@ enum-told-3 c = search needs
 enum-told-4 : tie.Need-enum-told-4
 enum-told-4 c = search needs
 
+-- both figures move
 returns : tie.Need-returns
 unfolding interruptionEntries figureOf figureSlot
-returns c =
-    let start = c .before .before .before .before .before .before .before .before .before in
-    rw (both-moved (start .args .b) (entry (start .args .operator) (start .args .year) (2 * start .args .level) (start .args .sign) (start .args .weight)) (counted-in (start .args .year)) (entry (start .args .operator) (start .args .year) (2 * start .args .level + 1) (start .args .sign) (start .args .weight * start .args .seconds)) _ (moved-as (start .args .sign) (start .args .weight) _ (start .pre .1) _ (sym (c .before .before .before .before .before .before .before .move-figure .ensures) ∙ c .before .before .before .before .before .moved .given .1)) _ (λ e. omega (arith, e)) (moved-as (start .args .sign) (start .args .weight * start .args .seconds) _ (start .pre .1) _ (sym (c .before .before .before .move-figure2 .ensures) ∙ c .before .moved-seconds .given .1)))
-    (refl, refl)
+returns c = λ joined pot cap marks settings indices.
+    let start = c .before .before .before .before .before .before .before .before .before .before in
+    rw (both-moved (bookWith joined marks settings (start .args .figures .now) pot cap indices) (entry (start .args .operator) (start .args .year) (2 * start .args .level) (start .args .sign) (start .args .weight)) (counted-in (start .args .year)) (entry (start .args .operator) (start .args .year) (2 * start .args .level + 1) (start .args .sign) (start .args .weight * start .args .seconds)) _ (moved-as (start .args .sign) (start .args .weight) _ (start .pre .1) _ (sym (c .before .before .before .before .before .before .before .before .move-figure .ensures) ∙ c .before .before .before .before .before .before .moved .given .1)) _ (λ e. omega (arith, e)) (moved-as (start .args .sign) (start .args .weight * start .args .seconds) _ (start .pre .1) _ (sym (c .before .before .before .move-figure2 .ensures) ∙ c .before .moved-seconds .given .1))) (refl, refl)
 
 -- 8, by the seconds
 returns-2 : tie.Need-returns-2
 unfolding interruptionEntries figureOf figureSlot
-returns-2 c =
-    let start = c .before .before .before .before .before .before .before .before in
-    rw (second-above (start .args .b) (entry (start .args .operator) (start .args .year) (2 * start .args .level) (start .args .sign) (start .args .weight)) (counted-in (start .args .year)) (entry (start .args .operator) (start .args .year) (2 * start .args .level + 1) (start .args .sign) (start .args .weight * start .args .seconds)) _ (moved-as (start .args .sign) (start .args .weight) _ (start .pre .1) _ (sym (c .before .before .before .before .before .before .move-figure .ensures) ∙ c .before .before .before .before .moved .given .1)) (moved-as (start .args .sign) (start .args .weight * start .args .seconds) _ (start .pre .1) _ (sym (c .before .before .move-figure2 .ensures) ∙ c .enum-told .given .1)))
-    (refl, refl)
+returns-2 c = λ joined pot cap marks settings indices.
+    let start = c .before .before .before .before .before .before .before .before .before in
+    rw (second-above (bookWith joined marks settings (start .args .figures .now) pot cap indices) (entry (start .args .operator) (start .args .year) (2 * start .args .level) (start .args .sign) (start .args .weight)) (counted-in (start .args .year)) (entry (start .args .operator) (start .args .year) (2 * start .args .level + 1) (start .args .sign) (start .args .weight * start .args .seconds)) _ (moved-as (start .args .sign) (start .args .weight) _ (start .pre .1) _ (sym (c .before .before .before .before .before .before .before .move-figure .ensures) ∙ c .before .before .before .before .before .moved .given .1)) (moved-as (start .args .sign) (start .args .weight * start .args .seconds) _ (start .pre .1) _ (sym (c .before .before .move-figure2 .ensures) ∙ c .enum-told .given .1))) (refl, refl)
 
 -- 9, by the seconds
 returns-3 : tie.Need-returns-3
 unfolding interruptionEntries figureOf figureSlot
-returns-3 c =
-    let start = c .before .before .before .before .before .before .before .before in
-    rw (second-below (start .args .b) (entry (start .args .operator) (start .args .year) (2 * start .args .level) (start .args .sign) (start .args .weight)) (counted-in (start .args .year)) (entry (start .args .operator) (start .args .year) (2 * start .args .level + 1) (start .args .sign) (start .args .weight * start .args .seconds)) _ (moved-as (start .args .sign) (start .args .weight) _ (start .pre .1) _ (sym (c .before .before .before .before .before .before .move-figure .ensures) ∙ c .before .before .before .before .moved .given .1)) (moved-as (start .args .sign) (start .args .weight * start .args .seconds) _ (start .pre .1) _ (sym (c .before .before .move-figure2 .ensures) ∙ c .enum-told2 .given .1)))
-    (refl, refl)
+returns-3 c = λ joined pot cap marks settings indices.
+    let start = c .before .before .before .before .before .before .before .before .before in
+    rw (second-below (bookWith joined marks settings (start .args .figures .now) pot cap indices) (entry (start .args .operator) (start .args .year) (2 * start .args .level) (start .args .sign) (start .args .weight)) (counted-in (start .args .year)) (entry (start .args .operator) (start .args .year) (2 * start .args .level + 1) (start .args .sign) (start .args .weight * start .args .seconds)) _ (moved-as (start .args .sign) (start .args .weight) _ (start .pre .1) _ (sym (c .before .before .before .before .before .before .before .move-figure .ensures) ∙ c .before .before .before .before .before .moved .given .1)) (moved-as (start .args .sign) (start .args .weight * start .args .seconds) _ (start .pre .1) _ (sym (c .before .before .move-figure2 .ensures) ∙ c .enum-told2 .given .1))) (refl, refl)
 
 -- 8, by the weight
 returns-4 : tie.Need-returns-4
 unfolding interruptionEntries figureOf figureSlot
-returns-4 c =
+returns-4 c = λ joined pot cap marks settings indices.
     let start = c .before .before .before .before in
-    rw (first-above (start .args .b) (entry (start .args .operator) (start .args .year) (2 * start .args .level) (start .args .sign) (start .args .weight)) (counted-in (start .args .year)) (entry (start .args .operator) (start .args .year) (2 * start .args .level + 1) (start .args .sign) (start .args .weight * start .args .seconds)) (moved-as (start .args .sign) (start .args .weight) _ (start .pre .1) _ (sym (c .before .before .move-figure .ensures) ∙ c .enum-told3 .given .1)))
-    (refl, refl)
+    rw (first-above (bookWith joined marks settings (start .args .figures .now) pot cap indices) (entry (start .args .operator) (start .args .year) (2 * start .args .level) (start .args .sign) (start .args .weight)) (counted-in (start .args .year)) (entry (start .args .operator) (start .args .year) (2 * start .args .level + 1) (start .args .sign) (start .args .weight * start .args .seconds)) (moved-as (start .args .sign) (start .args .weight) _ (start .pre .1) _ (sym (c .before .before .move-figure .ensures) ∙ c .enum-told3 .given .1))) (refl, refl)
 
 -- 9, by the weight
 returns-5 : tie.Need-returns-5
 unfolding interruptionEntries figureOf figureSlot
-returns-5 c =
+returns-5 c = λ joined pot cap marks settings indices.
     let start = c .before .before .before .before in
-    rw (first-below (start .args .b) (entry (start .args .operator) (start .args .year) (2 * start .args .level) (start .args .sign) (start .args .weight)) (counted-in (start .args .year)) (entry (start .args .operator) (start .args .year) (2 * start .args .level + 1) (start .args .sign) (start .args .weight * start .args .seconds)) refl (moved-as (start .args .sign) (start .args .weight) _ (start .pre .1) _ (sym (c .before .before .move-figure .ensures) ∙ c .enum-told4 .given .1)))
-    (refl, refl)
+    rw (first-below (bookWith joined marks settings (start .args .figures .now) pot cap indices) (entry (start .args .operator) (start .args .year) (2 * start .args .level) (start .args .sign) (start .args .weight)) (counted-in (start .args .year)) (entry (start .args .operator) (start .args .year) (2 * start .args .level + 1) (start .args .sign) (start .args .weight * start .args .seconds)) refl (moved-as (start .args .sign) (start .args .weight) _ (start .pre .1) _ (sym (c .before .before .move-figure .ensures) ∙ c .enum-told4 .given .1))) (refl, refl)
 
 pub enter-counted-spec : {M : Type 1} → statement M
 enter-counted-spec =
@@ -142,18 +138,18 @@ enter-counted-spec =
     add-seconds-at
     add-seconds-at-2
     mul-move-figure
-    array-read-move-figure
+    element-copy-out-move-figure
     move-figure-requires
     enum-known-moved
     mul-move-figure-2
     mul-move-figure-3
-    array-read-move-figure-2
+    element-copy-out-move-figure-2
     move-figure-requires-2
     enum-known-moved-seconds
-    mul-next
-    element-write-next
-    mul-next-2
-    element-write-next-2
+    mul-figures
+    element-write-figures
+    mul-figures-2
+    element-write-figures-2
     enum-told
     enum-told-2
     enum-told-3

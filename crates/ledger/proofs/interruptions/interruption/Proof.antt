@@ -1,12 +1,19 @@
 -- `ledger::interruptions::interruption` meets its contract.
 -- Assumes nothing.
 use mathlib.Core.Path.{_≡_, refl, sym, ap, _∙_}
+use mathlib.Core.List.{[]}
+use Prim.Native.Nat.{ℕ}
 use Rattle.calls.specs.declared.Call.the-variants.{Interruption}
-use Rattle.calls.specs.Call.{factsOf}
+use Rattle.calls.specs.Call.{detailsInRange, timesInRange, secondsOf, yearOf, factsOf}
+use Rattle.calls.specs.Steps.{JudgedAs}
+use Rattle.book.specs.Book.{bookWith}
 use Rattle.ledger.specs.Calls.{changed}
 use Rattle.ledger.specs.Steps.{admissionSaid}
-use Rattle.calls.proofs.Times.{back}
+use Rattle.calls.proofs.Flags.{and-left, and-right}
+use Rattle.calls.proofs.Times.{back, timed, year-lt, seconds-lt}
+use Rattle.calls.proofs.JudgedLaws.{details, left-out-none}
 use Rattle.ledger.proofs.AdmissionLaws.{member-decided}
+use Rattle.ledger.proofs.MoveLaws.{nothing-entered}
 use borrow.Author.Needs.{needs}
 use Rattle.ledger.proofs.interruptions.interruption.Statement.{statement}
 use Rattle.ledger.proofs.interruptions.interruption.Tie as tie
@@ -17,36 +24,81 @@ interruption-in-range-requires c κs = search needs
 admit-requires : tie.Need-admit-requires
 admit-requires c κs = search needs
 
-enum-told : tie.Need-enum-told
-enum-told c = search needs
-
-enter-requires : tie.Need-enter-requires
-unfolding factsOf
-enter-requires c κs =
-    let start = c .before .before .before .before in
-    let ranged = sym (rw (back (start .fits .start), back (start .fits .end)) at (c .before .before .before .interruption-in-range .ensures)) in
-    let passed = member-decided (start .args .b) (Interruption (start .args .operator) (start .args .sign) (start .args .level) (start .args .cause) (start .args .start) (start .args .end) (start .args .weight)) (start .args .operator) _ refl refl ranged _ (sym (c .before .before .admit .ensures) ∙ ap admissionSaid (c .enum-told .given .1)) in
-    (passed .small, rw (back (start .fits .start), back (start .fits .end)) (ranged ∙ passed .in-range))
-
 enum-known-refusal : tie.Need-enum-known-refusal
 enum-known-refusal c = search needs
 
-returns : tie.Need-returns
-unfolding factsOf changed
-returns c =
-    let start = c .before .before .before .before .before in
-    let ranged = sym (rw (back (start .fits .start), back (start .fits .end)) at (c .before .before .before .before .interruption-in-range .ensures)) in
-    let passed = member-decided (start .args .b) (Interruption (start .args .operator) (start .args .sign) (start .args .level) (start .args .cause) (start .args .start) (start .args .end) (start .args .weight)) (start .args .operator) _ refl refl ranged _ (sym (c .before .before .before .admit .ensures) ∙ ap admissionSaid (c .before .enum-told .given .1)) in
-    rw (passed .entered refl) (rw (back (start .fits .start), back (start .fits .end)) at (c .enter .ensures))
-
 -- 4, 5 or 7
-returns-2 : tie.Need-returns-2
+returns : tie.Need-returns
 unfolding factsOf
-returns-2 c =
+returns c = λ marks settings indices pot cap.
     let start = c .before .before .before .before .before in
     let ranged = sym (rw (back (start .fits .start), back (start .fits .end)) at (c .before .before .before .before .interruption-in-range .ensures)) in
-    rw (member-decided (start .args .b) (Interruption (start .args .operator) (start .args .sign) (start .args .level) (start .args .cause) (start .args .start) (start .args .end) (start .args .weight)) (start .args .operator) _ refl refl ranged _ (sym (c .before .before .before .admit .ensures) ∙ ap admissionSaid (c .before .refusal .given .1)))
-    (refl, refl)
+    rw (member-decided (bookWith (start .args .joined) marks settings (start .args .figures .now) pot cap indices) (Interruption (start .args .operator) (start .args .sign) (start .args .level) (start .args .cause) (start .args .start) (start .args .end) (start .args .weight)) (start .args .operator) _ refl refl ranged _ (sym (c .before .before .before .admit .ensures) ∙ ap admissionSaid (c .before .refusal .given .1))) (refl, refl)
+
+enum-told : tie.Need-enum-told
+enum-told c = search needs
+
+seconds-of-requires : tie.Need-seconds-of-requires
+unfolding factsOf
+seconds-of-requires c κs =
+    let start = c .before .before .before .before in
+    let ranged = sym (rw (back (start .fits .start), back (start .fits .end)) at (c .before .before .before .interruption-in-range .ensures)) in
+    let passed = member-decided (bookWith (start .args .joined) [] [] [] 0 0 []) (Interruption (start .args .operator) (start .args .sign) (start .args .level) (start .args .cause) (start .args .start) (start .args .end) (start .args .weight)) (start .args .operator) _ refl refl ranged _ (sym (c .before .before .admit .ensures) ∙ ap admissionSaid (c .enum-told .given .1)) in
+    rw (back (start .fits .start), back (start .fits .end)) (and-right (detailsInRange (start .args .sign) (start .args .level) (start .args .cause) (start .args .weight)) _ (ranged ∙ passed .in-range))
+
+judge-requires : tie.Need-judge-requires
+judge-requires c κs = search needs
+
+enum-told-2 : tie.Need-enum-told-2
+enum-told-2 c = search needs
+
+year-of-requires : tie.Need-year-of-requires
+unfolding factsOf
+year-of-requires c κs =
+    let start = c .before .before .before .before .before .before .before .before in
+    let ranged = sym (rw (back (start .fits .start), back (start .fits .end)) at (c .before .before .before .before .before .before .before .interruption-in-range .ensures)) in
+    let passed = member-decided (bookWith (start .args .joined) [] [] [] 0 0 []) (Interruption (start .args .operator) (start .args .sign) (start .args .level) (start .args .cause) (start .args .start) (start .args .end) (start .args .weight)) (start .args .operator) _ refl refl ranged _ (sym (c .before .before .before .before .before .before .admit .ensures) ∙ ap admissionSaid (c .before .before .before .before .enum-told .given .1)) in
+    rw (back (start .fits .start), back (start .fits .end)) (and-right (detailsInRange (start .args .sign) (start .args .level) (start .args .cause) (start .args .weight)) _ (ranged ∙ passed .in-range))
+
+enter-counted-requires : tie.Need-enter-counted-requires
+unfolding factsOf
+enter-counted-requires c κs =
+    let start = c .before .before .before .before .before .before .before .before .before .before in
+    let ranged = sym (rw (back (start .fits .start), back (start .fits .end)) at (c .before .before .before .before .before .before .before .before .before .interruption-in-range .ensures)) in
+    let passed = member-decided (bookWith (start .args .joined) [] [] [] 0 0 []) (Interruption (start .args .operator) (start .args .sign) (start .args .level) (start .args .cause) (start .args .start) (start .args .end) (start .args .weight)) (start .args .operator) _ refl refl ranged _ (sym (c .before .before .before .before .before .before .before .before .admit .ensures) ∙ ap admissionSaid (c .before .before .before .before .before .before .enum-told .given .1)) in
+    let valid = ranged ∙ passed .in-range in
+    let in-range = details (start .args .sign) (start .args .level) (start .args .cause) (start .args .weight) (and-left _ (timesInRange (start .args .start) (start .args .end)) valid) in
+    let times = timed (start .args .start) (start .args .end) (and-right (detailsInRange (start .args .sign) (start .args .level) (start .args .cause) (start .args .weight)) _ (ranged ∙ passed .in-range)) in
+    let year = rw (back (start .fits .end)) at (c .before .year-of .ensures) in
+    let seconds = rw (back (start .fits .start), back (start .fits .end)) at (c .before .before .before .before .before .seconds-of .ensures) in
+    (passed .small, in-range .sign-most, in-range .level-most, rw year (year-lt times), in-range .weight-most, rw seconds (seconds-lt times))
+
+enum-known-reason : tie.Need-enum-known-reason
+enum-known-reason c = search needs
+
+-- counted
+returns-2 : tie.Need-returns-2
+unfolding factsOf changed
+returns-2 c = λ marks settings indices pot cap.
+    let start = c .before .before .before .before .before .before .before .before .before .before .before in
+    let ranged = sym (rw (back (start .fits .start), back (start .fits .end)) at (c .before .before .before .before .before .before .before .before .before .before .interruption-in-range .ensures)) in
+    let passed = member-decided (bookWith (start .args .joined) marks settings (start .args .figures .now) pot cap indices) (Interruption (start .args .operator) (start .args .sign) (start .args .level) (start .args .cause) (start .args .start) (start .args .end) (start .args .weight)) (start .args .operator) _ refl refl ranged _ (sym (c .before .before .before .before .before .before .before .before .before .admit .ensures) ∙ ap admissionSaid (c .before .before .before .before .before .before .before .enum-told .given .1)) in
+    let year = rw (back (start .fits .end)) at (c .before .before .year-of .ensures) in
+    let seconds = rw (back (start .fits .start), back (start .fits .end)) at (c .before .before .before .before .before .before .seconds-of .ensures) in
+    let judged : JudgedAs (start .args .cause) (secondsOf (start .args .start) (start .args .end)) (c .before .before .before .before .before .judge .result) = rw seconds at (c .before .before .before .before .before .judge .ensures) in
+    rw (passed .entered refl, ← judged (yearOf (start .args .end)), c .before .before .before .enum-told2 .given .1)
+    (rw (year, seconds) at (c .enter-counted .ensures (start .args .joined) pot cap marks settings indices))
+
+-- left out: nothing is entered
+returns-3 : tie.Need-returns-3
+unfolding factsOf changed
+returns-3 c = λ marks settings indices pot cap.
+    let start = c .before .before .before .before .before .before .before .before .before in
+    let ranged = sym (rw (back (start .fits .start), back (start .fits .end)) at (c .before .before .before .before .before .before .before .before .interruption-in-range .ensures)) in
+    let passed = member-decided (bookWith (start .args .joined) marks settings (start .args .figures .now) pot cap indices) (Interruption (start .args .operator) (start .args .sign) (start .args .level) (start .args .cause) (start .args .start) (start .args .end) (start .args .weight)) (start .args .operator) _ refl refl ranged _ (sym (c .before .before .before .before .before .before .before .admit .ensures) ∙ ap admissionSaid (c .before .before .before .before .before .enum-told .given .1)) in
+    let seconds = rw (back (start .fits .start), back (start .fits .end)) at (c .before .before .before .before .seconds-of .ensures) in
+    let judged : JudgedAs (start .args .cause) (secondsOf (start .args .start) (start .args .end)) (c .before .before .before .judge .result) = rw seconds at (c .before .before .before .judge .ensures) in
+    rw (passed .entered refl, ← judged (yearOf (start .args .end)), c .before .reason .given .1, left-out-none, nothing-entered) (refl, refl)
 
 pub interruption-spec : {M : Type 1} → statement M
 interruption-spec =
@@ -54,8 +106,14 @@ interruption-spec =
     (tie.spec
     interruption-in-range-requires
     admit-requires
-    enum-told
-    enter-requires
     enum-known-refusal
     returns
-    returns-2)
+    enum-told
+    seconds-of-requires
+    judge-requires
+    enum-told-2
+    year-of-requires
+    enter-counted-requires
+    enum-known-reason
+    returns-2
+    returns-3)

@@ -1,0 +1,137 @@
+// The calls on the parts of a book that each changes, lent and altered in place; a refused call leaves them.
+ghost use mathlib.Core.Path.{_≡_};
+ghost use mathlib.Core.List.{List};
+ghost use Prim.Native.Nat.{ℕ};
+ghost use Rattle.book.specs.Book.{bookWith};
+ghost use Rattle.calls.specs.Answers.{firstOf};
+ghost use Rattle.ledger.specs.Steps.{Leaves, memberLines, admissionSaid};
+use crate::Admission;
+use calls::Answer;
+use calls::Call;
+use calls::Moved;
+use calls::Refusal;
+use calls::amount_in_range;
+use calls::has_bit;
+use calls::include_bit;
+use calls::index_in_range;
+use calls::mark_in_range;
+use calls::move_figure;
+use calls::rates_in_range;
+use calls::remask;
+use calls::setting_in_range;
+
+pub(crate) fn join(joined: &mut u16, operator: u8) -> Answer
+    ensures { λ r. ⌜ ((marks settings figures indices : List ℕ) (pot cap : ℕ) → Leaves (bookWith (now (joined .entry)) marks settings figures pot cap indices) (Call.Join operator) r (bookWith (now (joined .exit)) marks settings figures pot cap indices)) ⌝ }
+{
+    if 15 < operator {
+        return Answer::Refused(Refusal::UnknownOperator);
+    }
+    if has_bit(*joined, operator) {
+        return Answer::Refused(Refusal::AlreadyJoined);
+    }
+    *joined = include_bit(*joined, operator);
+    Answer::Yes
+}
+
+// The checks that setting, interruption, amount and mark share: 4, 5 and 7, in the order of the table.
+pub(crate) fn admit(joined: u16, operator: u8, valid: bool) -> Admission
+    ensures { λ r. ⌜ admissionSaid r ≡ firstOf (memberLines joined operator valid) tt ⌝ }
+{
+    if 15 < operator {
+        return Admission::Refused(Refusal::UnknownOperator);
+    }
+    if !valid {
+        return Admission::Refused(Refusal::OutOfRange);
+    }
+    if !has_bit(joined, operator) {
+        return Admission::Refused(Refusal::NotJoined);
+    }
+    Admission::Admitted
+}
+
+// Which: 0 cabins, 1 active access points, 2 income.
+pub(crate) fn setting(
+    joined: u16,
+    settings: &mut [u64; 48],
+    operator: u8,
+    which: u8,
+    value: u64,
+) -> Answer
+    ensures { λ r. ⌜ ((marks figures indices : List ℕ) (pot cap : ℕ) → Leaves (bookWith joined marks (now (settings .entry)) figures pot cap indices) (Call.Setting operator which value) r (bookWith joined marks (now (settings .exit)) figures pot cap indices)) ⌝ }
+{
+    if let Admission::Refused(refusal) = admit(joined, operator, setting_in_range(which, value)) {
+        return Answer::Refused(refusal);
+    }
+    settings[operator as usize * 3 + which as usize] = value;
+    Answer::Yes
+}
+
+// Sign: 0 file, 1 withdraw.
+pub(crate) fn amount(
+    joined: u16,
+    figures: &mut [u64; 384],
+    operator: u8,
+    year: u8,
+    figure: u8,
+    sign: u8,
+    value: u64,
+) -> Answer
+    ensures { λ r. ⌜ ((marks settings indices : List ℕ) (pot cap : ℕ) → Leaves (bookWith joined marks settings (now (figures .entry)) pot cap indices) (Call.Amount operator year figure sign value) r (bookWith joined marks settings (now (figures .exit)) pot cap indices)) ⌝ }
+{
+    if let Admission::Refused(refusal) = admit(
+        joined,
+        operator,
+        amount_in_range(year, figure, sign),
+    ) {
+        return Answer::Refused(refusal);
+    }
+    let at = (operator as usize * 3 + year as usize) * 8 + figure as usize;
+    match move_figure(sign, value, figures[at]) {
+        Moved::To(moved) => {
+            figures[at] = moved;
+            Answer::Yes
+        }
+        Moved::Above => Answer::Refused(Refusal::AboveLimit),
+        Moved::Below => Answer::Refused(Refusal::BelowZero),
+    }
+}
+
+// Mark: 1 unreliable, 0 not.
+pub(crate) fn mark_indicator(
+    joined: u16,
+    marks: &mut [u16; 6],
+    operator: u8,
+    indicator: u8,
+    mark: u8,
+) -> Answer
+    ensures { λ r. ⌜ ((settings figures indices : List ℕ) (pot cap : ℕ) → Leaves (bookWith joined (now (marks .entry)) settings figures pot cap indices) (Call.Mark operator indicator mark) r (bookWith joined (now (marks .exit)) settings figures pot cap indices)) ⌝ }
+{
+    if let Admission::Refused(refusal) = admit(joined, operator, mark_in_range(indicator, mark)) {
+        return Answer::Refused(refusal);
+    }
+    let at = indicator as usize;
+    marks[at] = remask(marks[at], operator, mark);
+    Answer::Yes
+}
+
+pub(crate) fn rates(pot_rate: &mut u32, cap_rate: &mut u32, pot: u32, cap: u32) -> Answer
+    ensures { λ r. ⌜ ((joined : ℕ) (marks settings figures indices : List ℕ) → Leaves (bookWith joined marks settings figures (now («pot_rate» .entry)) (now («cap_rate» .entry)) indices) (Call.Rates pot cap) r (bookWith joined marks settings figures (now («pot_rate» .exit)) (now («cap_rate» .exit)) indices)) ⌝ }
+{
+    if !rates_in_range(pot, cap) {
+        return Answer::Refused(Refusal::OutOfRange);
+    }
+    *pot_rate = pot;
+    *cap_rate = cap;
+    Answer::Yes
+}
+
+// Number: 0 to 2 the June before each year, 3 June 2013.
+pub(crate) fn index(indices: &mut [u32; 4], number: u8, value: u32) -> Answer
+    ensures { λ r. ⌜ ((joined pot cap : ℕ) (marks settings figures : List ℕ) → Leaves (bookWith joined marks settings figures pot cap (now (indices .entry))) (Call.Index number value) r (bookWith joined marks settings figures pot cap (now (indices .exit)))) ⌝ }
+{
+    if !index_in_range(number, value) {
+        return Answer::Refused(Refusal::OutOfRange);
+    }
+    indices[number as usize] = value;
+    Answer::Yes
+}
