@@ -2,19 +2,24 @@
 -- Assumes nothing.
 use Prim.Native.Nat.{ℕ, _+_}
 use mathlib.Core.Bool.{Bool, true, false, cond}
-use Rattle.calls.specs.Answers.{Said, refused-by, accepted, onAnswer, isRefused, Acceptance, yes-said}
+use Rattle.calls.specs.Answers.{Said, refused-by, accepted, onAnswer, isRefused, Acceptance, yes-said, said}
+use Rattle.book.specs.declared.Book.{Book}
 use Rattle.ledger.specs.Calls.{apply, Outcome as Given}
 use Rattle.fields.specs.Field.{Found, at-end, call-then}
 use Rattle.filing.specs.declared.reader.Walk.{Walk}
-use Rattle.filing.specs.Reader.{Outcome, reading, told}
+use Rattle.filing.specs.Reader.{Outcome, reading}
 
 -- a reading under way
 pub record Progress : Type 0 where
   pub reached : Outcome
   pub continues : Bool
 
-abbrev pub toldWalk : Walk → Progress
-toldWalk walk = record { reached = told (walk .reading); continues = walk .continues }
+-- what a walk has reached with a book, and whether it continues
+abbrev pub reachedBy : Book → Walk → Outcome
+reachedBy b walk = reading b (walk .applied) (walk .offset) (said (walk .answer))
+
+abbrev pub toldWalk : Book → Walk → Progress
+toldWalk b walk = record { reached = reachedBy b walk; continues = walk .continues }
 
 -- the end, or a field that is refused by its bytes or by its call
 unfoldable pub stopped : Outcome → Said Acceptance → Progress

@@ -1,44 +1,53 @@
 -- `filing::reader::advance` meets its contract.
 -- Assumes nothing.
-use borrow.Author.Needs.{needs}
 use mathlib.Core.Path.{_≡_, refl, sym, ap, _∙_}
 use mathlib.Core.Bool.{true, false}
+use Rattle.book.specs.declared.Book.{Book}
 use Rattle.calls.specs.Answers.{isRefused}
+use Rattle.book.specs.Book.{bookWith}
 use Rattle.ledger.specs.Calls.{apply}
-use Rattle.filing.specs.Reader.{reading}
-use Rattle.filing.specs.Steps.{stopped, advanced}
+use Rattle.filing.specs.Steps.{reachedBy, stopped, advanced}
 use Rattle.filing.proofs.WalkLaws.{refused-leaves}
+use borrow.Author.Needs.{needs}
 use Rattle.filing.proofs.reader.advance.Statement.{statement}
 use Rattle.filing.proofs.reader.advance.Tie as tie
 
-apply-requires : tie.Need-apply-requires
-apply-requires c κs = c .pre .1
+apply-in-requires : tie.Need-apply-in-requires
+apply-in-requires c κs = search needs
 
 is-refused-requires : tie.Need-is-refused-requires
 is-refused-requires c κs = search needs
 
+stop-requires : tie.Need-stop-requires
+stop-requires c κs = search needs
+
 -- refused: the book stays
 returns : tie.Need-returns
-unfolding advanced stopped
+unfolding advanced
 returns c =
-    let start = c .before .before .before .before in
-    let gives = c .before .before .before .apply .ensures in
-    let stops : isRefused (apply (start .args .reached .book) (start .args .filing-call) .said) ≡ true =
-    ap isRefused (sym (gives .0)) ∙ sym (c .before .is-refused .ensures) ∙ c .if1 .taken in
-    rw (stops, ← gives .0, gives .1, refused-leaves _ _ stops) refl
+    let start = c .before .before .before .before .before .before .before .before .before .before .before in
+    let old : Book = bookWith (start .args .joined .now) (start .args .marks .now) (start .args .settings .now) (start .args .figures .now) (start .args .pot-rate .now) (start .args .cap-rate .now) (start .args .indices .now) in
+    let gives = c .before .before .before .apply-in .ensures in
+    let stops : isRefused (apply old (start .args .filing-call) .said) ≡ true =
+    ap isRefused (sym (gives .0)) ∙ sym (c .before .before .is-refused .ensures) ∙ c .before .if1 .taken in
+    rw stops
+    (c .stop .ensures _ ∙ (λ i. stopped (reachedBy ((gives .1 ∙ refused-leaves old (start .args .filing-call) stops) i) (start .args .reached)) (gives .0 i)))
 
-add-t9 : tie.Need-add-t9
-add-t9 c = search needs
+add-t20 : tie.Need-add-t20
+add-t20 c = search needs
 
 -- applied
 returns-2 : tie.Need-returns-2
 unfolding advanced
 returns-2 c =
-    let start = c .before .before .before .before .before in
-    let gives = c .before .before .before .before .apply .ensures in
-    let goes : isRefused (apply (start .args .reached .book) (start .args .filing-call) .said) ≡ false =
+    let start = c .before .before .before .before .before .before .before .before .before .before .before in
+    let old : Book = bookWith (start .args .joined .now) (start .args .marks .now) (start .args .settings .now) (start .args .figures .now) (start .args .pot-rate .now) (start .args .cap-rate .now) (start .args .indices .now) in
+    let gives = c .before .before .before .apply-in .ensures in
+    let goes : isRefused (apply old (start .args .filing-call) .said) ≡ false =
     ap isRefused (sym (gives .0)) ∙ sym (c .before .before .is-refused .ensures) ∙ c .before .if1 .left in
     rw (goes, ← gives .0, ← gives .1) refl
 
 pub advance-spec : {M : Type 1} → statement M
-advance-spec = tie.close (tie.spec apply-requires is-refused-requires returns add-t9 returns-2)
+advance-spec =
+    tie.close
+    (tie.spec apply-in-requires is-refused-requires stop-requires returns add-t20 returns-2)

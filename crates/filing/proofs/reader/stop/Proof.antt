@@ -2,12 +2,13 @@
 -- Assumes nothing.
 use mathlib.Core.Path.{refl}
 use Rattle.filing.specs.Steps.{stopped}
+use borrow.Author.Needs.{needs}
 use Rattle.filing.proofs.reader.stop.Statement.{statement}
 use Rattle.filing.proofs.reader.stop.Tie as tie
 
 returns : tie.Need-returns
 unfolding stopped
-returns c = refl
+returns c = λ b. refl
 
 pub stop-spec : {M : Type 1} → statement M
 stop-spec = tie.close (tie.spec returns)
