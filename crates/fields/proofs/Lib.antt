@@ -3,4 +3,5 @@ pub mod NumberLaws
 pub mod TagLaws
 pub mod FieldLaws
 pub mod LowestOfFields
+pub mod EncodingLaws
 pub mod Opened

@@ -1,2 +1,3 @@
 -- The definitions of `fields`.
 pub mod Field
+pub mod Encoding
