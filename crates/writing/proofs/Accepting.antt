@@ -1,0 +1,75 @@
+-- Calls that are accepted on a book where they file a value within its range for a joined operator.
+-- Assumes nothing.
+use Prim.Native.Nat.{ℕ, _+_, _-_, _≤_, _<_}
+use mathlib.Core.Path.{_≡_, refl, sym, ap, _∙_}
+use mathlib.Core.Bool.{true, false, cond, _&&_}
+use mathlib.Core.List.{[], _∷_}
+use native.Mathlib.Omega.{arith}
+use lib.Dec.{ltb, leb, eqb}
+use lib.ListN.{getD, set}
+use borrow.Author.Tests.{lt-ltb, le-ltb, le-leb, lt-leb}
+use Rattle.book.specs.declared.Book.{Book}
+use Rattle.calls.specs.declared.Call.the-variants.{Join, Setting, Amount, Mark, Rates, Index}
+use Rattle.calls.specs.Limits.{operators, years, figureCount, settingCount, indicatorCount, indexCount, settingLimit, figureLimit, rateLimit, indexLeast, indexMost}
+use Rattle.calls.specs.Masks.{has, including, remasked}
+use Rattle.calls.specs.Answers.{yes-said}
+use Rattle.calls.specs.Call.{entry, factsOf}
+use Rattle.book.specs.Book.{bookWith, isJoined, figureOf, settingSlot, figureSlot}
+use Rattle.ledger.specs.Table.{some}
+use Rattle.ledger.specs.Calls.{changed, withFigures, apply}
+use Rattle.ledger.specs.Steps.{entering}
+use Rattle.ledger.proofs.AdmissionLaws.{acceptedCall, admitted, done}
+use Rattle.ledger.proofs.MoveLaws.{one-moved}
+
+module _ (c : Book) where
+  pub join-accepted : (operator : ℕ) → operator < operators → has (c .joined) operator ≡ false
+      → apply c (Join operator)
+      ≡ acceptedCall (bookWith (including (c .joined) operator) (c .marks) (c .settings) (c .figures) (c .«pot_rate») (c .«cap_rate») (c .indices)) yes-said
+  unfolding factsOf some changed isJoined
+  join-accepted operator lo free =
+      done c (Join operator) (rw (lt-leb operators operator lo) refl) refl (rw free refl) refl refl
+
+  pub setting-accepted : (operator which value : ℕ) → operator < operators → which < settingCount → value ≤ settingLimit which
+      → has (c .joined) operator ≡ true
+      → apply c (Setting operator which value)
+      ≡ acceptedCall (bookWith (c .joined) (c .marks) (set (c .settings) (settingSlot operator which) value) (c .figures) (c .«pot_rate») (c .«cap_rate») (c .indices)) yes-said
+  unfolding factsOf some changed isJoined
+  setting-accepted operator which value lo lw le joined =
+      done c (Setting operator which value) (rw (lt-leb operators operator lo) refl) (rw (lt-ltb which settingCount lw, le-leb value (settingLimit which) le) refl) refl
+      (rw joined refl) refl
+
+  -- a figure that is 0
+  pub amount-accepted : (operator year figure value : ℕ) → operator < operators → year < years → figure < figureCount → value ≤ figureLimit
+      → has (c .joined) operator ≡ true → getD (c .figures) (figureSlot operator year figure) 0 ≡ 0
+      → apply c (Amount operator year figure 0 value)
+      ≡ acceptedCall (withFigures c (set (c .figures) (figureSlot operator year figure) value)) yes-said
+  unfolding factsOf some changed isJoined entering figureOf
+  amount-accepted operator year figure value lo ly lf le joined none =
+      admitted c (Amount operator year figure 0 value) (rw (lt-leb operators operator lo) refl)
+      (rw (lt-ltb year years ly, lt-ltb figure figureCount lf) refl) refl (rw joined refl)
+      ∙ one-moved c (entry operator year figure 0 value) yes-said value
+      (record {
+        below-limit = rw none (le-ltb figureLimit (0 + value) (omega arith));
+        above-zero = refl;
+        reaches = rw none (omega arith);
+      })
+
+  pub mark-accepted : (operator indicator : ℕ) → operator < operators → indicator < indicatorCount → has (c .joined) operator ≡ true
+      → apply c (Mark operator indicator 1)
+      ≡ acceptedCall (bookWith (c .joined) (set (c .marks) indicator (including (getD (c .marks) indicator 0) operator)) (c .settings) (c .figures) (c .«pot_rate») (c .«cap_rate») (c .indices)) yes-said
+  unfolding factsOf some changed isJoined remasked
+  mark-accepted operator indicator lo li joined =
+      done c (Mark operator indicator 1) (rw (lt-leb operators operator lo) refl) (rw (lt-ltb indicator indicatorCount li) refl) refl (rw joined refl) refl
+
+  pub index-accepted : (number value : ℕ) → number < indexCount → indexLeast ≤ value → value ≤ indexMost
+      → apply c (Index number value)
+      ≡ acceptedCall (bookWith (c .joined) (c .marks) (c .settings) (c .figures) (c .«pot_rate») (c .«cap_rate») (set (c .indices) number value)) yes-said
+  unfolding factsOf some changed
+  index-accepted number value ln least most =
+      done c (Index number value) refl (rw (lt-ltb number indexCount ln, le-leb indexLeast value least, le-leb value indexMost most) refl) refl refl refl
+
+  pub rates-accepted : (pot cap : ℕ) → pot ≤ rateLimit → cap ≤ rateLimit
+      → apply c (Rates pot cap) ≡ acceptedCall (bookWith (c .joined) (c .marks) (c .settings) (c .figures) pot cap (c .indices)) yes-said
+  unfolding factsOf some changed
+  rates-accepted pot cap pot-le cap-le =
+      done c (Rates pot cap) refl (rw (le-leb pot rateLimit pot-le, le-leb cap rateLimit cap-le) refl) refl refl refl

@@ -1,0 +1,5 @@
+-- The laws that the proofs of `writing`, and of the crates above it, use.
+pub mod Filings
+pub mod Mixed
+pub mod Accepting
+pub mod Rebuilt

@@ -1,0 +1,293 @@
+-- Filing the calls that a book in range is written as, from a fresh book, is accepted throughout and leads to the book.
+-- Assumes nothing.
+use Prim.Native.Nat.{ℕ, zero, suc, _+_, _*_, _%_, _^_, _≤_, _<_}
+use mathlib.Core.Path.{_≡_, refl, sym, ap, subst, _∙_}
+use mathlib.Core.Bool.{Bool, true, false, cond, _&&_, false≢true}
+use mathlib.Core.List.{List, [], _∷_, _++_, map}
+use native.Mathlib.Nat.{mod-one, mod-eq-of-lt, zero-mod}
+use native.Mathlib.Omega.{arith}
+use lib.Dec.{eqb}
+use lib.ListN.{length, getD, set, replicate, length-replicate, getD-replicate, length-map, List·getD-map}
+use lib.Seq.{ext-getD}
+use borrow.Author.Tests.{eqb-true, eqb-false}
+use Rattle.calls.proofs.Flags.{and-left, and-right}
+use Rattle.book.specs.declared.Book.{Book}
+use Rattle.calls.specs.declared.Call.{Call}
+use Rattle.calls.specs.declared.Call.the-variants.{Join, Setting, Amount, Mark, Rates, Index}
+use Rattle.calls.specs.Limits.{operators, years, figureCount, settingCount, indicatorCount, indexCount, settingLimit, figureLimit, rateLimit, indexLeast, indexMost}
+use Rattle.calls.specs.Masks.{has, including}
+use Rattle.calls.specs.Answers.{yes-said}
+use Rattle.book.specs.Book.{bookWith, freshBook, isJoined, isMarked, settingOf, figureOf, indexOf, settingSlot, figureSlot, most, inRange}
+use Rattle.book.proofs.Bounds.{Bounds, bounded}
+use Rattle.book.proofs.SlotLaws.{setting-slot-lt, figure-slot-lt}
+use Rattle.history.proofs.Kept.{fresh-in-range}
+use Rattle.ledger.specs.Calls.{withFigures}
+use Rattle.writing.specs.Written.{inTurn, unlessFresh, joinCalls, settingCalls, amountCalls, markCalls, indexCalls, rateCalls, writtenCalls}
+use Rattle.writing.proofs.Filings.{Leads, stays-ranged, leads-none, leads-one, leads-then, leads-turns, leads-rows}
+use Rattle.writing.proofs.Mixed.{mix, mix-set, mix-same, mix-at, mix-all, low-set, low-clear, low-free}
+use Rattle.writing.proofs.Accepting.{join-accepted, setting-accepted, amount-accepted, mark-accepted, index-accepted, rates-accepted}
+
+-- fresh lists
+abbrev noMarks : List ℕ
+noMarks = replicate 6 0
+
+abbrev noSettings : List ℕ
+noSettings = replicate 48 0
+
+abbrev noFigures : List ℕ
+noFigures = replicate 384 0
+
+abbrev freshIndices : List ℕ
+freshIndices = replicate 4 10000
+
+-- a value above 0 is a joined operator's
+joined-if : (t : Bool) (limit value : ℕ) → value ≤ cond t limit 0 → (value ≡ 0 → ⊥) → (t ≡ true) × (value ≤ limit)
+joined-if true limit value le some = (refl, le)
+joined-if false limit value le some = absurd (some (omega arith))
+
+module _ (b : Book) (ranged : inRange b ≡ true) where
+  bounds : Bounds b
+  bounds = bounded b ranged
+
+  -- joins, bit by bit
+  joinStage : ℕ → Book
+  joinStage k = bookWith (b .joined % 2 ^ k) noMarks noSettings noFigures 0 0 freshIndices
+
+  join-step : (k : ℕ) → k < operators → inRange (joinStage k) ≡ true
+      → Leads (joinStage k) (cond (isJoined b k) (Join k ∷ []) []) (joinStage (suc k))
+  unfolding joinStage isJoined
+  join-step k lt in-range = go (has (b .joined) k) refl
+    where
+      go : (t : Bool) → has (b .joined) k ≡ t → Leads (joinStage k) (cond t (Join k ∷ []) []) (joinStage (suc k))
+      go true e =
+          leads-one (joinStage k) (Join k) (joinStage (suc k)) yes-said in-range
+          (join-accepted (joinStage k) k lt (low-free (b .joined) k) ∙ rw (low-set (b .joined) k e) refl)
+      go false e = rw (low-clear (b .joined) k e) (leads-none (joinStage (suc k)) (rw (← low-clear (b .joined) k e) in-range))
+
+  joins-lead : Leads freshBook (joinCalls b) (bookWith (b .joined) noMarks noSettings noFigures 0 0 freshIndices)
+  unfolding joinCalls freshBook joinStage
+  joins-lead =
+      let whole = mod-eq-of-lt (bounds .joined-small) in
+      let none = mod-one (b .joined) in
+      rw (whole, none) at (leads-turns operators _ joinStage (rw none fresh-in-range) join-step)
+
+  -- settings, place by place
+  settingStage : ℕ → Book
+  settingStage k = bookWith (b .joined) noMarks (mix k (b .settings) noSettings) noFigures 0 0 freshIndices
+
+  setting-step : (operator which : ℕ) → operator < operators → which < settingCount → inRange (settingStage (settingSlot operator which)) ≡ true
+      → Leads (settingStage (settingSlot operator which))
+      (unlessFresh (settingOf b operator which) 0 (Setting operator which (settingOf b operator which)))
+      (settingStage (suc (settingSlot operator which)))
+  unfolding settingStage settingOf most isJoined
+  setting-step operator which lo lw in-range = go (eqb (settingOf b operator which) 0) refl
+    where
+      k : ℕ
+      k = settingSlot operator which
+
+      value : ℕ
+      value = getD (b .settings) k 0
+
+      inside : k < length (b .settings)
+      inside = rw (bounds .settings-long) (setting-slot-lt operator which lo lw)
+
+      long : length noSettings ≡ length (b .settings)
+      long = sym (bounds .settings-long)
+
+      go : (t : Bool) → eqb value 0 ≡ t → Leads (settingStage k) (cond t [] (Setting operator which value ∷ [])) (settingStage (suc k))
+      go true e =
+          let same = mix-same (b .settings) noSettings long k inside (eqb-true value 0 e ∙ sym (getD-replicate {A = ℕ} 48 k 0 0 (setting-slot-lt operator which lo lw))) in
+          rw same (leads-none (settingStage (suc k)) (rw (← same) in-range))
+      go false e =
+          let may = joined-if (has (b .joined) operator) (settingLimit which) value (bounds .setting operator which lo lw) (eqb-false value 0 e) in
+          leads-one (settingStage k) (Setting operator which value) (settingStage (suc k)) yes-said in-range
+          (setting-accepted (settingStage k) operator which value lo lw (may .1) (may .0) ∙ rw (mix-set (b .settings) noSettings long k inside) refl)
+
+  settings-lead : inRange (settingStage 0) ≡ true → Leads (settingStage 0) (settingCalls b) (settingStage 48)
+  unfolding settingCalls settingSlot
+  settings-lead in-range = leads-rows operators settingCount _ settingStage in-range (λ o w lo lw here. setting-step o w lo lw here)
+
+  -- figures, place by place
+  figureStage : ℕ → Book
+  figureStage k = bookWith (b .joined) noMarks (b .settings) (mix k (b .figures) noFigures) 0 0 freshIndices
+
+  figure-step : (operator year figure : ℕ) → operator < operators → year < years → figure < figureCount
+      → inRange (figureStage (figureSlot operator year figure)) ≡ true
+      → Leads (figureStage (figureSlot operator year figure))
+      (unlessFresh (figureOf b operator year figure) 0 (Amount operator year figure 0 (figureOf b operator year figure)))
+      (figureStage (suc (figureSlot operator year figure)))
+  unfolding figureStage figureOf most isJoined
+  figure-step operator year figure lo ly lf in-range = go (eqb (figureOf b operator year figure) 0) refl
+    where
+      k : ℕ
+      k = figureSlot operator year figure
+
+      value : ℕ
+      value = getD (b .figures) k 0
+
+      inside : k < length (b .figures)
+      inside = rw (bounds .figures-long) (figure-slot-lt operator year figure lo ly lf)
+
+      long : length noFigures ≡ length (b .figures)
+      long = sym (bounds .figures-long)
+
+      fresh : getD noFigures k 0 ≡ 0
+      fresh = getD-replicate {A = ℕ} 384 k 0 0 (figure-slot-lt operator year figure lo ly lf)
+
+      go : (t : Bool) → eqb value 0 ≡ t → Leads (figureStage k) (cond t [] (Amount operator year figure 0 value ∷ [])) (figureStage (suc k))
+      go true e =
+          let same = mix-same (b .figures) noFigures long k inside (eqb-true value 0 e ∙ sym fresh) in
+          rw same (leads-none (figureStage (suc k)) (rw (← same) in-range))
+      go false e =
+          let may = joined-if (has (b .joined) operator) figureLimit value (bounds .figure operator year figure lo ly lf) (eqb-false value 0 e) in
+          leads-one (figureStage k) (Amount operator year figure 0 value) (figureStage (suc k)) yes-said in-range
+          (amount-accepted (figureStage k) operator year figure value lo ly lf (may .1) (may .0) (mix-at (b .figures) noFigures long k inside ∙ fresh)
+          ∙ rw (mix-set (b .figures) noFigures long k inside) refl)
+
+  figures-lead : inRange (figureStage 0) ≡ true → Leads (figureStage 0) (amountCalls b) (figureStage 384)
+  unfolding amountCalls figureSlot
+  figures-lead in-range = leads-turns operators _ (λ (o : ℕ). figureStage (o * 24)) in-range rows
+    where
+      calls : ℕ → ℕ → ℕ → List Call
+      calls o y f = unlessFresh (figureOf b o y f) 0 (Amount o y f 0 (figureOf b o y f))
+
+      rows : (o : ℕ) → o < operators → inRange (figureStage (o * 24)) ≡ true
+          → Leads (figureStage (o * 24)) (inTurn years (λ (y : ℕ). inTurn figureCount (calls o y))) (figureStage (suc o * 24))
+      rows o lo here =
+          let first : o * 24 + 0 ≡ o * 24 = omega arith in
+          let last : o * 24 + 24 ≡ suc o * 24 = omega arith in
+          rw (first, last) at
+          (leads-rows years figureCount (calls o) (λ (k : ℕ). figureStage (o * 24 + k)) (rw first here)
+          (λ y f ly lf there.
+          let place : o * 24 + (y * 8 + f) ≡ (o * 3 + y) * 8 + f = omega arith in
+          let next : o * 24 + suc (y * 8 + f) ≡ suc ((o * 3 + y) * 8 + f) = omega arith in
+          rw (place, next) (figure-step o y f lo ly lf (rw place at there))))
+
+  -- marks, operator by operator, indicator by indicator
+  lowMarks : ℕ → List ℕ
+  lowMarks o = map (λ (mask : ℕ). mask % 2 ^ o) (b .marks)
+
+  markStage : ℕ → ℕ → Book
+  markStage o i = bookWith (b .joined) (mix i (lowMarks (suc o)) (lowMarks o)) (b .settings) (b .figures) 0 0 freshIndices
+
+  low-long : (o : ℕ) → length (lowMarks o) ≡ 6
+  unfolding lowMarks
+  low-long o = length-map (b .marks) (λ (mask : ℕ). mask % 2 ^ o) ∙ bounds .marks-long
+
+  low-at : (o i : ℕ) → getD (lowMarks o) i 0 ≡ getD (b .marks) i 0 % 2 ^ o
+  unfolding lowMarks
+  low-at o i = ap (λ (d : ℕ). getD (lowMarks o) i d) (sym (zero-mod (2 ^ o))) ∙ List·getD-map (λ (mask : ℕ). mask % 2 ^ o) (b .marks) i 0
+
+  mark-step : (o i : ℕ) → o < operators → i < indicatorCount → inRange (markStage o i) ≡ true
+      → Leads (markStage o i) (cond (isMarked b o i) (Mark o i 1 ∷ []) []) (markStage o (suc i))
+  unfolding markStage isMarked isJoined
+  mark-step o i lo li in-range = go (has (getD (b .marks) i 0) o) refl
+    where
+      new : List ℕ
+      new = lowMarks (suc o)
+
+      old : List ℕ
+      old = lowMarks o
+
+      long : length old ≡ length new
+      long = low-long o ∙ sym (low-long (suc o))
+
+      inside : i < length new
+      inside = rw (low-long (suc o)) li
+
+      go : (t : Bool) → has (getD (b .marks) i 0) o ≡ t → Leads (markStage o i) (cond t (Mark o i 1 ∷ []) []) (markStage o (suc i))
+      go true e =
+          leads-one (markStage o i) (Mark o i 1) (markStage o (suc i)) yes-said in-range
+          (mark-accepted (markStage o i) o i lo li (bounds .mark o i lo li e)
+          ∙ rw (mix-at new old long i inside, low-at o i, low-set (getD (b .marks) i 0) o e, ← low-at (suc o) i, mix-set new old long i inside) refl)
+      go false e =
+          let same = mix-same new old long i inside (low-at (suc o) i ∙ sym (low-clear (getD (b .marks) i 0) o e) ∙ sym (low-at o i)) in
+          rw same (leads-none (markStage o (suc i)) (rw (← same) in-range))
+
+  marksBook : ℕ → Book
+  marksBook o = bookWith (b .joined) (lowMarks o) (b .settings) (b .figures) 0 0 freshIndices
+
+  marks-lead : inRange (marksBook 0) ≡ true → Leads (marksBook 0) (markCalls b) (marksBook 16)
+  unfolding markCalls marksBook markStage
+  marks-lead in-range = leads-turns operators _ marksBook in-range row
+    where
+      row : (o : ℕ) → o < operators → inRange (marksBook o) ≡ true
+          → Leads (marksBook o) (inTurn indicatorCount (λ (i : ℕ). cond (isMarked b o i) (Mark o i 1 ∷ []) [])) (marksBook (suc o))
+      row o lo here =
+          rw (mix-all 6 (lowMarks (suc o)) (lowMarks o) (low-long (suc o)) (low-long o)) at
+          (leads-turns indicatorCount _ (markStage o) here (λ i li there. mark-step o i lo li there))
+
+  low-none : lowMarks 0 ≡ noMarks
+  low-none =
+      ext-getD 0 (lowMarks 0) noMarks (low-long 0)
+      (λ i lt. low-at 0 i ∙ mod-one (getD (b .marks) i 0) ∙ sym (getD-replicate {A = ℕ} 6 i 0 0 (rw (low-long 0) at lt)))
+
+  low-all : lowMarks 16 ≡ b .marks
+  low-all =
+      ext-getD 0 (lowMarks 16) (b .marks) (low-long 16 ∙ sym (bounds .marks-long))
+      (λ i lt. low-at 16 i ∙ mod-eq-of-lt (bounds .marks-small i (rw (low-long 16) at lt)))
+
+  -- indices, place by place
+  indexStage : ℕ → Book
+  indexStage k = bookWith (b .joined) (b .marks) (b .settings) (b .figures) 0 0 (mix k (b .indices) freshIndices)
+
+  index-step : (k : ℕ) → k < indexCount → inRange (indexStage k) ≡ true
+      → Leads (indexStage k) (unlessFresh (indexOf b k) 10000 (Index k (indexOf b k))) (indexStage (suc k))
+  unfolding indexStage indexOf
+  index-step k lt in-range = go (eqb (getD (b .indices) k 0) 10000) refl
+    where
+      value : ℕ
+      value = getD (b .indices) k 0
+
+      inside : k < length (b .indices)
+      inside = rw (bounds .indices-long) lt
+
+      long : length freshIndices ≡ length (b .indices)
+      long = sym (bounds .indices-long)
+
+      go : (t : Bool) → eqb value 10000 ≡ t → Leads (indexStage k) (cond t [] (Index k value ∷ [])) (indexStage (suc k))
+      go true e =
+          let same = mix-same (b .indices) freshIndices long k inside (eqb-true value 10000 e ∙ sym (getD-replicate {A = ℕ} 4 k 10000 0 lt)) in
+          rw same (leads-none (indexStage (suc k)) (rw (← same) in-range))
+      go false e =
+          leads-one (indexStage k) (Index k value) (indexStage (suc k)) yes-said in-range
+          (index-accepted (indexStage k) k value lt (bounds .index k lt .0) (bounds .index k lt .1)
+          ∙ rw (mix-set (b .indices) freshIndices long k inside) refl)
+
+  indices-lead : inRange (indexStage 0) ≡ true → Leads (indexStage 0) (indexCalls b) (indexStage 4)
+  unfolding indexCalls
+  indices-lead in-range = leads-turns indexCount _ indexStage in-range index-step
+
+  -- rates, if either is not 0
+  rates-lead : inRange (indexStage 4) ≡ true → Leads (indexStage 4) (rateCalls b) b
+  unfolding rateCalls indexStage
+  rates-lead in-range = rw same (go (eqb (b .«pot_rate») 0 && eqb (b .«cap_rate») 0) refl)
+    where
+      same : mix 4 (b .indices) freshIndices ≡ b .indices
+      same = mix-all 4 (b .indices) freshIndices (bounds .indices-long) refl
+
+      before : Book
+      before = bookWith (b .joined) (b .marks) (b .settings) (b .figures) 0 0 (b .indices)
+
+      go : (t : Bool) → eqb (b .«pot_rate») 0 && eqb (b .«cap_rate») 0 ≡ t → Leads before (cond t [] (Rates (b .«pot_rate») (b .«cap_rate») ∷ [])) b
+      go true e =
+          let no-pot = eqb-true (b .«pot_rate») 0 (and-left (eqb (b .«pot_rate») 0) _ e) in
+          let no-cap = eqb-true (b .«cap_rate») 0 (and-right (eqb (b .«pot_rate») 0) _ e) in
+          let is : before ≡ b = λ i. bookWith (b .joined) (b .marks) (b .settings) (b .figures) (sym no-pot i) (sym no-cap i) (b .indices) in
+          subst (λ (x : Book). Leads x [] b) (sym is) (leads-none b ranged)
+      go false e =
+          leads-one before (Rates (b .«pot_rate») (b .«cap_rate»)) b yes-said (rw same at in-range)
+          (rates-accepted before (b .«pot_rate») (b .«cap_rate») (bounds .pot-rate) (bounds .cap-rate))
+
+  -- all of them
+  pub written-leads : Leads freshBook (writtenCalls b) b
+  unfolding writtenCalls settingStage figureStage marksBook indexStage
+  written-leads =
+      let settings-all = mix-all 48 (b .settings) noSettings (bounds .settings-long) refl in
+      let figures-all = mix-all 384 (b .figures) noFigures (bounds .figures-long) refl in
+      let joins = joins-lead in
+      let settings = rw settings-all at (settings-lead (stays-ranged joins)) in
+      let figures = rw figures-all at (figures-lead (stays-ranged settings)) in
+      let marks = rw (low-none, low-all) at (marks-lead (rw low-none (stays-ranged figures))) in
+      let indices = indices-lead (stays-ranged marks) in
+      leads-then (leads-then (leads-then (leads-then (leads-then joins settings) figures) marks) indices) (rates-lead (stays-ranged indices))
