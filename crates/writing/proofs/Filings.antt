@@ -8,17 +8,13 @@ use mathlib.Core.List.{List, [], _∷_, _++_}
 use native.Mathlib.Omega.{arith}
 use Rattle.book.specs.declared.Book.{Book}
 use Rattle.calls.specs.declared.Call.{Call}
-use Rattle.calls.specs.Answers.{Said, accepted, onAnswer, isRefused, Acceptance}
+use Rattle.calls.specs.Answers.{onAnswer, isRefused, Acceptance}
 use Rattle.book.specs.Book.{inRange}
 use Rattle.ledger.specs.Calls.{Outcome, apply, file, filedBook, filedAnswers}
 use Rattle.ledger.proofs.AdmissionLaws.{acceptedCall}
 use Rattle.history.proofs.Kept.{filed-applied, all-stay}
 use Rattle.writing.specs.Written.{inTurn}
-
--- no answer of a list refuses
-abbrev pub NoneRefused : List (Said Acceptance) → Type 0
-NoneRefused [] = Unit {0}
-NoneRefused (answer ∷ rest) = (isRefused answer ≡ false) × NoneRefused rest
+use Rattle.writing.specs.Laws.{NoneRefused}
 
 pub record Leads (from : Book) (calls : List Call) (to : Book) : Type 0 where
   pub ranged : inRange from ≡ true

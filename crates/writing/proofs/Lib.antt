@@ -3,3 +3,6 @@ pub mod Filings
 pub mod Mixed
 pub mod Accepting
 pub mod Rebuilt
+pub mod ReadBack
+pub mod WrittenLength
+pub mod WrittenLaws

@@ -1,2 +1,3 @@
 -- The definitions of `writing`.
 pub mod Written
+pub mod Laws
