@@ -65,4 +65,4 @@ output-m = rw (read-m, settles-m) printed-m
 pub all-hold : All marked
 unfolding output-opened
 all-hold =
-    (refl, (refl, (refl, (refl, (refl, (refl, (refl, (refl, (refl, (refl, (output-m, (refl, (filings-refused, (refl, (refl, tt)))))))))))))))
+    (refl, (refl, (refl, (refl, (refl, (refl, (refl, (refl, (refl, (refl, (output-m, (refl, (filings-refused, (refl, (refl, (refl, (refl, (refl, (refl, tt)))))))))))))))))))

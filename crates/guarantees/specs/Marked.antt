@@ -9,7 +9,7 @@ use lib.ListN.{getD, take}
 use Rattle.apportion.specs.Share.{share}
 use Rattle.exponent.specs.Weight.{weightOf}
 use Rattle.calls.specs.declared.Call.{Call}
-use Rattle.calls.specs.declared.Call.the-variants.{Join, Setting, Interruption, Amount, Rates}
+use Rattle.calls.specs.declared.Call.the-variants.{Join, Setting, Interruption, Amount, Mark, Rates}
 use Rattle.calls.specs.Answers.{Said, refused-by, accepted, Acceptance, yes-said, counted-in, left-out-as-short}
 use Rattle.book.specs.Book.{freshBook, figureOf}
 use Rattle.ledger.specs.Calls.{filedAnswers}
@@ -49,6 +49,10 @@ filingM =
 abbrev pub linesM : List ℕ
 linesM = bytesOf "operator points out in adjustment\n0 65036 375000 386463 11463\n1 62464 1125000 1113537 -11463\nall 127500 1500000 1500000 0\n"
 
+-- operator 0 with a network, marked at all six indicators
+abbrev pub sixMarks : List Call
+sixMarks = Join 0 ∷ Setting 0 0 1 ∷ Setting 0 1 1 ∷ Mark 0 0 1 ∷ Mark 0 1 1 ∷ Mark 0 2 1 ∷ Mark 0 3 1 ∷ Mark 0 4 1 ∷ Mark 0 5 1 ∷ []
+
 -- every statement of a list holds
 abbrev pub All : List (Type 0) → Type 0
 All [] = Unit {0}
@@ -83,7 +87,11 @@ marked =
     ∷ (take 2 (settled (bookOf (caseM 50)) .settlement .adjustments) ≡ pos 5000 ∷ negℤ (pos 5000) ∷ [])
     -- filings that are refused at a field
     ∷ All refusedFilings
+    -- "amount 10^11 + 1", "withdraw 1 from 0"
+    ∷ (saidTo (Amount 0 0 4 0 100000000001) ≡ refused-by 8) ∷ (saidTo (Amount 0 0 4 1 1) ≡ refused-by 9)
     -- "a refused settlement `refused 10`": a fresh book
     ∷ (outputOf [] ≡ bytesOf "refused 10\n")
+    -- "only a join"; "one operator, six marks", its network filed, since 11 would be the lower number
+    ∷ (settled (bookOf (Join 0 ∷ [])) .said ≡ refused-by 11) ∷ (settled (bookOf sixMarks) .said ≡ refused-by 12)
     -- "weights 10, 8, 4 with the first two better become 18, 18, 8"
     ∷ (take 3 (each (levelled (λ (operator : ℕ). ltb operator 2) (λ (operator : ℕ). getD (10 ∷ 8 ∷ 4 ∷ []) operator 0))) ≡ 18 ∷ 18 ∷ 8 ∷ []) ∷ []
