@@ -1,16 +1,18 @@
 -- What is promised of the written filing of every book in range (specs/Laws.antt).
 -- Assumes nothing.
 use Prim.Native.Nat.{ℕ}
-use mathlib.Core.Path.{_≡_, sym, ap, _∙_}
+use mathlib.Core.Path.{_≡_, refl, sym, ap, _∙_}
 use mathlib.Core.List.{List}
 use mathlib.Core.Bool.{true}
 use Rattle.book.specs.declared.Book.{Book}
 use Rattle.calls.specs.Answers.{accepted, yes-said}
-use Rattle.book.specs.Book.{freshBook, inRange}
+use Rattle.book.specs.Book.{every, freshBook, isJoined, isMarked, settingOf, figureOf, indexOf, settingSlot, figureSlot, most, isComplete, hasSixteenBits, settingsInRange, figuresInRange, marksInRange, indicesInRange, ratesInRange, inRange}
+use Rattle.calls.specs.Masks.{has}
+use Rattle.fields.specs.Encoding.{inBytes, fieldOf, encoded}
 use lib.ListN.{length}
 use Rattle.filing.specs.Reader.{Outcome, reading, read}
-use Rattle.writing.specs.Written.{writtenCalls, written}
-use Rattle.writing.specs.Laws.{WrittenOut}
+use Rattle.writing.specs.Written.{inTurn, joinCalls, settingCalls, amountCalls, markCalls, indexCalls, rateCalls, writtenCalls, filingOf, written}
+use Rattle.writing.specs.Laws.{WrittenOut, Fullest, fullest}
 use Rattle.writing.proofs.Rebuilt.{written-leads}
 use Rattle.writing.proofs.ReadBack.{read-calls}
 use Rattle.writing.proofs.WrittenLength.{written-small}
@@ -39,3 +41,8 @@ written-out b ranged =
       told-apart = λ other ranged-too. ((λ same. ap written same), same-book b other ranged ranged-too);
       most = written-small b ranged .size;
     }
+
+-- found by writing it
+pub fullest-exact : Fullest
+unfolding inRange isComplete hasSixteenBits settingsInRange figuresInRange marksInRange ratesInRange indicesInRange isJoined isMarked settingOf figureOf indexOf settingSlot figureSlot most every has inTurn joinCalls settingCalls amountCalls markCalls indexCalls rateCalls writtenCalls filingOf written encoded fieldOf inBytes
+fullest-exact = record { ranged = refl; exact = refl }

@@ -5,10 +5,10 @@ use mathlib.Core.Path.{_≡_}
 use mathlib.Core.Logic.{_↔_}
 use mathlib.Core.Bool.{true, false}
 use mathlib.Core.List.{List, [], _∷_}
-use lib.ListN.{length}
+use lib.ListN.{length, replicate}
 use Rattle.book.specs.declared.Book.{Book}
 use Rattle.calls.specs.Answers.{Said, accepted, isRefused, Acceptance, yes-said}
-use Rattle.book.specs.Book.{freshBook, inRange}
+use Rattle.book.specs.Book.{bookWith, freshBook, inRange}
 use Rattle.ledger.specs.Calls.{filedBook, filedAnswers}
 use Rattle.filing.specs.Reader.{reading, read}
 use Rattle.writing.specs.Written.{writtenCalls, written}
@@ -28,3 +28,12 @@ pub record WrittenOut (b : Book) (ranged : inRange b ≡ true) : Type 0 where
   pub told-apart : (other : Book) → inRange other ≡ true → (b ≡ other) ↔ (written b ≡ written other)
   -- "at most 7,067 bytes"
   pub most : length (written b) ≤ 7067
+
+-- a book with every value filed, none of them fresh
+abbrev pub fullest : Book
+fullest = bookWith 65535 (replicate 6 65535) (replicate 48 1) (replicate 384 1) 1 1 (replicate 4 10001)
+
+-- it is in range, and needs exactly that many
+pub record Fullest : Type 0 where
+  pub ranged : inRange fullest ≡ true
+  pub exact : length (written fullest) ≡ 7067
