@@ -11,8 +11,8 @@ use book::Book;
 use calls::Answer;
 use calls::number_of;
 use filing::read;
-use report::Reported;
 use report::report;
+use text::Filled;
 use text::put_decimal;
 use text::put_word;
 
@@ -43,8 +43,8 @@ fn put_settlement(out: &mut [u8], b: Book) -> usize
     ensures { λ r. ⌜ now (out .exit) ≡ putInto (now (out .entry)) (settlementText b) ⌝ }
 {
     match report(b, out) {
-        Reported::Written(count) => count,
-        Reported::Refused(refusal) => put_refused_settlement(out, number_of(refusal)),
+        Filled::Bytes(count) => count,
+        Filled::Refused(refusal) => put_refused_settlement(out, number_of(refusal)),
     }
 }
 

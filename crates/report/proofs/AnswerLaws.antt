@@ -1,33 +1,22 @@
--- The report by the settlement's answer: yes, or a refusal; the lowest number is given, and answers are told apart.
+-- The report by the settlement's answer: yes, or a refusal; the lowest number is given.
 -- Assumes nothing.
 use Prim.Native.Nat.{ℕ}
-use mathlib.Core.Path.{_≡_, refl, ap}
+use mathlib.Core.Path.{_≡_, refl}
 use mathlib.Core.Bool.{false}
 use mathlib.Core.List.{List, [], _∷_}
 use lib.ListN.{length}
 use Rattle.book.specs.declared.Book.{Book}
-use Rattle.report.specs.declared.Reported.{Reported}
-use Rattle.report.specs.declared.Reported.the-variants.{Written, Refused}
-use Rattle.calls.specs.Answers.{refused-by, accepted, onAnswer, isRefused, yes-said, numberOf}
-use Rattle.calls.specs.Laws.{risesFrom, Lowest, ToldApart}
+use Rattle.calls.specs.Answers.{refused-by, accepted, onAnswer, isRefused, yes-said}
+use Rattle.calls.specs.Laws.{risesFrom, Lowest}
 use Rattle.calls.proofs.Lowest.{lowest, only-value, first-refuses, first-passes}
-use Rattle.calls.proofs.SaidLaws.{numbers-apart}
 use Rattle.values.specs.Indicator.{electricity}
 use Rattle.settlement.specs.Settlement.{settlingLines, settledBy, settled}
 use Rattle.text.specs.Buffer.{tooShort, bufferAfter, fitting}
-use Rattle.report.specs.Report.{textOf, reportLines, reportAnswer, reportBuffer, reportSaid}
+use Rattle.report.specs.Report.{textOf, reportLines, reportAnswer, reportBuffer}
 
 pub lowest-of-reports : (b : Book) (buffer : List ℕ) → Lowest (reportLines b buffer) (length (textOf b))
 unfolding risesFrom reportLines settlingLines
 lowest-of-reports b buffer = lowest (length (textOf b)) (reportLines b buffer) refl
-
-pub reports-apart : ToldApart reportSaid
-reports-apart (Written count) (Written other) same = cc
-reports-apart (Written count) (Refused refusal) same = cc
-reports-apart (Refused refusal) (Written count) same = cc
-reports-apart (Refused refusal) (Refused other) same =
-    let number : numberOf refusal ≡ numberOf other = cc in
-    ap Refused (numbers-apart refusal other number)
 
 module _ (b : Book) where
   -- settling that does not refuse says yes

@@ -5,9 +5,7 @@ use mathlib.Core.Bool.{Bool}
 use mathlib.Core.List.{List, [], _∷_, _++_}
 use lib.ListN.{length}
 use Rattle.book.specs.declared.Book.{Book}
-use Rattle.report.specs.declared.Reported.{Reported}
-use Rattle.report.specs.declared.Reported.the-variants.{Written, Refused}
-use Rattle.calls.specs.Answers.{Said, refused-by, accepted, firstOf, numberOf}
+use Rattle.calls.specs.Answers.{Said, firstOf}
 use Rattle.values.specs.Indicator.{electricity}
 use Rattle.settlement.specs.Settlement.{settlingLines, settled}
 use Rattle.text.specs.Buffer.{tooShort, bufferAfter}
@@ -27,8 +25,3 @@ reportAnswer b buffer = firstOf (reportLines b buffer) (length (textOf b))
 
 unfoldable pub reportBuffer : Book → List ℕ → List ℕ
 reportBuffer b buffer = bufferAfter buffer (textOf b) (reportAnswer b buffer)
-
--- what the code's answer says
-abbrev pub reportSaid : Reported → Said ℕ
-reportSaid (Written count) = accepted count
-reportSaid (Refused refusal) = refused-by (numberOf refusal)

@@ -1,15 +1,27 @@
--- A text that fits a buffer or does not: the answer, and what the buffer holds afterwards.
+-- A text that fits a buffer or does not: the answer, which is told apart, and what the buffer holds afterwards.
 -- Assumes nothing.
 use Prim.Native.Nat.{ℕ, _≤_, _<_}
-use mathlib.Core.Path.{_≡_, refl}
+use mathlib.Core.Path.{_≡_, refl, ap}
 use mathlib.Core.List.{List}
 use native.Mathlib.Nat.{zero-add}
 use lib.ListN.{length, take}
 use lib.Seq.{take-append-seam}
 use borrow.Author.Tests.{lt-ltb, le-ltb}
-use Rattle.calls.specs.Answers.{refused-by, accepted, onAnswer, firstOf}
-use Rattle.text.specs.Buffer.{tooShort, putInto, bufferAfter, fitting}
+use Rattle.calls.specs.Answers.{refused-by, accepted, onAnswer, firstOf, numberOf}
+use Rattle.calls.specs.Laws.{ToldApart}
+use Rattle.calls.proofs.SaidLaws.{numbers-apart}
+use Rattle.text.specs.declared.Filled.{Filled}
+use Rattle.text.specs.declared.Filled.the-variants.{Bytes, Refused}
+use Rattle.text.specs.Buffer.{tooShort, filledSaid, putInto, bufferAfter, fitting}
 use Rattle.text.specs.Steps.{written}
+
+pub fillings-apart : ToldApart filledSaid
+fillings-apart (Bytes count) (Bytes other) same = cc
+fillings-apart (Bytes count) (Refused refusal) same = cc
+fillings-apart (Refused refusal) (Bytes count) same = cc
+fillings-apart (Refused refusal) (Refused other) same =
+    let number : numberOf refusal ≡ numberOf other = cc in
+    ap Refused (numbers-apart refusal other number)
 
 -- a text put at the front, and the front of what holds it
 pub written-front : (buffer text : List ℕ) → written buffer 0 text ≡ putInto buffer text

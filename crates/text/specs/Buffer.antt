@@ -5,11 +5,18 @@ use mathlib.Core.Bool.{Bool}
 use mathlib.Core.List.{List, [], _∷_, _++_}
 use lib.Dec.{ltb}
 use lib.ListN.{length, drop}
-use Rattle.calls.specs.Answers.{Said, onAnswer, firstOf}
+use Rattle.calls.specs.Answers.{Said, refused-by, accepted, onAnswer, firstOf, numberOf}
+use Rattle.text.specs.declared.Filled.{Filled}
+use Rattle.text.specs.declared.Filled.the-variants.{Bytes, Refused}
 
 -- 13: "lent buffer too short"
 unfoldable pub tooShort : List ℕ → List ℕ → Bool
 tooShort buffer text = ltb (length buffer) (length text)
+
+-- what the answer of a call that fills a lent buffer says: "with the number of bytes written"
+abbrev pub filledSaid : Filled → Said ℕ
+filledSaid (Bytes count) = accepted count
+filledSaid (Refused refusal) = refused-by (numberOf refusal)
 
 -- bytes put at the front of a buffer; those after them stay
 unfoldable pub putInto : List ℕ → List ℕ → List ℕ

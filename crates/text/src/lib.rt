@@ -6,6 +6,13 @@ ghost use lib.IntN.{natAbs};
 ghost use lib.ListN.{length};
 ghost use Rattle.text.specs.Text.{decimal, signedDecimal};
 ghost use Rattle.text.specs.Steps.{written};
+use calls::Refusal;
+
+// How many bytes a call has put into a lent buffer, or why none.
+pub enum Filled {
+    Bytes(usize),
+    Refused(Refusal),
+}
 
 pub fn put_byte(out: &mut [u8], at: usize, byte: u8) -> usize
     requires { ⌜ at + 1 ≤ length (now out) ⌝ }

@@ -3,7 +3,7 @@
 use mathlib.Core.Path.{_≡_, sym, ap, subst, _∙_}
 use lib.ListN.{length}
 use Rattle.text.specs.Buffer.{putInto}
-use Rattle.report.specs.Report.{reportSaid}
+use Rattle.text.specs.Buffer.{filledSaid}
 use Rattle.output.specs.Output.{settlementText}
 use Rattle.output.proofs.RefusalLaws.{refusedSettlement}
 use Rattle.output.proofs.SettlementLaws.{Told, told}
@@ -34,7 +34,7 @@ returns c =
     let begun = c .before .before .before .before .before .before .before .before in
     let old = begun .args .out .now in
     let printed = c .before .before .before .before .before .report .ensures in
-    let whole = subst (Told (begun .args .b) old) (sym (printed .0) ∙ ap reportSaid (c .before .count .given .1)) (told (begun .args .b) old (begun .pre)) in
+    let whole = subst (Told (begun .args .b) old) (sym (printed .0) ∙ ap filledSaid (c .before .count .given .1)) (told (begun .args .b) old (begun .pre)) in
     (whole .0, printed .1 ∙ whole .1)
 
 same-length-2 : tie.Need-same-length-2
@@ -46,7 +46,7 @@ returns-2 c =
     let old = begun .args .out .now in
     let printed = c .before .before .before .before .before .before .before .before .before .before .report .ensures in
     let line = c .before .before .put-refused-settlement .ensures in
-    let whole = subst (Told (begun .args .b) old) (sym (printed .0) ∙ ap reportSaid (c .before .before .before .before .before .before .refusal .given .1)) (told (begun .args .b) old (begun .pre)) in
+    let whole = subst (Told (begun .args .b) old) (sym (printed .0) ∙ ap filledSaid (c .before .before .before .before .before .before .refusal .given .1)) (told (begun .args .b) old (begun .pre)) in
     let number = c .before .before .before .number-of in
     let text : refusedSettlement (number .result) ≡ settlementText (begun .args .b) = ap refusedSettlement (number .ensures) ∙ whole .0 in
     (line .0 ∙ ap length text, line .1 ∙ (λ i. putInto ((printed .1 ∙ whole .1) i) (text i)))
