@@ -1,9 +1,10 @@
 // A fresh book, and what a book holds, by name.
 ghost use mathlib.Core.Path.{_≡_};
 ghost use mathlib.Core.Bool.{cond, _&&_};
+ghost use Prim.Native.Nat.{_<_};
 ghost use lib.Dec.{ltb};
 ghost use Rattle.calls.specs.Limits.{operators, years, settingCount, figureCount};
-ghost use Rattle.book.specs.Book.{freshBook, isJoined, settingOf, figureOf};
+ghost use Rattle.book.specs.Book.{freshBook, isJoined, settingSlot, figureSlot, settingOf, figureOf};
 use crate::Book;
 use calls::has_bit;
 
@@ -38,8 +39,16 @@ pub fn setting_of(b: Book, operator: u8, which: u8) -> u64
         return 0;
     }
     let settings = b.settings;
-    let at = operator as usize * 3 + which as usize;
+    let at = setting_slot(operator, which);
     settings[at]
+}
+
+// Where a setting of an operator stands.
+pub fn setting_slot(operator: u8, which: u8) -> usize
+    requires { ⌜ (operator < operators) × (which < settingCount) ⌝ }
+    ensures { λ r. ⌜ (r ≡ settingSlot operator which) × (r < 48) ⌝ }
+{
+    operator as usize * 3 + which as usize
 }
 
 // A figure of an operator and year; 0 for an operator, a year or a figure that there is not.
@@ -56,6 +65,14 @@ pub fn figure_of(b: Book, operator: u8, year: u8, figure: u8) -> u64
         return 0;
     }
     let figures = b.figures;
-    let at = (operator as usize * 3 + year as usize) * 8 + figure as usize;
+    let at = figure_slot(operator, year, figure);
     figures[at]
+}
+
+// Where a figure of an operator and year stands.
+pub fn figure_slot(operator: u8, year: u8, figure: u8) -> usize
+    requires { ⌜ (operator < operators) × (year < years) × (figure < figureCount) ⌝ }
+    ensures { λ r. ⌜ (r ≡ figureSlot operator year figure) × (r < 384) ⌝ }
+{
+    (operator as usize * 3 + year as usize) * 8 + figure as usize
 }

@@ -3,9 +3,11 @@ mod access;
 mod range;
 
 pub use access::figure_of;
+pub use access::figure_slot;
 pub use access::fresh;
 pub use access::is_joined;
 pub use access::setting_of;
+pub use access::setting_slot;
 pub use range::in_range;
 
 pub struct Book {

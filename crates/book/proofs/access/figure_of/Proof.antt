@@ -3,7 +3,7 @@
 use mathlib.Core.Path.{refl}
 use native.Mathlib.Omega.{arith}
 use borrow.Author.Tests.{lt-ltb, le-ltb}
-use Rattle.book.specs.Book.{figureSlot, figureOf}
+use Rattle.book.specs.Book.{figureOf}
 use borrow.Author.Needs.{needs}
 use Rattle.book.proofs.access.figure_of.Statement.{statement}
 use Rattle.book.proofs.access.figure_of.Tie as tie
@@ -17,17 +17,8 @@ returns-2 c = simp (lt-ltb (c .before .before .args .operator) 16 (omega arith),
 returns-3 : tie.Need-returns-3
 returns-3 c = simp (lt-ltb (c .before .before .before .args .operator) 16 (omega arith), lt-ltb (c .before .before .before .args .year) 3 (omega arith), le-ltb (c .before .before .before .args .figure) 8 (c .if3 .taken))
 
-mul-at : tie.Need-mul-at
-mul-at c = search needs
-
-add-at : tie.Need-add-at
-add-at c = search needs
-
-mul-at-2 : tie.Need-mul-at-2
-mul-at-2 c = search needs
-
-add-at-2 : tie.Need-add-at-2
-add-at-2 c = search needs
+figure-slot-requires : tie.Need-figure-slot-requires
+figure-slot-requires c κs = search needs
 
 mul-result : tie.Need-mul-result
 mul-result c = search needs
@@ -36,20 +27,8 @@ array-read-result : tie.Need-array-read-result
 array-read-result c = search needs
 
 returns-4 : tie.Need-returns-4
-unfolding figureOf figureSlot
-returns-4 c = simp (lt-ltb (c .before .before .before .before .args .operator) 16 (omega arith), lt-ltb (c .before .before .before .before .args .year) 3 (omega arith), lt-ltb (c .before .before .before .before .args .figure) 8 (omega arith))
+unfolding figureOf
+returns-4 c = simp (lt-ltb (c .before .before .before .before .before .args .operator) 16 (omega arith), lt-ltb (c .before .before .before .before .before .args .year) 3 (omega arith), lt-ltb (c .before .before .before .before .before .args .figure) 8 (omega arith), c .figure-slot .ensures .0)
 
 pub figure-of-spec : {M : Type 1} → statement M
-figure-of-spec =
-    tie.close
-    (tie.spec
-    returns
-    returns-2
-    returns-3
-    mul-at
-    add-at
-    mul-at-2
-    add-at-2
-    mul-result
-    array-read-result
-    returns-4)
+figure-of-spec = tie.close (tie.spec returns returns-2 returns-3 figure-slot-requires mul-result array-read-result returns-4)

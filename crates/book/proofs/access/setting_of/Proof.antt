@@ -3,7 +3,7 @@
 use mathlib.Core.Path.{refl}
 use native.Mathlib.Omega.{arith}
 use borrow.Author.Tests.{lt-ltb, le-ltb}
-use Rattle.book.specs.Book.{settingSlot, settingOf}
+use Rattle.book.specs.Book.{settingOf}
 use borrow.Author.Needs.{needs}
 use Rattle.book.proofs.access.setting_of.Statement.{statement}
 use Rattle.book.proofs.access.setting_of.Tie as tie
@@ -14,11 +14,8 @@ returns c = simp (le-ltb (c .before .args .operator) 16 (c .if1 .taken))
 returns-2 : tie.Need-returns-2
 returns-2 c = simp (lt-ltb (c .before .before .args .operator) 16 (omega arith), le-ltb (c .before .before .args .which) 3 (c .if2 .taken))
 
-mul-at : tie.Need-mul-at
-mul-at c = search needs
-
-add-at : tie.Need-add-at
-add-at c = search needs
+setting-slot-requires : tie.Need-setting-slot-requires
+setting-slot-requires c κs = search needs
 
 mul-result : tie.Need-mul-result
 mul-result c = search needs
@@ -27,9 +24,8 @@ array-read-result : tie.Need-array-read-result
 array-read-result c = search needs
 
 returns-3 : tie.Need-returns-3
-unfolding settingOf settingSlot
-returns-3 c = simp (lt-ltb (c .before .before .before .args .operator) 16 (omega arith), lt-ltb (c .before .before .before .args .which) 3 (omega arith))
+unfolding settingOf
+returns-3 c = simp (lt-ltb (c .before .before .before .before .args .operator) 16 (omega arith), lt-ltb (c .before .before .before .before .args .which) 3 (omega arith), c .setting-slot .ensures .0)
 
 pub setting-of-spec : {M : Type 1} → statement M
-setting-of-spec =
-    tie.close (tie.spec returns returns-2 mul-at add-at mul-result array-read-result returns-3)
+setting-of-spec = tie.close (tie.spec returns returns-2 setting-slot-requires mul-result array-read-result returns-3)

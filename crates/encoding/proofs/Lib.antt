@@ -1,0 +1,3 @@
+-- Laws about fields to be written.
+pub mod NumberLaws
+pub mod FieldLaws

@@ -1,0 +1,2 @@
+-- The definitions of `encoding`.
+pub mod Fields

@@ -1,0 +1,5 @@
+-- Laws about the writer.
+pub mod EntryLaws
+pub mod PlaceLaws
+pub mod SoFarLaws
+pub mod AnswerLaws

@@ -1,0 +1,3 @@
+-- The definitions of `writer`.
+pub mod Writer
+pub mod Steps
