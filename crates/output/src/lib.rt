@@ -16,7 +16,7 @@ use text::Filled;
 use text::put_decimal;
 use text::put_word;
 
-const LONGEST_FILING: usize = 65536;
+pub const LONGEST_FILING: usize = 65536;
 
 // Puts what is printed at the front of a buffer, leaves the bytes after it, and answers how many there are.
 pub fn output(filing: &[u8], out: &mut [u8; 2048]) -> usize
@@ -57,7 +57,7 @@ fn put_refused_settlement(out: &mut [u8], number: u8) -> usize
     put_word(out, last, b"\n")
 }
 
-fn put_refused_field(out: &mut [u8], number: u8, offset: usize) -> usize
+pub fn put_refused_field(out: &mut [u8], number: u8, offset: usize) -> usize
     requires { ⌜ 2048 ≤ length (now out) ⌝ }
     ensures { λ r. ⌜ r ≡ length (refusedField number offset) ⌝ }
     ensures { λ r. ⌜ now (out .exit) ≡ putInto (now (out .entry)) (refusedField number offset) ⌝ }

@@ -1,0 +1,31 @@
+// The program that writes a book out: reads `filing.q` from the folder that it is run in, and puts the book's written filing on standard
+// output. A filing that is refused is told on standard error, by the line that `quality` prints, and nothing goes to standard output.
+use libc::STDERR_FILENO;
+use libc::STDOUT_FILENO;
+use load::Loaded;
+use load::load_filing;
+use rewriting::Streamed;
+use rewriting::rewritten;
+
+fn main() {
+    // One byte more than a filing may have, so that a longer one shows.
+    let mut filing = [0u8; 65537];
+    match load_filing(&mut filing) {
+        Loaded::Bytes(length) => print_rewritten(&filing[..length]),
+        Loaded::Failed => {}
+    }
+}
+
+fn print_rewritten(filing: &[u8]) {
+    let mut text = [0u8; 7067];
+    match rewritten(filing, &mut text) {
+        Streamed::Output(count) => print(STDOUT_FILENO, &text[..count]),
+        Streamed::Error(count) => print(STDERR_FILENO, &text[..count]),
+    }
+}
+
+fn print(fd: i32, text: &[u8]) {
+    if !io::write_all(fd, text) {
+        os::fail(b"output");
+    }
+}

@@ -1,0 +1,2 @@
+-- Laws about what the program `rewrite` prints.
+pub mod PrintoutLaws

@@ -1,0 +1,45 @@
+-- What the program prints for a filing, case by case: too long, refused at a field, or read to its end into a book that can be written.
+-- Assumes nothing.
+use Prim.Native.Nat.{ℕ, _≤_, _<_}
+use mathlib.Core.Path.{_≡_, refl, sym}
+use mathlib.Core.Bool.{true, false, false≢true}
+use mathlib.Core.List.{List}
+use lib.ListN.{length}
+use borrow.Author.Tests.{lt-ltb, le-ltb}
+use Rattle.book.specs.declared.Book.{Book}
+use Rattle.calls.specs.Answers.{Said, refused-by, accepted, onAnswer, isRefused, Acceptance}
+use Rattle.book.specs.Book.{freshBook, inRange}
+use Rattle.history.proofs.Kept.{all-stay, fresh-in-range}
+use Rattle.filing.specs.Reader.{read}
+use Rattle.filing.proofs.ReadLaws.{read-as-calls}
+use Rattle.text.specs.Text.{bytesOf}
+use Rattle.output.specs.Output.{refusedField}
+use Rattle.writing.specs.Written.{written}
+use Rattle.rewriting.specs.Rewriting.{standard-output, standard-error, Printout, printed, writtenOr, printoutOf}
+
+-- what follows from an answer that is no refusal
+fine-printout : (answer : Said Acceptance) → isRefused answer ≡ false → (refused : ℕ → Printout) (printout : Printout)
+    → onAnswer refused (λ (value : Acceptance). printout) answer ≡ printout
+unfolding isRefused onAnswer
+fine-printout (refused-by number) fine refused printout = absurd (false≢true (sym fine))
+fine-printout (accepted value) fine refused printout = refl
+
+module _ (filing : List ℕ) where
+  pub read-in-range : inRange (read freshBook filing .book) ≡ true
+  read-in-range = rw (read-as-calls freshBook filing fresh-in-range .left-book) (all-stay _ freshBook fresh-in-range)
+
+  pub printout-long : 65536 < length filing → printed standard-error (bytesOf "too long\n") ≡ printoutOf filing
+  unfolding printoutOf
+  printout-long long = rw (lt-ltb 65536 (length filing) long) refl
+
+  module _ (short : length filing ≤ 65536) where
+    pub printout-refused : (number : ℕ) → read freshBook filing .said ≡ refused-by number
+        → printed standard-error (refusedField number (read freshBook filing .offset)) ≡ printoutOf filing
+    unfolding printoutOf writtenOr onAnswer
+    printout-refused number refused = rw (le-ltb 65536 (length filing) short, refused) refl
+
+    pub printout-read : isRefused (read freshBook filing .said) ≡ false
+        → printed standard-output (written (read freshBook filing .book)) ≡ printoutOf filing
+    unfolding printoutOf writtenOr
+    printout-read fine =
+        rw (le-ltb 65536 (length filing) short, fine-printout (read freshBook filing .said) fine _ (printed standard-output (written (read freshBook filing .book)))) refl

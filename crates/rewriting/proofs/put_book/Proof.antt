@@ -1,0 +1,61 @@
+-- `rewriting::put_book` meets its contract.
+-- Assumes nothing.
+use Prim.Native.Nat.{ℕ}
+use mathlib.Core.Path.{_≡_, sym, ap, _∙_}
+use native.Mathlib.Omega.{arith}
+use lib.ListN.{length}
+use Rattle.calls.specs.Answers.{accepted}
+use Rattle.text.specs.Buffer.{filledSaid}
+use Rattle.writing.specs.Written.{written}
+use Rattle.writer.proofs.AnswerLaws.{write-fits}
+use borrow.Author.Needs.{needs}
+use Rattle.rewriting.proofs.put_book.Statement.{statement}
+use Rattle.rewriting.proofs.put_book.Tie as tie
+
+write-requires : tie.Need-write-requires
+write-requires c κs = search needs
+
+enum-known-count : tie.Need-enum-known-count
+enum-known-count c = search needs
+
+enum-known-refusal : tie.Need-enum-known-refusal
+enum-known-refusal c = search needs
+
+same-length : tie.Need-same-length
+same-length c = search needs
+
+-- written
+returns : tie.Need-returns
+returns c =
+    let begun = c .before .before .before .before .before .before .before .before in
+    let fit = write-fits (begun .args .b) (begun .args .out .now) (begun .pre .0) (begun .pre .1) in
+    let wrote = c .before .before .before .before .before .write in
+    let answered : filledSaid (wrote .result) ≡ accepted (length (written (begun .args .b))) = wrote .ensures .0 ∙ sym (fit .0) in
+    let counted = sym (ap filledSaid (c .before .count .given .1)) ∙ answered in
+    (cc, wrote .ensures .1 ∙ sym (fit .1))
+
+same-length-2 : tie.Need-same-length-2
+same-length-2 c = search needs
+
+-- refused, which cannot be
+returns-2 : tie.Need-returns-2
+returns-2 c =
+    let begun = c .before .before .before .before .before .before .before .before in
+    let fit = write-fits (begun .args .b) (begun .args .out .now) (begun .pre .0) (begun .pre .1) in
+    let wrote = c .before .before .before .before .before .write in
+    let answered : filledSaid (wrote .result) ≡ accepted (length (written (begun .args .b))) = wrote .ensures .0 ∙ sym (fit .0) in
+    let refused = sym (ap filledSaid (c .before .refusal .given .1)) ∙ answered in
+    let never : _≡_ {A = ℕ} 0 1 = cc in
+    absurd (omega arith)
+
+pub put-book-spec : {M : Type 1} → statement M
+put-book-spec =
+    tie.close
+    (tie.spec
+    write-requires
+    enum-known-count
+    enum-known-refusal
+    same-length
+    returns
+    same-length-2
+    returns-2)

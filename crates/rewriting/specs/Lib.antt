@@ -1,0 +1,2 @@
+-- The definitions of `rewriting`.
+pub mod Rewriting

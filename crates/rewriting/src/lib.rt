@@ -1,0 +1,59 @@
+// From the bytes of a filing to its book written out: every decision of the program `rewrite`.
+ghost use mathlib.Core.Path.{_≡_};
+ghost use Prim.Native.Nat.{_≤_};
+ghost use mathlib.Core.Bool.{true};
+ghost use lib.ListN.{length};
+ghost use Rattle.book.specs.Book.{inRange};
+ghost use Rattle.text.specs.Buffer.{putInto};
+ghost use Rattle.writing.specs.Written.{written};
+ghost use Rattle.rewriting.specs.Rewriting.{printoutOf, toldOf, toldBy};
+use book::Book;
+use calls::Answer;
+use calls::number_of;
+use filing::read;
+use output::LONGEST_FILING;
+use output::put_refused_field;
+use text::Filled;
+use text::put_word;
+use writer::write;
+
+// How many bytes go to standard output, or to standard error.
+pub enum Streamed {
+    Output(usize),
+    Error(usize),
+}
+
+// Puts what is printed at the front of a buffer that every written filing fits, leaves the bytes after it, and answers how many there are
+// and where they go.
+pub fn rewritten(filing: &[u8], out: &mut [u8; 7067]) -> Streamed
+    ensures { λ r. ⌜ toldBy r ≡ toldOf (printoutOf (now (filing .entry))) ⌝ }
+    ensures { λ r. ⌜ now (out .exit) ≡ putInto (now (out .entry)) (printoutOf (now (filing .entry)) .text) ⌝ }
+{
+    if LONGEST_FILING < filing.len() {
+        return Streamed::Error(put_word(out, 0, b"too long\n"));
+    }
+    let reading = read(book::fresh(), filing);
+    let offset = reading.offset;
+    let b = reading.book;
+    let answer = reading.answer;
+    match answer {
+        Answer::Refused(refusal) => Streamed::Error(put_refused_field(
+            out,
+            number_of(refusal),
+            offset,
+        )),
+        _ => Streamed::Output(put_book(out, b)),
+    }
+}
+
+// A book in range is written into a buffer that fits, so nothing is refused.
+fn put_book(out: &mut [u8], b: Book) -> usize
+    requires { ⌜ (inRange b ≡ true) × (length (written b) ≤ length (now out)) ⌝ }
+    ensures { λ r. ⌜ r ≡ length (written b) ⌝ }
+    ensures { λ r. ⌜ now (out .exit) ≡ putInto (now (out .entry)) (written b) ⌝ }
+{
+    match write(b, out) {
+        Filled::Bytes(count) => count,
+        Filled::Refused(refusal) => 0,
+    }
+}
