@@ -30,19 +30,13 @@ instructions() { # COMMAND..
     valgrind --tool=callgrind --callgrind-out-file=/dev/null "$@" 2>&1 >/dev/null | awk '/Collected/ { print $4 }'
 }
 
-if ! command -v valgrind >/dev/null; then
-    echo "tests/benchmark.sh: valgrind is needed" >&2
-    exit 1
-fi
+command -v valgrind >/dev/null || fail "valgrind is needed"
 
 printf '%-14s %14s %14s %7s\n' filing program model ratio
 for kind in amounts interruptions mixed; do
     mkdir "$work/$kind"
     calls "$kind" | "$model" encode >"$work/$kind/filing.q"
-    if [ "$(wc -c <"$work/$kind/filing.q")" != 65536 ]; then
-        echo "tests/benchmark.sh: the filing of $kind has not 65,536 bytes" >&2
-        exit 1
-    fi
+    [ "$(wc -c <"$work/$kind/filing.q")" = 65536 ] || fail "the filing of $kind has not 65,536 bytes"
     cmp <(cd "$work/$kind" && "$program") <("$model" program "$work/$kind/filing.q")
     ours=$(cd "$work/$kind" && instructions "$program")
     theirs=$(instructions "$model" program "$work/$kind/filing.q")

@@ -3,11 +3,6 @@
 set -euo pipefail
 . "$(dirname "$0")/common.sh"
 
-fail() {
-    echo "tests/program.sh: $1" >&2
-    exit 1
-}
-
 for example in examples/*/; do
     "$model" encode <"$example/calls.txt" | cmp - "$example/filing.q"
     ./settle "$example" | cmp - <("$model" program "$example/filing.q")

@@ -1,45 +1,47 @@
-//! Runs a program on generated filings and holds every byte that it prints to
-//! what the model prints.
+//! Runs programs on generated filings and holds every byte that they put on
+//! standard output and standard error to what the model gives.
+
+mod programs;
 
 use crate::files::of_file;
 use crate::generator;
-use crate::program;
+pub use programs::Programs;
+use programs::{Streams, Task};
 use std::fs;
 use std::ops::Range;
-use std::path::PathBuf;
-use std::process::{Command, Stdio};
+use std::path::{Path, PathBuf};
+use std::process::{Command, ExitStatus, Stdio};
 
-/// A program, the seed of the filings it is run on, and the folder it is run in.
+/// Programs, the seed of the filings they are run on, and the folder they are
+/// run in.
 pub struct Comparison {
-    program: PathBuf,
+    programs: Programs,
     folder: PathBuf,
     seed: u64,
 }
 
-/// A filing on which the program fails, or prints other than the model.
+/// A filing on which a program fails, or puts out other than the model.
 pub struct Mismatch {
     number: u64,
-    expected: Vec<u8>,
-    run: Run,
+    difference: Difference,
     /// Where the filing is kept.
     kept: PathBuf,
 }
 
-/// What a run of the program gives.
-struct Run {
-    printed: Vec<u8>,
-    /// What went wrong, if the program has not done its work.
-    failure: Option<String>,
+/// A task that a program has not done.
+struct Difference {
+    task: Task,
+    given: Streams,
+    /// How the program ended, if badly.
+    failure: Option<ExitStatus>,
 }
 
 impl Comparison {
     /// Makes the folder if it is missing; it should hold nothing else.
-    pub fn new(program: &str, folder: &str, seed: u64) -> Result<Comparison, String> {
-        // The program is run in the folder, so its path must hold there as well.
-        let program = fs::canonicalize(program).map_err(of_file(program))?;
+    pub fn new(programs: Programs, folder: &str, seed: u64) -> Result<Comparison, String> {
         fs::create_dir_all(folder).map_err(of_file(folder))?;
         Ok(Comparison {
-            program,
+            programs,
             folder: PathBuf::from(folder),
             seed,
         })
@@ -55,67 +57,146 @@ impl Comparison {
         Ok(None)
     }
 
-    /// Runs the program on one filing, and keeps the filing on a mismatch.
+    /// Has the tasks of one filing done, and keeps the filing on a mismatch.
     fn mismatch_at(&self, number: u64) -> Result<Option<Mismatch>, String> {
         let filing = generator::filing(self.seed, number);
-        let file = self.folder.join("filing.q");
-        fs::write(&file, &filing).map_err(of_file(&file))?;
-        let run = self.run()?;
-        let expected = program::printed(Some(&filing));
-        if run.failure.is_none() && run.printed == expected {
-            return Ok(None);
+        for task in self.programs.tasks(&filing) {
+            if let Some(difference) = self.difference(task)? {
+                let kept = self.keep(number, &filing)?;
+                return Ok(Some(Mismatch {
+                    number,
+                    difference,
+                    kept,
+                }));
+            }
         }
-        let kept = self
-            .folder
-            .join(format!("mismatch-{}-{number}.q", self.seed));
-        fs::write(&kept, &filing).map_err(of_file(&kept))?;
-        Ok(Some(Mismatch {
-            number,
-            expected,
-            run,
-            kept,
-        }))
+        Ok(None)
     }
 
-    /// Runs the program in the folder. One that writes to standard error, or
-    /// ends badly, has not done its work.
-    fn run(&self) -> Result<Run, String> {
-        let output = Command::new(&self.program)
-            .current_dir(&self.folder)
-            .stdin(Stdio::null())
-            .output()
-            .map_err(of_file(&self.program))?;
-        let mut failure = None;
-        if !output.status.success() || !output.stderr.is_empty() {
-            let message = String::from_utf8_lossy(&output.stderr);
-            let failed = format!("{}\n{message}", output.status);
-            failure = Some(failed.trim_end().to_string());
+    fn keep(&self, number: u64, filing: &[u8]) -> Result<PathBuf, String> {
+        let name = format!("mismatch-{}-{number}.q", self.seed);
+        let kept = self.folder.join(name);
+        fs::write(&kept, filing).map_err(of_file(&kept))?;
+        Ok(kept)
+    }
+
+    /// Runs a program in the folder, with the filing of its task.
+    fn difference(&self, task: Task) -> Result<Option<Difference>, String> {
+        let file = self.folder.join("filing.q");
+        fs::write(&file, &task.filing).map_err(of_file(&file))?;
+        let (status, given) = run(&task.program, &self.folder)?;
+        let failed = fails(status, &task.expected);
+        if !failed && given == task.expected {
+            return Ok(None);
         }
-        Ok(Run {
-            printed: output.stdout,
-            failure,
-        })
+        Ok(Some(Difference {
+            task,
+            given,
+            failure: failed.then_some(status),
+        }))
     }
 
     /// What a mismatch was, and how to repeat it.
     pub fn described(&self, mismatch: &Mismatch) -> Vec<u8> {
-        let Mismatch { number, run, .. } = mismatch;
+        let Mismatch {
+            number, difference, ..
+        } = mismatch;
         let seed = self.seed;
         let kept = mismatch.kept.display();
-        let program = self.program.display();
+        let words = self.programs.words();
         let folder = self.folder.display();
-        let mut text = format!("filing {number} of seed {seed} is kept as {kept}\n");
-        text += &format!("to repeat: model compare {program} {folder} {seed} {number} 1\n");
-        if let Some(failure) = &run.failure {
-            text += &format!("the program fails: {failure}\n");
+        let head = format!(
+            "filing {number} of seed {seed} is kept as {kept}\n\
+             to repeat: model {words} {folder} {seed} {number} 1\n"
+        );
+        [head.into_bytes(), difference.described()].concat()
+    }
+}
+
+impl Difference {
+    fn described(&self) -> Vec<u8> {
+        let Task {
+            program,
+            subject,
+            expected,
+            ..
+        } = &self.task;
+        let mut head = format!("{} differs on {subject}\n", program.display());
+        if let Some(status) = self.failure {
+            head += &format!("it fails: {status}\n");
         }
         [
-            text.as_bytes(),
-            b"the model prints:\n",
-            &mismatch.expected,
-            b"the program prints:\n",
-            &run.printed,
+            head.into_bytes(),
+            stream_difference("output", &expected.output, &self.given.output),
+            stream_difference("error", &expected.error, &self.given.error),
         ]
         .concat()
     }
+}
+
+/// How a program ends that is run in the folder, and what it puts out.
+fn run(program: &Path, folder: &Path) -> Result<(ExitStatus, Streams), String> {
+    let given = Command::new(program)
+        .current_dir(folder)
+        .stdin(Stdio::null())
+        .output()
+        .map_err(of_file(program))?;
+    let streams = Streams {
+        output: given.stdout,
+        error: given.stderr,
+    };
+    Ok((given.status, streams))
+}
+
+/// Whether the program ended badly: by a signal, or by a status other than 0
+/// where nothing is to be put on standard error. Where a line is to be put there
+/// any status will do, because 01 names none.
+fn fails(status: ExitStatus, expected: &Streams) -> bool {
+    if expected.error.is_empty() {
+        !status.success()
+    } else {
+        status.code().is_none()
+    }
+}
+
+/// Nothing if both put out the same; the bytes themselves only if they are text.
+fn stream_difference(stream: &str, model: &[u8], program: &[u8]) -> Vec<u8> {
+    if model == program {
+        return Vec::new();
+    }
+    let pairs = model.iter().zip(program);
+    let same = pairs
+        .take_while(|(model, program)| model == program)
+        .count();
+    let head = format!(
+        "standard {stream}: {} bytes by the model, {} by the program, the first {same} alike\n",
+        model.len(),
+        program.len()
+    );
+    if !is_text(model) || !is_text(program) {
+        return head.into_bytes();
+    }
+    [
+        head.as_bytes(),
+        b"by the model:\n",
+        &whole_lines(model),
+        b"by the program:\n",
+        &whole_lines(program),
+    ]
+    .concat()
+}
+
+/// The text, its last line ended.
+fn whole_lines(text: &[u8]) -> Vec<u8> {
+    let mut lines = text.to_vec();
+    if lines.last().is_some_and(|&last| last != b'\n') {
+        lines.push(b'\n');
+    }
+    lines
+}
+
+fn is_text(bytes: &[u8]) -> bool {
+    bytes
+        .iter()
+        .all(|&byte| byte == b'\n' || (b' '..=b'~').contains(&byte))
 }

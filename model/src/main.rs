@@ -2,22 +2,23 @@
 //! prints the answers, which the modules compute.
 
 use model::book::Book;
-use model::compare::Comparison;
+use model::compare::{Comparison, Programs};
 use model::files::of_file;
 use model::numbers::{number, numbers};
-use model::{exponent, filing, product, program, script, sharing, writer};
+use model::{exponent, product, program, script, sharing};
 use std::fs;
 use std::io::{self, BufRead, BufWriter, ErrorKind, Write};
 use std::ops::Range;
 use std::process::ExitCode;
 
 const SUBCOMMANDS: &str = "expected one of: share, product, table, calls, encode, \
-    program FILE, rewrite FILE, compare PROGRAM DIR SEED FIRST COUNT";
+    program FILE, rewrite FILE, compare QUALITY DIR SEED FIRST COUNT, \
+    compare-rewrite REWRITE QUALITY DIR SEED FIRST COUNT";
 
 const DONE: u8 = 0;
-/// The exit status of `rewrite` when a field is refused.
+/// The exit status of `rewrite` when nothing is written.
 const REFUSED: u8 = 1;
-/// The exit status of `compare` when the program and the model differ.
+/// The exit status of a comparison when a program and the model differ.
 const DIFFERENT: u8 = 1;
 /// The exit status for malformed input.
 const MALFORMED: u8 = 2;
@@ -51,10 +52,13 @@ fn dispatch(words: &[&str], output: &mut impl Write) -> Result<u8, String> {
         ["encode"] => for_lines(input, output, script::encode),
         ["program", file] => print_program(file, output),
         ["rewrite", file] => rewrite(file, output),
-        ["compare", program, folder, seed, first, count] => {
-            let numbers = numbers_of(first, count)?;
-            let comparison = Comparison::new(program, folder, number(seed)?)?;
-            compare(&comparison, numbers, output)
+        ["compare", quality, folder, seed, first, count] => {
+            let programs = Programs::settling(quality)?;
+            compare(programs, [folder, seed, first, count], output)
+        }
+        ["compare-rewrite", rewrite, quality, folder, seed, first, count] => {
+            let programs = Programs::rewriting(rewrite, quality)?;
+            compare(programs, [folder, seed, first, count], output)
         }
         _ => Err(SUBCOMMANDS.to_string()),
     }
@@ -79,22 +83,30 @@ fn print_program(file: &str, output: &mut impl Write) -> Result<u8, String> {
     Ok(DONE)
 }
 
-/// Reads a filing into a fresh book and prints the written filing of that book.
+/// Prints the written filing of the book that a file makes, or tells on standard
+/// error why there is none.
 fn rewrite(file: &str, output: &mut impl Write) -> Result<u8, String> {
-    let bytes = fs::read(file).map_err(of_file(file))?;
-    let mut book = Book::fresh();
-    if filing::read(&mut book, &bytes).refusal.is_some() {
-        return Ok(REFUSED);
+    let bytes = read_if_present(file)?;
+    match program::rewritten(bytes.as_deref()) {
+        Ok(written) => {
+            print(output, &written)?;
+            Ok(DONE)
+        }
+        Err(line) => {
+            print(&mut io::stderr(), &line)?;
+            Ok(REFUSED)
+        }
     }
-    print(output, &writer::written(&book))?;
-    Ok(DONE)
 }
 
+/// Compares the programs with the model on so many filings from the first on.
 fn compare(
-    comparison: &Comparison,
-    numbers: Range<u64>,
+    programs: Programs,
+    [folder, seed, first, count]: [&str; 4],
     output: &mut impl Write,
 ) -> Result<u8, String> {
+    let numbers = numbers_of(first, count)?;
+    let comparison = Comparison::new(programs, folder, number(seed)?)?;
     let Some(mismatch) = comparison.first_mismatch(numbers)? else {
         return Ok(DONE);
     };
@@ -214,8 +226,10 @@ mod tests {
             &["program", "a", "b"],
             &["rewrite"],
             &["encode", "a"],
-            &["compare", "program", "folder", "1", "2"],
-            &["compare", "program", "folder", "1", "2", "3", "4"],
+            &["rewrite", "a", "b"],
+            &["compare", "quality", "folder", "1", "2"],
+            &["compare", "quality", "folder", "1", "2", "3", "4"],
+            &["compare-rewrite", "rewrite", "folder", "1", "2", "3"],
         ] {
             assert_eq!(dispatch(words, &mut output), refused, "{words:?}");
         }

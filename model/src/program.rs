@@ -1,32 +1,53 @@
-//! The program: from the bytes of `filing.q` to what is printed.
+//! The programs that read `filing.q`: what each makes of its bytes. `None` stands
+//! for a missing file.
 
 use crate::book::Book;
 use crate::filing::read;
 use crate::report::report;
+use crate::writer::written;
 
-/// The longest filing that the program reads, in bytes.
+/// The longest filing that the programs read, in bytes.
 pub const MOST_READ: usize = 65_536;
 
 /// Room for any report: a line has at most 46 bytes, and there are at most 18.
 const REPORT_ROOM: usize = 1000;
 
-/// What the program prints; `None` stands for a missing file.
-/// Follows 01: "The program reads `filing.q`, at most 65,536 bytes (a longer
-/// file prints `too long`, a missing one counts as empty)" and "A refused field
-/// prints `refused 4 at 0` (number, offset); a refused settlement `refused 10`.
-/// Such a line, and `too long`, ends with byte 10 and nothing else is printed."
+/// What the program that settles prints.
+/// Follows 01: "A refused field prints `refused 4 at 0` (number, offset); a
+/// refused settlement `refused 10`. Such a line, and `too long`, ends with byte
+/// 10 and nothing else is printed."
 pub fn printed(file: Option<&[u8]>) -> Vec<u8> {
+    match book_of(file) {
+        Ok(book) => reported(&book),
+        Err(line) => line,
+    }
+}
+
+/// The written filing of the book, which the program that rewrites puts on
+/// standard output; or the line that it puts on standard error instead.
+pub fn rewritten(file: Option<&[u8]>) -> Result<Vec<u8>, Vec<u8>> {
+    Ok(written(&book_of(file)?))
+}
+
+/// The book that a file makes of a fresh one, or the line that tells why not.
+/// Follows 01: "The program reads `filing.q`, at most 65,536 bytes (a longer
+/// file prints `too long`, a missing one counts as empty)".
+fn book_of(file: Option<&[u8]>) -> Result<Book, Vec<u8>> {
     let filing = file.unwrap_or(&[]);
     if filing.len() > MOST_READ {
-        return b"too long\n".to_vec();
+        return Err(b"too long\n".to_vec());
     }
     let mut book = Book::fresh();
     let reading = read(&mut book, filing);
-    if let Some(number) = reading.refusal {
-        return format!("refused {number} at {}\n", reading.offset).into_bytes();
+    match reading.refusal {
+        Some(number) => Err(format!("refused {number} at {}\n", reading.offset).into_bytes()),
+        None => Ok(book),
     }
+}
+
+fn reported(book: &Book) -> Vec<u8> {
     let mut buffer = vec![0; REPORT_ROOM];
-    match report(&book, &mut buffer) {
+    match report(book, &mut buffer) {
         Ok(length) => {
             buffer.truncate(length);
             buffer
@@ -50,9 +71,24 @@ mod tests {
         filing
     }
 
+    /// The settlement is printed so; the line of a refused field or of a file
+    /// that is too long is also what comes of rewriting, and no other is.
     fn prints(filing: &[u8], expected: &str) {
         let output = String::from_utf8(printed(Some(filing))).unwrap();
         assert_eq!(output, expected);
+        let line = expected.as_bytes().to_vec();
+        let is_unread = expected.contains(" at ") || expected == "too long\n";
+        assert_eq!(rewritten(Some(filing)).err(), is_unread.then_some(line));
+    }
+
+    /// The filing of the calls is rewritten as that of the others, which is
+    /// rewritten as itself and settles as the first.
+    fn rewrites(calls: &[&str], expected: &[&str]) {
+        let filing = encoded(calls);
+        let expected = encoded(expected);
+        assert_eq!(rewritten(Some(&filing)), Ok(expected.clone()), "{calls:?}");
+        assert_eq!(rewritten(Some(&expected)), Ok(expected.clone()));
+        assert_eq!(printed(Some(&expected)), printed(Some(&filing)));
     }
 
     #[test]
@@ -71,6 +107,71 @@ mod tests {
     fn missing_and_empty() {
         assert_eq!(printed(None), b"refused 10\n");
         assert_eq!(printed(Some(&[])), b"refused 10\n");
+        assert_eq!(rewritten(None), Ok(Vec::new()));
+        assert_eq!(rewritten(Some(&[])), Ok(Vec::new()));
+    }
+
+    #[test]
+    fn rewritten_in_the_order_of_the_writer() {
+        rewrites(
+            &[
+                "rates 0 7",
+                "index 3 1",
+                "index 0 2",
+                "join 9",
+                "join 2",
+                "mark 9 5 1",
+                "mark 9 0 1",
+                "mark 2 3 1",
+                "interruption 9 0 0 4 100 300 3",
+                "amount 9 2 7 0 5",
+                "amount 2 0 6 0 8",
+                "setting 9 2 4",
+                "setting 9 0 6",
+                "setting 2 1 1",
+            ],
+            &[
+                "join 2",
+                "join 9",
+                "setting 2 1 1",
+                "setting 9 0 6",
+                "setting 9 2 4",
+                "amount 2 0 6 0 8",
+                "amount 9 0 0 0 3",
+                "amount 9 0 1 0 600",
+                "amount 9 2 7 0 5",
+                "mark 2 3 1",
+                "mark 9 0 1",
+                "mark 9 5 1",
+                "index 0 2",
+                "index 3 1",
+                "rates 0 7",
+            ],
+        );
+    }
+
+    #[test]
+    fn fresh_values_are_not_rewritten() {
+        rewrites(&["rates 0 0", "index 2 10000"], &[]);
+        rewrites(
+            &["rates 5 6", "index 1 1", "rates 0 0", "index 1 10000"],
+            &[],
+        );
+        rewrites(
+            &[
+                "join 0",
+                "setting 0 2 7",
+                "mark 0 1 1",
+                "amount 0 1 4 0 9",
+                "interruption 0 0 1 0 0 181 1",
+                "setting 0 2 0",
+                "mark 0 1 0",
+                "amount 0 1 4 1 9",
+                "interruption 0 1 1 0 0 181 1",
+                "interruption 0 0 1 0 0 180 1",
+            ],
+            &["join 0"],
+        );
     }
 
     #[test]

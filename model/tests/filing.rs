@@ -56,30 +56,89 @@ fn missing_files() {
     let missing = folder("missing").join("missing.q");
     let missing = missing.to_str().unwrap();
     assert_eq!(run(&["program", missing], b""), done("refused 10\n"));
-    let (status, output, message) = run(&["rewrite", missing], b"");
-    assert_eq!((status, output), (2, Vec::new()));
-    let message = String::from_utf8(message).unwrap();
-    assert!(message.contains(missing), "{message}");
+    assert_eq!(run(&["rewrite", missing], b""), done([]));
+}
+
+#[test]
+fn unreadable_files() {
+    let unreadable = folder("unreadable");
+    let unreadable = unreadable.to_str().unwrap();
+    for subcommand in ["program", "rewrite"] {
+        let (status, output, message) = run(&[subcommand, unreadable], b"");
+        assert_eq!((status, output), (2, Vec::new()));
+        let message = String::from_utf8(message).unwrap();
+        assert!(message.contains(unreadable), "{message}");
+    }
 }
 
 #[test]
 fn refused_files() {
     let file = folder("refused").join("filing.q");
     let path = file.to_str().unwrap();
-    let refused = (1, Vec::new(), Vec::new());
-    let given = |filing: &[u8], printed: &str, rewritten: (i32, Vec<u8>, Vec<u8>)| {
+    let prints = |filing: &[u8], line: &str| {
         fs::write(&file, filing).unwrap();
-        assert_eq!(run(&["program", path], b""), done(printed));
-        assert_eq!(run(&["rewrite", path], b""), rewritten, "{printed}");
+        assert_eq!(run(&["program", path], b""), done(line));
     };
-    given(&[], "refused 10\n", done([]));
-    given(&[1, 0], "refused 1 at 0\n", refused.clone());
-    given(
-        &[1, 0, 1, 0, 1, 0, 1, 0],
-        "refused 6 at 4\n",
-        refused.clone(),
-    );
-    given(&[1, 0, 1, 0], "refused 11\n", done([1, 0, 1, 0]));
-    given(&[0; 65_536], "refused 2 at 0\n", refused.clone());
-    given(&[0; 65_537], "too long\n", refused);
+    let refused = |filing: &[u8], line: &str| {
+        prints(filing, line);
+        let told = (1, Vec::new(), line.as_bytes().to_vec());
+        assert_eq!(run(&["rewrite", path], b""), told);
+    };
+    // A book that doesn't settle is written all the same.
+    let written_as_it_is = |filing: &[u8], line: &str| {
+        prints(filing, line);
+        assert_eq!(run(&["rewrite", path], b""), done(filing));
+    };
+    refused(&[1, 0], "refused 1 at 0\n");
+    refused(&[1, 0, 1, 0, 1, 0, 1, 0], "refused 6 at 4\n");
+    refused(&[0; 65_536], "refused 2 at 0\n");
+    refused(&[0; 65_537], "too long\n");
+    written_as_it_is(&[], "refused 10\n");
+    written_as_it_is(&[1, 0, 1, 0], "refused 11\n");
+}
+
+/// The calls of a book in which every value differs from the fresh one, in the
+/// order of the writer.
+fn largest_book() -> Vec<String> {
+    let joins = (0..16).map(|operator| format!("join {operator}"));
+    let settings = places(&[16, 3]).map(|place| format!("setting {place} 1"));
+    let amounts = places(&[16, 3, 8]).map(|place| format!("amount {place} 0 1"));
+    let marks = places(&[16, 6]).map(|place| format!("mark {place} 1"));
+    let indices = (0..4).map(|number| format!("index {number} 1"));
+    let rates = ["rates 1 1".to_string()];
+    joins
+        .chain(settings)
+        .chain(amounts)
+        .chain(marks)
+        .chain(indices)
+        .chain(rates)
+        .collect()
+}
+
+/// The places below these counts as words, in rising order.
+fn places(counts: &[u32]) -> impl Iterator<Item = String> {
+    let mut places = vec![String::new()];
+    for &count in counts {
+        places = places
+            .iter()
+            .flat_map(|place| (0..count).map(move |number| format!("{place} {number}")))
+            .collect();
+    }
+    places.into_iter().map(|place| place.trim().to_string())
+}
+
+#[test]
+fn largest_book_is_rewritten() {
+    let calls = largest_book();
+    let (_, expected, _) = run(&["encode"], calls.join("\n").as_bytes());
+    assert_eq!(expected.len(), 7067);
+    // The joins, then the other calls from the last to the first.
+    let others = calls[16..].iter().rev();
+    let turned: Vec<String> = calls[..16].iter().chain(others).cloned().collect();
+    let (_, filing, _) = run(&["encode"], turned.join("\n").as_bytes());
+    assert_ne!(filing, expected);
+    let file = folder("largest").join("filing.q");
+    fs::write(&file, filing).unwrap();
+    let file = file.to_str().unwrap();
+    assert_eq!(run(&["rewrite", file], b""), done(expected));
 }

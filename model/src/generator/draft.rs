@@ -353,7 +353,9 @@ impl Draft {
             }
             _ => {
                 let which = self.random.place(SETTINGS);
-                let value = self.value(Style::Digits, 1, most_setting(which));
+                // Only an income of 0 settles.
+                let least = u64::from(which != 2);
+                let value = self.value(Style::Digits, least, most_setting(which));
                 setting(operator, which, value)
             }
         }

@@ -19,6 +19,24 @@ fn numbered(text: &str, numbers: impl IntoIterator<Item = u32>) -> Vec<String> {
         .collect()
 }
 
+/// What the field files the fresh value of, other than a figure.
+fn files_fresh(field: &Field) -> Option<String> {
+    match *field {
+        Field::Setting {
+            which, value: 0, ..
+        } => Some(format!("setting {which}")),
+        Field::Mark {
+            indicator, mark: 0, ..
+        } => Some(format!("mark {indicator}")),
+        Field::Index {
+            number,
+            value: 10_000,
+        } => Some(format!("index {number}")),
+        Field::Rates { pot: 0, cap: 0 } => Some("rates".to_string()),
+        _ => None,
+    }
+}
+
 #[test]
 fn a_filing_depends_on_seed_and_number_only() {
     let rising: Vec<Vec<u8>> = (0..200).map(|number| filing(5, number)).collect();
@@ -176,8 +194,13 @@ impl Notes {
     /// Notes the field at the offset; answers the offset after it if it is taken.
     fn field_at(&mut self, book: &mut Book, filing: &[u8], offset: usize) -> Option<usize> {
         let field = field_at(filing, offset).ok()?;
+        let before = files_fresh(&field).map(|what| (what, book.clone()));
         let answer = apply(book, &field);
         self.answer(&field, answer);
+        if let Some((what, before)) = before {
+            self.note_if(before != *book, format!("{what} fresh again"));
+        }
+        self.figure_at_0(book, &field, answer);
         match answer {
             Answer::Refused(_) => None,
             _ => Some(offset + encode(&field).len()),
@@ -201,6 +224,25 @@ impl Notes {
             }
         );
         self.note_if(withdrawn && answer == Answer::Yes, "amount withdrawn");
+    }
+
+    /// Notes an amount that takes away all of its figure.
+    fn figure_at_0(&mut self, book: &Book, field: &Field, answer: Answer) {
+        let Field::Amount {
+            operator,
+            year,
+            figure,
+            sign: 1,
+            value: 1..,
+        } = *field
+        else {
+            return;
+        };
+        if answer == Answer::Yes {
+            let figures = &book.operators[usize::from(operator)].figures;
+            let left = figures[usize::from(year)][usize::from(figure)];
+            self.note_if(left == 0, format!("figure {figure} fresh again"));
+        }
     }
 
     fn counted(&mut self, year: usize, filed: &Interruption) {
@@ -233,6 +275,9 @@ impl Notes {
         let rates = [book.pot_rate, book.cap_rate];
         self.note_if(rates.contains(&0), "rate 0");
         self.note_if(rates.contains(&20_000), "rate 20000");
+        let [pot, cap] = rates.map(|rate| rate != 0);
+        self.note_if(pot && !cap, "only the pot rate");
+        self.note_if(cap && !pot, "only the cap rate");
     }
 
     fn settlement(&mut self, book: &Book, settlement: &Settlement) {
@@ -321,11 +366,15 @@ fn expected_numbers() -> Vec<String> {
         numbered("sums past 64 bits at #", [0, 2, 4, 5]),
         numbered("index #", [1, 100_000]),
         numbered("rate #", [0, 20_000]),
+        numbered("setting # fresh again", 0..=2),
+        numbered("figure # fresh again", 0..=7),
+        numbered("mark # fresh again", 0..=5),
+        numbered("index # fresh again", 0..=3),
     ]
     .concat()
 }
 
-const EXPECTED_TEXTS: [&str; 15] = [
+const EXPECTED_TEXTS: [&str; 18] = [
     "left out Short",
     "left out Planned",
     "left out Coupled",
@@ -341,6 +390,9 @@ const EXPECTED_TEXTS: [&str; 15] = [
     "maluses larger",
     "cut to equal sides",
     "a sum at the mean",
+    "rates fresh again",
+    "only the pot rate",
+    "only the cap rate",
 ];
 
 #[test]
