@@ -16,6 +16,9 @@ use Rattle.output.specs.Output.{refusedBy, refusedField, settlementText, readin
 use Rattle.output.proofs.OutputLaws.{output-refused}
 use Rattle.output.proofs.Opened.{output-opened}
 use Rattle.history.specs.Demand.{bookOf}
+use Rattle.calls.specs.declared.Call.the-variants.{Join}
+use Rattle.writer.specs.Writer.{writerAnswer}
+use Rattle.writer.proofs.Opened.{writer-opened}
 use Rattle.guarantees.specs.Marked.{caseM, filingM, linesM, refusedFilings, marked, All}
 
 -- a filing refused at a field: what is printed needs no settlement
@@ -62,7 +65,12 @@ output-m : outputOf filingM ≡ linesM
 unfolding outputOf readingText settlementText onAnswer
 output-m = rw (read-m, settles-m) printed-m
 
+-- a join needs four bytes
+join-too-long : writerAnswer (bookOf (Join 0 ∷ [])) (0 ∷ 0 ∷ 0 ∷ []) ≡ refused-by 13
+unfolding filing-opened writer-opened
+join-too-long = refl
+
 pub all-hold : All marked
 unfolding output-opened
 all-hold =
-    (refl, (refl, (refl, (refl, (refl, (refl, (refl, (refl, (refl, (refl, (output-m, (refl, (filings-refused, (refl, (refl, (refl, (refl, (refl, (refl, tt)))))))))))))))))))
+    (refl, (refl, (refl, (refl, (refl, (refl, (refl, (refl, (refl, (refl, (output-m, (refl, (filings-refused, (refl, (refl, (refl, (refl, (refl, (join-too-long, (refl, tt))))))))))))))))))))

@@ -6,6 +6,7 @@ use mathlib.Core.Path.{_≡_}
 use mathlib.Core.Logic.{_↔_}
 use mathlib.Core.Bool.{true}
 use mathlib.Core.List.{List}
+use lib.ListN.{take}
 use Rattle.calls.specs.declared.Call.{Call}
 use Rattle.calls.specs.Answers.{accepted, yes-said}
 use Rattle.calls.specs.Held.{Same}
@@ -18,6 +19,7 @@ use Rattle.values.specs.Indicator.{Indicator, electricity}
 use Rattle.settlement.specs.Settlement.{settledBy}
 use Rattle.settlement.specs.Laws.{Worth, Settles, Balanced}
 use Rattle.writing.specs.Written.{written}
+use Rattle.writer.specs.Writer.{writerAnswer, writerBuffer}
 
 -- `bookOf` is the book that a list of calls leaves, `historyOf` the history that it makes; refused calls are among them
 pub record Demand3 : Type 0 where
@@ -31,8 +33,10 @@ pub record Demand3 : Type 0 where
   -- for every two lists the books are equal exactly when the histories are the same,
   pub equal-as-histories : (calls others : List Call)
       → (bookOf calls ≡ bookOf others) ↔ Same (heldIn (historyOf calls)) (heldIn (historyOf others))
-  -- and exactly when the two written filings are the same bytes
+  -- and exactly when the two written filings are the same bytes;
   pub equal-as-filings : (calls others : List Call) → (bookOf calls ≡ bookOf others) ↔ (written (bookOf calls) ≡ written (bookOf others))
+  -- "A book's written filing is the run of bytes that the writer puts out for it in any buffer it accepts"
+  pub put-out : (b : Book) (buffer : List ℕ) (count : ℕ) → writerAnswer b buffer ≡ accepted count → take count (writerBuffer b buffer) ≡ written b
   -- equal books get the same settlement or the same refusal
   pub settled-alike : (b other : Book) (indicators : List Indicator) → b ≡ other → settledBy b indicators ≡ settledBy other indicators
   -- 5 never applies to the book of a list: it is in range

@@ -1,4 +1,5 @@
 -- The definitions of `guarantees`.
 pub mod Marked
-pub mod Answers
+pub mod Demand1
+pub mod Demand2
 pub mod Demand3

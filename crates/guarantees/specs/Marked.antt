@@ -19,6 +19,7 @@ use Rattle.indicators.specs.Points.{levelled}
 use Rattle.settlement.specs.Settlement.{settled}
 use Rattle.text.specs.Text.{bytesOf}
 use Rattle.output.specs.Output.{outputOf}
+use Rattle.writer.specs.Writer.{writerAnswer}
 
 -- what a call is answered after operator 0 has joined a fresh book
 abbrev pub saidTo : Call → Said Acceptance
@@ -93,5 +94,7 @@ marked =
     ∷ (outputOf [] ≡ bytesOf "refused 10\n")
     -- "only a join"; "one operator, six marks", its network filed, since 11 would be the lower number
     ∷ (settled (bookOf (Join 0 ∷ [])) .said ≡ refused-by 11) ∷ (settled (bookOf sixMarks) .said ≡ refused-by 12)
+    -- "writer, 3 bytes, one join"
+    ∷ (writerAnswer (bookOf (Join 0 ∷ [])) (0 ∷ 0 ∷ 0 ∷ []) ≡ refused-by 13)
     -- "weights 10, 8, 4 with the first two better become 18, 18, 8"
     ∷ (take 3 (each (levelled (λ (operator : ℕ). ltb operator 2) (λ (operator : ℕ). getD (10 ∷ 8 ∷ 4 ∷ []) operator 0))) ≡ 18 ∷ 18 ∷ 8 ∷ []) ∷ []

@@ -3,3 +3,4 @@ pub mod EntryLaws
 pub mod PlaceLaws
 pub mod SoFarLaws
 pub mod AnswerLaws
+pub mod Opened

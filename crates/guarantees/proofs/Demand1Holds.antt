@@ -1,0 +1,68 @@
+-- Demand 1 holds, as specs/Demand1.antt says: one law turns the lowest line of a table into what a call says and leaves.
+-- Assumes nothing.
+use Prim.Native.Nat.{ℕ}
+use mathlib.Core.Path.{_≡_, refl}
+use mathlib.Core.Bool.{Bool, true, false}
+use mathlib.Core.List.{List, [], _∷_}
+use lib.ListN.{length}
+use Rattle.calls.specs.declared.Call.{Call}
+use Rattle.calls.specs.Answers.{onAnswer, firstOf, yes-said}
+use Rattle.calls.specs.Call.{factsOf}
+use Rattle.calls.specs.Laws.{risesFrom, Lowest}
+use Rattle.calls.proofs.Lowest.{lowest}
+use Rattle.book.specs.declared.Book.{Book}
+use Rattle.book.specs.Book.{isJoined, figureOf, inRange}
+use Rattle.ledger.specs.Table.{linesFor, answerTo}
+use Rattle.ledger.specs.Calls.{outcomeOf, changed, apply, file}
+use Rattle.ledger.proofs.LowestOfCalls.{lowest-of-calls}
+use Rattle.fields.proofs.LowestOfFields.{lowest-of-fields}
+use Rattle.filing.specs.Reader.{read}
+use Rattle.filing.proofs.ReadLaws.{read-as-calls}
+use Rattle.values.specs.Indicator.{Indicator}
+use Rattle.settlement.specs.Settlement.{settlingLines, nothing, settlementBy, settledBy}
+use Rattle.settlement.proofs.SettledLaws.{lowest-of-settling}
+use Rattle.text.specs.Buffer.{putInto, bufferAfter}
+use Rattle.report.specs.Report.{textOf, reportLines, reportAnswer, reportBuffer}
+use Rattle.report.proofs.AnswerLaws.{lowest-of-reports}
+use Rattle.writing.specs.Written.{written}
+use Rattle.writer.specs.Writer.{writerLines, writerAnswer, writerBuffer}
+use Rattle.writer.proofs.AnswerLaws.{lowest-of-writing}
+use Rattle.guarantees.specs.Demand1.{Judged, callLines, Demand1}
+
+judged : {A S : Type 0} (lines : List (ℕ × Bool)) (value : A) (before after : S) → Lowest lines value
+    → Judged lines value (firstOf lines value) (onAnswer (λ number. before) (λ value. after) (firstOf lines value)) before after
+unfolding onAnswer
+judged lines value before after low =
+    record {
+      number = low .refused;
+      answered = low .answered;
+      kept = λ n refused. rw refused refl;
+      done = λ none. rw (low .answered .1 none) refl;
+    }
+
+-- the one line of a book out of range
+only-five : (call : Call) → Lowest ((5, true) ∷ []) (factsOf call .answer)
+unfolding risesFrom
+only-five call = lowest (factsOf call .answer) ((5, true) ∷ []) refl
+
+module _ (b : Book) (call : Call) where
+  filed : (ranged : Bool) → inRange b ≡ ranged
+      → Judged (callLines b call) (factsOf call .answer) (file b call .said) (file b call .book) b (changed b call)
+  unfolding callLines file apply outcomeOf answerTo firstOf onAnswer
+  filed true ranged =
+      rw ranged (judged (linesFor (isJoined b) (figureOf b) call) (factsOf call .answer) b (changed b call) (lowest-of-calls (isJoined b) (figureOf b) call))
+  filed false out = rw out (judged ((5, true) ∷ []) (factsOf call .answer) b (changed b call) (only-five call))
+
+pub demand-1 : Demand1
+unfolding read settledBy writerAnswer writerBuffer reportAnswer reportBuffer bufferAfter
+demand-1 =
+    record {
+      filing = λ b call. filed b call (inRange b) refl;
+      table = lowest-of-calls;
+      field = lowest-of-fields;
+      reads = read-as-calls;
+      reads-out-of-range = λ b bytes out. rw out refl;
+      settles = λ b indicators. judged (settlingLines b indicators) yes-said nothing (settlementBy b indicators) (lowest-of-settling b indicators);
+      writes = λ b buffer. judged (writerLines b buffer) (length (written b)) buffer (putInto buffer (written b)) (lowest-of-writing b buffer);
+      reports = λ b buffer. judged (reportLines b buffer) (length (textOf b)) buffer (putInto buffer (textOf b)) (lowest-of-reports b buffer);
+    }

@@ -1,0 +1,62 @@
+-- Demand 1: which number each call answers, exactly when, and what it leaves (01, "Answers other than yes"). Its value is `demand-1` of
+-- proofs/Demand1Holds.antt. The contracts of the calls say that the code answers and leaves what is defined here; every call ends, since
+-- the prover takes no other.
+-- Assumes nothing.
+use Prim.Native.Nat.{ℕ, _<_}
+use mathlib.Core.Path.{_≡_}
+use mathlib.Core.Logic.{_↔_}
+use mathlib.Core.Bool.{Bool, true, false, cond}
+use mathlib.Core.List.{List, [], _∷_}
+use lib.ListN.{length}
+use Rattle.calls.specs.declared.Call.{Call}
+use Rattle.calls.specs.Answers.{Said, refused-by, accepted, yes-said}
+use Rattle.calls.specs.Call.{factsOf}
+use Rattle.calls.specs.Laws.{applies, Lowest}
+use Rattle.book.specs.declared.Book.{Book}
+use Rattle.book.specs.Book.{isJoined, figureOf, inRange}
+use Rattle.ledger.specs.Table.{linesFor}
+use Rattle.ledger.specs.Calls.{changed, file}
+use Rattle.fields.specs.Field.{fieldLines, callAt}
+use Rattle.filing.specs.Reader.{reading, read}
+use Rattle.filing.specs.Laws.{ReadAsCallsIfInRange}
+use Rattle.values.specs.Indicator.{Indicator}
+use Rattle.settlement.specs.Settlement.{settlingLines, nothing, settlementBy, settledBy}
+use Rattle.text.specs.Buffer.{putInto}
+use Rattle.report.specs.Report.{textOf, reportLines, reportAnswer, reportBuffer}
+use Rattle.writing.specs.Written.{written}
+use Rattle.writer.specs.Writer.{writerLines, writerAnswer, writerBuffer}
+
+-- a call whose refusals are lines of a table: what it said, and what it left where `before` stood
+pub record Judged {A S : Type 0} (lines : List (ℕ × Bool)) (value : A) (said : Said A) (left before after : S) : Type 0 where
+  -- refused by a number exactly when that number applies and none below it does
+  pub number : (n : ℕ) → (said ≡ refused-by n) ↔ ((applies lines n ≡ true) × ((lower : ℕ) → lower < n → applies lines lower ≡ false))
+  -- not refused exactly when none applies
+  pub answered : (said ≡ accepted value) ↔ ((n : ℕ) → applies lines n ≡ false)
+  -- a refusal leaves what there was; "on every other input the call does its work"
+  pub kept : (n : ℕ) → said ≡ refused-by n → left ≡ before
+  pub done : ((n : ℕ) → applies lines n ≡ false) → left ≡ after
+
+-- a book out of range "gets 5 from every call, before any other check"; else the table of 4 to 9
+unfoldable pub callLines : Book → Call → List (ℕ × Bool)
+callLines b call = cond (inRange b) (linesFor (isJoined b) (figureOf b) call) ((5, true) ∷ [])
+
+pub record Demand1 : Type 0 where
+  -- the seven filing calls, each one case of `file`: "A refused filing call leaves the book"
+  pub filing : (b : Book) (call : Call) → Judged (callLines b call) (factsOf call .answer) (file b call .said) (file b call .book) b (changed b call)
+  -- the table that the history looks up too, with whatever it holds
+  pub table : (joined : ℕ → Bool) (total : ℕ → ℕ → ℕ → ℕ) (call : Call) → Lowest (linesFor joined total call) (factsOf call .answer)
+  -- a field's bytes: 1, 2, 3, or a call
+  pub field : (bytes : List ℕ) (at : ℕ) → Lowest (fieldLines bytes at) (callAt bytes at)
+  -- reading files the calls of the fields in order, "up to the first refusal, keeps those before it"
+  pub reads : (b : Book) (bytes : List ℕ) → ReadAsCallsIfInRange b bytes
+  -- "(the reader: none applied, offset 0)"
+  pub reads-out-of-range : (b : Book) (bytes : List ℕ) → inRange b ≡ false → read b bytes ≡ reading b 0 0 (refused-by 5)
+  -- settling, over any list of indicators; its settlement "is all 0 on refusal"
+  pub settles : (b : Book) (indicators : List Indicator)
+      → Judged (settlingLines b indicators) yes-said (settledBy b indicators .said) (settledBy b indicators .settlement) nothing (settlementBy b indicators)
+  -- "a refused writer or report leaves the buffer. Accepted, these two answer with the number of bytes written and leave all bytes after
+  -- their output"
+  pub writes : (b : Book) (buffer : List ℕ)
+      → Judged (writerLines b buffer) (length (written b)) (writerAnswer b buffer) (writerBuffer b buffer) buffer (putInto buffer (written b))
+  pub reports : (b : Book) (buffer : List ℕ)
+      → Judged (reportLines b buffer) (length (textOf b)) (reportAnswer b buffer) (reportBuffer b buffer) buffer (putInto buffer (textOf b))
