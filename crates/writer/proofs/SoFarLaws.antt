@@ -9,9 +9,9 @@ use lib.ListN.{length, length-append}
 use Rattle.book.specs.declared.Book.{Book}
 use Rattle.writing.specs.Written.{inTurn, filingOf, written}
 use Rattle.writing.proofs.WrittenLength.{filing-then}
-use Rattle.writer.specs.declared.Entry.{Entry}
-use Rattle.writer.specs.Steps.{entryBytes, EntryOf, callsAt}
-use Rattle.writer.proofs.PlaceLaws.{turns-split, all-placed}
+use Rattle.entries.specs.declared.Entry.{Entry}
+use Rattle.entries.specs.Entries.{entryBytes, EntryOf, callsAt}
+use Rattle.entries.proofs.PlaceLaws.{turns-split, all-placed}
 
 unfoldable pub soFar : Book → ℕ → List ℕ
 soFar b place = filingOf (inTurn place (callsAt b))

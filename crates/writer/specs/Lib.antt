@@ -1,3 +1,2 @@
 -- The definitions of `writer`.
 pub mod Writer
-pub mod Steps

@@ -1,0 +1,124 @@
+-- The calls at each place of a written filing, and that all places in turn are the calls that a book is written as.
+-- Assumes nothing.
+use Prim.Native.Nat.{ℕ, zero, suc, _+_, _*_, _-_, _/_, _%_, _≤_, _<_}
+use mathlib.Core.Path.{_≡_, refl, sym, ap, _∙_}
+use mathlib.Core.Bool.{true, false, cond}
+use mathlib.Core.List.{List, [], _∷_, _++_, append-assoc, append-nil}
+use native.Mathlib.Nat.{suc-mul, mul-add-div-right, mul-add-mod-self-right, div-eq-of-lt, mod-eq-of-lt, add-zero, add-suc, zero-mul}
+use native.Mathlib.Omega.{arith}
+use lib.ListN.{getD}
+use borrow.Author.Tests.{lt-ltb, le-ltb}
+use Rattle.book.specs.declared.Book.{Book}
+use Rattle.calls.specs.declared.Call.{Call}
+use Rattle.calls.specs.declared.Call.the-variants.{Amount}
+use Rattle.calls.specs.Limits.{operators, years, figureCount, settingCount, indicatorCount, indexCount}
+use Rattle.book.specs.Book.{isJoined, isMarked, settingOf, figureOf, indexOf}
+use Rattle.writing.specs.Written.{inTurn, unlessFresh, joinCalls, settingCalls, amountCalls, markCalls, indexCalls, rateCalls, writtenCalls}
+use Rattle.entries.specs.Entries.{joinAt, settingAt, amountAt, markAt, indexAt, ratesAt, callsAt}
+
+module _ (b : Book) (place : ℕ) where
+  pub place-join : place < 16 → callsAt b place ≡ joinAt (b .joined) place
+  unfolding callsAt
+  place-join lt = rw (lt-ltb place 16 lt) refl
+
+  pub place-setting : 16 ≤ place → place < 64 → callsAt b place ≡ settingAt (b .settings) (place - 16)
+  unfolding callsAt
+  place-setting le lt = rw (le-ltb place 16 le, lt-ltb place 64 lt) refl
+
+  pub place-amount : 64 ≤ place → place < 448 → callsAt b place ≡ amountAt (b .figures) (place - 64)
+  unfolding callsAt
+  place-amount le lt = rw (le-ltb place 16 (omega arith), le-ltb place 64 le, lt-ltb place 448 lt) refl
+
+  pub place-mark : 448 ≤ place → place < 544 → callsAt b place ≡ markAt (b .marks) (place - 448)
+  unfolding callsAt
+  place-mark le lt = rw (le-ltb place 16 (omega arith), le-ltb place 64 (omega arith), le-ltb place 448 le, lt-ltb place 544 lt) refl
+
+  pub place-index : 544 ≤ place → place < 548 → callsAt b place ≡ indexAt (b .indices) (place - 544)
+  unfolding callsAt
+  place-index le lt =
+      rw (le-ltb place 16 (omega arith), le-ltb place 64 (omega arith), le-ltb place 448 (omega arith), le-ltb place 544 le, lt-ltb place 548 lt) refl
+
+  pub place-rates : 548 ≤ place → callsAt b place ≡ ratesAt (b .«pot_rate») (b .«cap_rate»)
+  unfolding callsAt
+  place-rates le =
+      rw (le-ltb place 16 (omega arith), le-ltb place 64 (omega arith), le-ltb place 448 (omega arith), le-ltb place 544 (omega arith), le-ltb place 548 le) refl
+
+module _ {A : Type 0} where
+  -- the same lists in turn
+  turns-alike : (n : ℕ) (f g : ℕ → List A) → ((k : ℕ) → k < n → f k ≡ g k) → inTurn n f ≡ inTurn n g
+  unfolding inTurn
+  turns-alike zero f g same = refl
+  turns-alike (suc n) f g same = rw (turns-alike n f g (λ k lt. same k (omega arith)), same n (omega arith)) refl
+
+  -- the first n and the others
+  pub turns-split : (n m : ℕ) (f : ℕ → List A) → inTurn (n + m) f ≡ inTurn n f ++ inTurn m (λ (k : ℕ). f (n + k))
+  unfolding inTurn
+  turns-split n zero f = rw (add-zero n) (sym (append-nil (inTurn n f)))
+  turns-split n (suc m) f =
+      rw (add-suc n m, turns-split n m f) (append-assoc (inTurn n f) (inTurn m (λ (k : ℕ). f (n + k))) (f (n + m)))
+
+  -- rows of m, one after the other
+  turns-rows : (n m : ℕ) (f : ℕ → ℕ → List A) → inTurn n (λ (row : ℕ). inTurn m (f row)) ≡ inTurn (n * m) (λ (k : ℕ). f (k / m) (k % m))
+  unfolding inTurn
+  turns-rows zero m f = rw (zero-mul m) refl
+  turns-rows (suc n) m f =
+      rw (suc-mul n m, turns-split (n * m) m (λ (k : ℕ). f (k / m) (k % m)))
+      (λ i. turns-rows n m f i ++ turns-alike m (f n) (λ (k : ℕ). f ((n * m + k) / m) ((n * m + k) % m)) last i)
+    where
+      last : (k : ℕ) → k < m → f n k ≡ f ((n * m + k) / m) ((n * m + k) % m)
+      last k lt =
+          let row : (n * m + k) / m ≡ n = rw (mul-add-div-right {m = m} (omega arith) n k, div-eq-of-lt lt) (omega arith) in
+          let place : (n * m + k) % m ≡ k = rw (mul-add-mod-self-right n m k, mod-eq-of-lt lt) refl in
+          rw (row, place) refl
+
+  -- lists that stand from a place on
+  turns-from : (n from : ℕ) (f g : ℕ → List A) → ((k : ℕ) → k < n → f (from + k) ≡ g (from + k - from)) → inTurn n g ≡ inTurn n (λ (k : ℕ). f (from + k))
+  turns-from n from f g same =
+      turns-alike n g (λ (k : ℕ). f (from + k)) (λ k lt. let back : from + k - from ≡ k = omega arith in sym (same k lt ∙ rw back refl))
+
+module _ (b : Book) where
+  abbrev at : ℕ → List Call
+  at = callsAt b
+
+  joins-placed : joinCalls b ≡ inTurn 16 at
+  unfolding joinCalls joinAt isJoined
+  joins-placed = turns-alike 16 _ at (λ k lt. sym (place-join b k lt))
+
+  settings-placed : settingCalls b ≡ inTurn 48 (λ (k : ℕ). at (16 + k))
+  unfolding settingCalls settingAt settingOf
+  settings-placed =
+      turns-rows operators settingCount _
+      ∙ turns-from 48 16 at (settingAt (b .settings)) (λ k lt. place-setting b (16 + k) (omega arith) (omega arith))
+
+  -- an amount of a figure
+  abbrev amountOf : ℕ → ℕ → ℕ → List Call
+  amountOf operator year figure =
+      unlessFresh (figureOf b operator year figure) 0 (Amount operator year figure 0 (figureOf b operator year figure))
+
+  amounts-placed : amountCalls b ≡ inTurn 384 (λ (k : ℕ). at (64 + k))
+  unfolding amountCalls amountAt figureOf
+  amounts-placed =
+      turns-alike operators _ _ (λ operator lt. turns-rows years figureCount (amountOf operator))
+      ∙ turns-rows operators (years * figureCount) (λ (operator k : ℕ). amountOf operator (k / figureCount) (k % figureCount))
+      ∙ turns-alike 384 _ (amountAt (b .figures)) (λ k lt. let figure : k % 24 % 8 ≡ k % 8 = omega arith in rw figure refl)
+      ∙ turns-from 384 64 at (amountAt (b .figures)) (λ k lt. place-amount b (64 + k) (omega arith) (omega arith))
+
+  marks-placed : markCalls b ≡ inTurn 96 (λ (k : ℕ). at (448 + k))
+  unfolding markCalls markAt isMarked
+  marks-placed =
+      turns-rows operators indicatorCount _
+      ∙ turns-from 96 448 at (markAt (b .marks)) (λ k lt. place-mark b (448 + k) (omega arith) (omega arith))
+
+  indices-placed : indexCalls b ≡ inTurn 4 (λ (k : ℕ). at (544 + k))
+  unfolding indexCalls indexAt indexOf
+  indices-placed = turns-from 4 544 at (indexAt (b .indices)) (λ k lt. place-index b (544 + k) (omega arith) (omega arith))
+
+  rates-placed : rateCalls b ≡ inTurn 1 (λ (k : ℕ). at (548 + k))
+  unfolding rateCalls ratesAt inTurn
+  rates-placed = sym (place-rates b 548 (omega arith))
+
+  pub all-placed : writtenCalls b ≡ inTurn 549 at
+  unfolding writtenCalls
+  all-placed =
+      (λ i. joins-placed i ++ settings-placed i ++ amounts-placed i ++ marks-placed i ++ indices-placed i ++ rates-placed i)
+      ∙ sym (rw (turns-split 548 1 at, turns-split 544 4 at, turns-split 448 96 at, turns-split 64 384 at, turns-split 16 48 at) refl)

@@ -1,0 +1,2 @@
+-- The definitions of `entries`.
+pub mod Entries

@@ -1,0 +1,181 @@
+// The places of a written filing, in its order: joins, settings, amounts, marks, indices, rates. At each the book's value is fresh, or
+// there is a field for it.
+ghost use mathlib.Core.Path.{_≡_};
+ghost use Prim.Native.Nat.{_<_};
+ghost use Rattle.book.specs.Book.{bookWith};
+ghost use Rattle.entries.specs.Entries.{EntryOf, joinAt, settingAt, amountAt, markAt, indexAt, ratesAt, callsAt};
+use book::figure_slot;
+use book::setting_slot;
+use calls::has_bit;
+use encoding::Encoded;
+
+// What a book's written filing has at a place: nothing where the value is fresh, else a field.
+pub enum Entry {
+    Fresh,
+    Differs(Encoded),
+}
+
+const SETTINGS_FROM: usize = 16;
+
+const AMOUNTS_FROM: usize = 64;
+
+const MARKS_FROM: usize = 448;
+
+const INDICES_FROM: usize = 544;
+
+const RATES_FROM: usize = 548;
+
+pub const PLACES: usize = 549;
+
+// The sign of an amount that is filed.
+const FILE: u64 = 0;
+
+// A mark that is set.
+const UNRELIABLE: u64 = 1;
+
+const FRESH_INDEX: u64 = 10000;
+
+pub fn entry_at(
+    joined: u16,
+    marks: &[u16; 6],
+    settings: &[u64; 48],
+    figures: &[u64; 384],
+    pot_rate: u32,
+    cap_rate: u32,
+    indices: &[u32; 4],
+    place: usize,
+) -> Entry
+    requires { ⌜ place < 549 ⌝ }
+    ensures { λ r. ⌜ EntryOf r (callsAt (bookWith joined (now (marks .entry)) (now (settings .entry)) (now (figures .entry)) «pot_rate» «cap_rate» (now (indices .entry))) place) ⌝ }
+{
+    if place < SETTINGS_FROM {
+        return join_entry(joined, place);
+    }
+    if place < AMOUNTS_FROM {
+        return setting_entry(settings, place - SETTINGS_FROM);
+    }
+    if place < MARKS_FROM {
+        return amount_entry(figures, place - AMOUNTS_FROM);
+    }
+    if place < INDICES_FROM {
+        return mark_entry(marks, place - MARKS_FROM);
+    }
+    if place < RATES_FROM {
+        return index_entry(indices, place - INDICES_FROM);
+    }
+    rates_entry(pot_rate, cap_rate)
+}
+
+fn join_entry(joined: u16, place: usize) -> Entry
+    requires { ⌜ place < 16 ⌝ }
+    ensures { λ r. ⌜ EntryOf r (joinAt joined place) ⌝ }
+{
+    if !has_bit(joined, place as u8) {
+        return Entry::Fresh;
+    }
+    Entry::Differs(Encoded {
+        tag: 1,
+        front: place as u64,
+        front_width: 1,
+        value: 0,
+        value_width: 0,
+    })
+}
+
+fn setting_entry(settings: &[u64; 48], place: usize) -> Entry
+    requires { ⌜ place < 48 ⌝ }
+    ensures { λ r. ⌜ EntryOf r (settingAt (now (settings .entry)) place) ⌝ }
+{
+    let operator = place / 3;
+    let which = place % 3;
+    let value = settings[setting_slot(operator as u8, which as u8)];
+    if value == 0 {
+        return Entry::Fresh;
+    }
+    Entry::Differs(Encoded {
+        tag: 2,
+        front: operator as u64 * 256 + which as u64,
+        front_width: 2,
+        value,
+        value_width: 8,
+    })
+}
+
+fn amount_entry(figures: &[u64; 384], place: usize) -> Entry
+    requires { ⌜ place < 384 ⌝ }
+    ensures { λ r. ⌜ EntryOf r (amountAt (now (figures .entry)) place) ⌝ }
+{
+    let operator = place / 24;
+    let year = place % 24 / 8;
+    let figure = place % 8;
+    let value = figures[figure_slot(operator as u8, year as u8, figure as u8)];
+    if value == 0 {
+        return Entry::Fresh;
+    }
+    Entry::Differs(Encoded {
+        tag: 4,
+        front: ((operator as u64 * 256 + year as u64) * 256 + figure as u64) * 256 + FILE,
+        front_width: 4,
+        value,
+        value_width: 8,
+    })
+}
+
+fn mark_entry(marks: &[u16; 6], place: usize) -> Entry
+    requires { ⌜ place < 96 ⌝ }
+    ensures { λ r. ⌜ EntryOf r (markAt (now (marks .entry)) place) ⌝ }
+{
+    let operator = place / 6;
+    let indicator = place % 6;
+    if !has_bit(marks[indicator], operator as u8) {
+        return Entry::Fresh;
+    }
+    Entry::Differs(Encoded {
+        tag: 5,
+        front: (operator as u64 * 256 + indicator as u64) * 256 + UNRELIABLE,
+        front_width: 3,
+        value: 0,
+        value_width: 0,
+    })
+}
+
+fn index_entry(indices: &[u32; 4], place: usize) -> Entry
+    requires { ⌜ place < 4 ⌝ }
+    ensures { λ r. ⌜ EntryOf r (indexAt (now (indices .entry)) place) ⌝ }
+{
+    let value = wide(indices[place]);
+    if value == FRESH_INDEX {
+        return Entry::Fresh;
+    }
+    Entry::Differs(Encoded {
+        tag: 7,
+        front: place as u64,
+        front_width: 1,
+        value,
+        value_width: 4,
+    })
+}
+
+fn wide(number: u32) -> u64
+    ensures { λ r. ⌜ r ≡ number ⌝ }
+{
+    number as u64
+}
+
+// One field for both, if either is not 0.
+fn rates_entry(pot_rate: u32, cap_rate: u32) -> Entry
+    ensures { λ r. ⌜ EntryOf r (ratesAt «pot_rate» «cap_rate») ⌝ }
+{
+    if pot_rate == 0 {
+        if cap_rate == 0 {
+            return Entry::Fresh;
+        }
+    }
+    Entry::Differs(Encoded {
+        tag: 6,
+        front: pot_rate as u64,
+        front_width: 4,
+        value: cap_rate as u64,
+        value_width: 4,
+    })
+}
