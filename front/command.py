@@ -118,9 +118,9 @@ class Front:
         _print(answer.output)
         for other in passed_over(path):
             _tell(f"note: {source.name} was read; {other} beside it says something else and was not")
-        if answer.complaint:
-            raise Trouble(answer.complaint.decode(errors="replace").rstrip())
-        return _judged(source, answer.output)
+        if answer.output.startswith(programs.SETTLEMENT) and not answer.complaint:
+            return Outcome(SETTLED, "settled")
+        return _refused(source, answer.complaint or answer.output)
 
     def show(self, path):
         """Prints the calls of a path in words, each with its number and its offset."""
@@ -146,22 +146,20 @@ class Front:
         if not answer.complaint:
             _put(file, answer.output)
             return Outcome(SETTLED, "written")
-        _tell(answer.complaint.decode(errors="replace").rstrip())
-        return _judged(source, answer.complaint)
+        refused = _refused(source, answer.complaint)
+        _tell(refused.words)
+        return refused
 
 
-def _judged(source, line):
-    """The outcome that a program's line tells; a refusal is explained."""
-    refusal = programs.refusal_in(line)
+def _refused(source, line):
+    """Explains the line of a program that has not settled or written; it is trouble if it tells no refusal."""
     said = line.decode(errors="replace").rstrip()
-    if refusal:
-        for explanation in refusals.explained(source, refusal):
-            _tell(explanation)
-        return Outcome(REFUSED, said)
-    if line == programs.TOO_LONG:
-        _tell(f"{source.name}: {refusals.TOO_LONG.format(len(source.data))}")
-        return Outcome(REFUSED, said)
-    return Outcome(SETTLED, "settled")
+    refusal = programs.refusal_in(line)
+    if refusal is None and line != programs.TOO_LONG:
+        raise Trouble(f"{source.name}: the program gave no answer: {said}", "the program gave no answer")
+    for explanation in refusals.explained(source, refusal) if refusal else refusals.explained_length(source):
+        _tell(explanation)
+    return Outcome(REFUSED, said)
 
 
 def _attempt(job, path):

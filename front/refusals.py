@@ -33,7 +33,6 @@ RANGES = {
     "index": "The indices are june-2016, june-2017, june-2018 and june-2013, each 1 to 100,000 hundredths.",
 }
 
-TOO_LONG = "A filing has at most 65,536 bytes, and this one has {:,}. File totals in the place of many single entries."
 MOST_SHOWN = 16
 MOST_PLACES = 12
 
@@ -50,6 +49,12 @@ def explained(source, refusal):
         meaning,
         *(f"  {line}" for line in _to_look_at(source, refusal.number, before, field)),
     ]
+
+
+def explained_length(source):
+    """The same for a filing that is too long."""
+    length = f"{len(source.data):,}"
+    return [f"{source.name}: a filing has at most 65,536 bytes, and this one has {length}. File totals in the place of many entries."]
 
 
 def _first_bytes(data):
@@ -70,11 +75,10 @@ def _to_look_at(source, number, before, field):
 def _same_figure(source, before, field):
     """For 8 and 9: the calls before this one that name the same figure."""
     moved = _figures_of(field.call)
-    named = ", ".join(f"operator {operator} {year} {figure}" for operator, year, figure in moved)
+    operator, year, _ = moved[0]
+    named = " and ".join(figure for _, _, figure in moved)
     same = [one for one in before if set(_figures_of(one.call)) & set(moved)]
-    if not same:
-        return [f"Look at {named}: no call before this one names it."]
-    lines = [f"Look at {named}: the calls before this one that name it are in {_places(source, same)}."]
+    lines = [f"Look at {named} of operator {operator} in {year}. Earlier calls there: {_places(source, same) or 'none'}."]
     if any(one.call.kind.name == "interruption" for one in [*same, field]):
         lines.append("An interruption counts in the year of its end; one of 180 seconds or less, or left out for its cause, adds nothing.")
     return lines
