@@ -10,7 +10,7 @@ from front.sources import FILING
 
 REFUSED = re.compile(rb"refused ([0-9]+)(?: at ([0-9]+))?\n")
 TOO_LONG = b"too long\n"
-SETTLEMENT = b"operator "
+SETTLEMENT = b"operator"
 
 
 class Answer(NamedTuple):
