@@ -57,7 +57,12 @@ def main(words):
 
 def _arguments(words):
     parser = argparse.ArgumentParser(
-        prog="settle", usage=USAGE, description=DESCRIPTION, epilog=EPILOG, formatter_class=argparse.RawDescriptionHelpFormatter
+        prog="settle",
+        usage=USAGE,
+        description=DESCRIPTION,
+        epilog=EPILOG,
+        formatter_class=argparse.RawDescriptionHelpFormatter,
+        allow_abbrev=False,
     )
     parser.add_argument("paths", metavar="PATH", nargs="*", help=argparse.SUPPRESS)
     other = parser.add_mutually_exclusive_group()
@@ -113,35 +118,34 @@ class Front:
 
     def settle(self, path):
         """Prints what the program prints for the filing of a path, and explains a refusal."""
-        source = source_of(path)
+        source = _source(path)
         answer = programs.run(self.builder.program("quality"), source.data)
         _print(answer.output)
-        for other in passed_over(path):
-            _tell(f"note: {source.name} was read; {other} beside it says something else and was not")
         if answer.output.startswith(programs.SETTLEMENT) and not answer.complaint:
             return Outcome(SETTLED, "settled")
         return _refused(source, answer.complaint or answer.output)
 
     def show(self, path):
         """Prints the calls of a path in words, each with its number and its offset."""
-        source = source_of(path)
+        source = _source(path)
         for field in filing.fields_of(source.data):
-            place = f"# field {field.number} at byte {field.offset}"
+            place = f"field {field.number} at byte {field.offset}"
             if field.call is None:
-                _print(f"{place}: no call in the bytes from here on\n".encode())
-                _tell(f"{source.name}: {place[2:]}: no call in the bytes from here on")
+                no_call = f"{place}: no call in the bytes from here on"
+                _print(f"# {no_call}\n".encode())
+                _tell(f"{source.name}: {no_call}")
                 return Outcome(REFUSED, f"no call at byte {field.offset}")
-            _print(f"{line_of(field.call):<40} {place}\n".encode())
+            _print(f"{line_of(field.call):<40} # {place}\n".encode())
         return Outcome(SETTLED, "shown")
 
     def encode(self, path, file):
         """Writes the calls of a path to a file, as they are."""
-        _put(file, source_of(path).data)
+        _put(file, _source(path).data)
         return Outcome(SETTLED, "encoded")
 
     def write(self, path, file):
         """Writes the book of a path to a file, by the proved writer, which tells a refusal on standard error."""
-        source = source_of(path)
+        source = _source(path)
         answer = programs.run(self.builder.program("rewrite"), source.data)
         if not answer.complaint:
             _put(file, answer.output)
@@ -149,6 +153,14 @@ class Front:
         refused = _refused(source, answer.complaint)
         _tell(refused.words)
         return refused
+
+
+def _source(path):
+    """The filing that a path stands for; files beside it that say something else are told."""
+    source = source_of(path)
+    for other in passed_over(path):
+        _tell(f"note: {source.name} was read; {other} beside it says something else and was not")
+    return source
 
 
 def _refused(source, line):

@@ -25,8 +25,8 @@ MEANINGS = {
 
 RANGES = {
     "setting": "Cabins are 0 to 100,000, access points 0 to 4,000,000, income 0 to 100,000,000,000 cents.",
-    "interruption": "Sign and level are 0 or 1, causes 0 to 4. The end is from 2017-01-01T00:00 to 2019-12-31T23:59:59, the start not before "
-    "2016-01-02T00:00 and not after the end. The weight is 1 to 100,000 cabins for MV, and 1 for LV.",
+    "interruption": "Sign and level are 0 or 1, causes 0 to 4. The end is from 2017-01-01T00:00 to 2019-12-31T23:59:59, the start not "
+    "before 2016-01-02T00:00 and not after the end. The weight is 1 to 100,000 cabins for MV, and 1 for LV.",
     "amount": "Years are 2017 to 2019, figures 0 to 7, the sign is 0 or 1.",
     "mark": "Indicators are A1, A2, A3, A4, D1 and D2, a mark is 0 or 1.",
     "rates": "Each rate is 0 to 20,000 millionths.",
@@ -63,7 +63,7 @@ def _first_bytes(data):
 
 
 def _to_look_at(source, number, before, field):
-    if number == 5 and field.call.kind.name in RANGES:
+    if number == 5:
         return [RANGES[field.call.kind.name]]
     if number == 6:
         return [f"It joined in {_places(source, [one for one in before if one.call == field.call])}."]

@@ -61,15 +61,16 @@ def _file(path):
         data = path.read_bytes()
     except OSError as error:
         raise Trouble(f"{path}: {error.strerror}", error.strerror) from error
-    if path.suffix.lower() == ".csv":
-        return _text(str(path), sheet.read(words.decoded(data)))
-    if path.suffix.lower() == ".q" or _is_filing(data):
+    if _is_filing(path, data):
         return Source(str(path), data)
-    return _text(str(path), words.read(words.decoded(data)))
+    read = sheet.read if path.suffix.lower() == ".csv" else words.read
+    return _text(str(path), read(words.decoded(data)))
 
 
-def _is_filing(data):
-    """Whether a file of another name holds a filing: every field has a byte 0 in its length, and no text has one."""
+def _is_filing(path, data):
+    """Whether a file holds a filing. If its name does not tell: every field has a byte 0 in its length, and no text has one."""
+    if path.suffix.lower() in (".q", ".txt", ".csv"):
+        return path.suffix.lower() == ".q"
     return b"\0" in data and data[:2] not in words.WIDE_MARKS
 
 

@@ -34,6 +34,7 @@ class Paths(InFolder):
         run = settle(self.folder)
         self.assertEqual((run.status, run.output), (0, SETTLED))
         self.assertEqual(run.said.count("note: "), 2)
+        self.assertEqual(settle("--show", self.folder).said, run.said)
 
     def test_trouble(self):
         (self.folder / "empty").mkdir()
@@ -45,6 +46,11 @@ class Paths(InFolder):
             ("odd", "odd/filing.q: Is a directory"),
         ]:
             self.assertEqual(settle(path, cwd=self.folder), (2, b"", f"{said}\n"))
+
+    def test_a_text_with_a_byte_that_no_text_has(self):
+        run = settle(self.file("calls.txt", b"join 0\njoin \x00\n"))
+        self.assertEqual((run.status, run.output), (2, b""))
+        self.assertIn(r"calls.txt:2: '\x00': expected an operator", run.said)
 
     def test_an_empty_filing_is_the_programs_to_refuse(self):
         self.assertEqual(settle(self.file("filing.q", b"")).output, b"refused 10\n")
@@ -90,7 +96,7 @@ class Many(InFolder):
             "# anna: settled\n# bart: refused 6 at 4\n# carl: trouble: 2 errors in the text\n# dora: trouble: no filing in this folder\n"
             "# nobody: trouble: No such file or directory\n# emma.txt: refused 11\n# anna: settled\n",
         )
-        for said in ["bart/calls.txt:2: refused: join 0", "carl/calls.txt:2: 'x'", "carl/calls.txt:3: 'y'", "dora: this folder", "nobody: No"]:
+        for said in ["bart/calls.txt:2: refused", "carl/calls.txt:2: 'x'", "carl/calls.txt:3: 'y'", "dora: this folder", "nobody: No"]:
             self.assertIn(said, run.said)
 
     def test_the_higher_status_counts(self):
@@ -123,7 +129,8 @@ class Asked(InFolder):
 
     def test_words_that_cannot_be_meant(self):
         good = self.file("good.q", CASE_M)
-        for asked in [["--nothing"], ["--show"], ["--encode", "x.q"], ["--write", "x.q", good, good], ["--show", "--write", "x.q", good]]:
+        two = ["--show", "--write", "x.q", good]
+        for asked in [["--nothing"], ["--sho", good], ["--show"], ["--encode", "x.q"], ["--write", "x.q", good, good], two]:
             run = settle(*asked, cwd=self.folder)
             self.assertEqual((run.status, run.output), (2, b""), asked)
             self.assertIn("usage: settle", run.said)

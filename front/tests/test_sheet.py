@@ -3,9 +3,7 @@
 from front import sheet, words
 from front.tests.common import InFolder, settle_here
 
-COLUMNS = (
-    "call, operator, setting, value, sign, level, cause, start, end, weight, year, figure, indicator, mark, pot, cap, index"
-)
+COLUMNS = "call, operator, setting, value, sign, level, cause, start, end, weight, year, figure, indicator, mark, pot, cap, index"
 
 
 def numbers(data):
@@ -44,14 +42,15 @@ class Taken(InFolder):
 
 
 CALLS = "a call: join, setting, interruption, amount, mark, rates, index"
+COLUMN = f"the name of a column: {COLUMNS}"
 OPERATOR = "an operator, 0 to 15, as a whole number in digits alone (operator of join)"
 
 # A table, and line, word and what is expected of each of its errors.
 ERRORS = [
     ("", [(1, "", f"a header line with names of columns: {COLUMNS}")]),
     ("# nothing\n\n", [(1, "", f"a header line with names of columns: {COLUMNS}")]),
-    ("join,0\n", [(1, "join", f"the name of a column: {COLUMNS}"), (1, "0", f"the name of a column: {COLUMNS}"), (1, "join,0", "a column call")]),
-    ("call,operator,note\njoin,0,x\n", [(1, "note", f"the name of a column: {COLUMNS}")]),
+    ("join,0\n", [(1, "join", COLUMN), (1, "0", COLUMN), (1, "join,0", "a column call")]),
+    ("call,operator,note\njoin,0,x\n", [(1, "note", COLUMN)]),
     ("call,operator,Operator\njoin,0,0\n", [(1, "operator", "each column once")]),
     ("operator\n0\n", [(1, "operator", "a column call")]),
     ("call,operator\njion,0\n", [(2, "jion", CALLS)]),
