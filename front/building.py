@@ -12,6 +12,7 @@ ROOT = Path(__file__).resolve().parent.parent
 SOURCES = ("src", "specs", "proofs")
 PROVED = re.compile(rb"rt: (\w+) proved \(")
 KIT = "the Rattle kit (rattle-kit-5b), whose command rt must be on the path; README.md says which versions are needed"
+UNBUILT = "the program could not be built"
 
 
 class Builder:
@@ -39,7 +40,7 @@ class Builder:
         why = reason_to_build(self.root, program, crates)
         if why:
             if shutil.which("rt") is None:
-                raise Trouble(f"{why}, and rt is not installed. To build it install {KIT}.", "the program could not be built")
+                raise Trouble(f"{why}, and rt is not installed. To build it install {KIT}.", UNBUILT)
             self.say(f"{why}: proving and building it, which takes some minutes")
             self._build(name, program, len(crates))
         return program
@@ -48,11 +49,14 @@ class Builder:
         log = self.root / "target" / "front" / f"{name}.log"
         log.parent.mkdir(parents=True, exist_ok=True)
         status = self._proved(name, log, total)
-        if status != 0 or not program.exists():
-            raise Trouble(
-                f"{name} could not be built: rt check {name} ended with status {status}; what the prover said is in {log}",
-                "the program could not be built",
-            )
+        if status != 0:
+            # A program that is there all the same must not be run the next time: it is to count as older than any source.
+            if program.exists():
+                os.utime(program, (0, 0))
+            ended = f"rt check {name} ended with status {status}"
+            raise Trouble(f"{name} could not be built: {ended}; what the prover said is in {log}", UNBUILT)
+        if not program.exists():
+            raise Trouble(f"{name} is not built, although rt counts it as proved: remove the folder target and try again", UNBUILT)
         # rt leaves a program as it is whose sources are the same bytes as before.
         os.utime(program)
 

@@ -123,7 +123,7 @@ class Front:
         _print(answer.output)
         if answer.output.startswith(programs.SETTLEMENT) and not answer.complaint:
             return Outcome(SETTLED, "settled")
-        return _refused(source, answer.complaint or answer.output)
+        return _refused(source, answer)
 
     def show(self, path):
         """Prints the calls of a path in words, each with its number and its offset."""
@@ -150,9 +150,7 @@ class Front:
         if not answer.complaint:
             _put(file, answer.output)
             return Outcome(SETTLED, "written")
-        refused = _refused(source, answer.complaint)
-        _tell(refused.words)
-        return refused
+        return _refused(source, answer)
 
 
 def _source(path):
@@ -163,12 +161,15 @@ def _source(path):
     return source
 
 
-def _refused(source, line):
-    """Explains the line of a program that has not settled or written; it is trouble if it tells no refusal."""
+def _refused(source, answer):
+    """Explains the answer of a program that has not settled or written; it is trouble if it tells no refusal."""
+    line = answer.complaint or answer.output
     said = line.decode(errors="replace").rstrip()
+    if answer.complaint:
+        _tell(said)
     refusal = programs.refusal_in(line)
     if refusal is None and line != programs.TOO_LONG:
-        raise Trouble(f"{source.name}: the program gave no answer: {said}", "the program gave no answer")
+        raise Trouble(f"{source.name}: the program gave no answer", "the program gave no answer")
     for explanation in refusals.explained(source, refusal) if refusal else refusals.explained_length(source):
         _tell(explanation)
     return Outcome(REFUSED, said)

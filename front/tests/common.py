@@ -3,7 +3,6 @@
 import contextlib
 import io
 import subprocess
-import sys
 import tempfile
 import unittest
 from pathlib import Path

@@ -19,6 +19,8 @@ echo "rt: $2 proved (unchanged since it was last proved)"
 mkdir -p target/bin
 [ -e unchanged ] || printf '#!/bin/sh\\n%s\\n' "$(cat "standing-in-for-$2")" >"target/bin/$2"
 chmod +x "target/bin/$2"
+[ -e failing-late ] && { echo "rt: $2 proved, and its run FAILED (0 s)"; exit 1; }
+[ -e forgetting ] && { rm "target/bin/$2"; exit 0; }
 echo "rt: $2 ran, and wrote what its file 'stdout' has (0 s)"
 """
 
@@ -131,6 +133,19 @@ class NotBuilt(Tree):
         run = self.settle()
         self.assertEqual((run.status, run.output), (2, b""))
 
+    def test_a_program_that_failed_its_run_is_not_taken_the_next_time(self):
+        self.file("tree/failing-late", "")
+        for _ in range(2):
+            run = self.settle()
+            self.assertEqual((run.status, run.output), (2, b""))
+        (self.root / "failing-late").unlink()
+        self.assertEqual(self.settle().status, 0)
+        self.assertEqual(len(self.runs()), 3)
+
+    def test_a_program_that_rt_does_not_build_again(self):
+        self.file("tree/forgetting", "")
+        self.assertIn("remove the folder target and try again", self.settle().said)
+
     def test_without_the_toolchain_it_is_said_what_to_install(self):
         tools = self.folder / "tools"
         tools.mkdir()
@@ -149,7 +164,7 @@ class NotBuilt(Tree):
         self.file("tree/standing-in-for-quality", "echo 'standard output: No space left on device' >&2")
         run = self.settle()
         self.assertEqual((run.status, run.output), (2, b""))
-        self.assertIn("No space left on device", run.said)
+        self.assertTrue(run.said.endswith(f"No space left on device\n{self.filing}: the program gave no answer\n"))
         self.pass_time()
         self.file("tree/crates/leaf/src/lib.rt", "changed")
         self.file("tree/standing-in-for-quality", "exit 3")
@@ -179,8 +194,7 @@ class Written(Tree):
     def test_a_refusal_writes_nothing_and_is_explained(self):
         run = self.written("echo refused 6 at 0 >&2")
         self.assertEqual((run.status, run.output, (self.folder / "out.q").exists()), (1, b"", False))
-        self.assertIn(f"{self.filing}: field 1 at byte 0: refused: join 0\n  6: ", run.said)
-        self.assertTrue(run.said.endswith("\nrefused 6 at 0\n"))
+        self.assertIn(f"\nrefused 6 at 0\n{self.filing}: field 1 at byte 0: refused: join 0\n  6: ", run.said)
 
     def test_too_long_and_trouble(self):
         self.assertEqual(self.written("echo too long >&2").status, 1)
