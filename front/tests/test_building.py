@@ -92,10 +92,12 @@ class Built(Tree):
             self.assertIn("is newer than the program quality", run.said)
 
     def test_a_removed_source_has_it_built_again(self):
-        self.settle()
-        self.pass_time()
-        (self.root / "crates/leaf/proofs/part/One.antt").unlink()
-        self.assertIn("crates/leaf/proofs/part is newer", self.settle().said)
+        for removed in ["leaf/proofs/part/One.antt", "output/src/lib.rt"]:
+            self.settle()
+            self.pass_time()
+            file = self.root / "crates" / removed
+            file.unlink()
+            self.assertIn(f"{file.parent.relative_to(self.root)} is newer", self.settle().said)
 
     def test_sources_of_other_crates_and_wrong_programs_do_not_count(self):
         self.settle()

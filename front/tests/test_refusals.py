@@ -60,6 +60,12 @@ TEXTS = [
         "Look at mv-weight and mv-seconds of operator 0 in 2017. Earlier calls there: line 2, line 3.\n"
         "  An interruption counts in the year of its end;",
     ),
+    (
+        "join 0\ninterruption 0 file LV own 2017-12-31T23:00 2018-01-01T01:00 1\namount 0 2017 lv-weight withdraw 1",
+        "refused 9 at 31",
+        "3: refused: amount 0 2017 lv-weight withdraw 1",
+        "Look at lv-weight of operator 0 in 2017. Earlier calls there: none.",
+    ),
 ]
 
 # Texts whose settlement is refused.
