@@ -5,10 +5,12 @@ set -euo pipefail
 
 for example in examples/*/; do
     "$model" encode <"$example/calls.txt" | cmp - "$example/filing.q"
-    ./settle "$example" | cmp - <("$model" program "$example/filing.q")
+    # One of the examples is refused, which is status 1.
+    ./settle "$example" >"$work/printed" 2>"$work/said" || [ $? = 1 ] || fail "$(cat "$work/said")"
+    cmp "$work/printed" <("$model" program "$example/filing.q")
 done
 cmp examples/case-m/filing.q crates/quality/data/filing.q
-./settle | cmp - <(for example in examples/*/; do
+./settle 2>"$work/said" | cmp - <(for example in examples/*/; do
     sed -n '/^#/p' "$example/calls.txt"
     "$model" program "$example/filing.q"
 done)

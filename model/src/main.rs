@@ -28,7 +28,7 @@ fn main() -> ExitCode {
     let words: Vec<&str> = arguments.iter().map(|word| word.as_str()).collect();
     let mut output = BufWriter::new(io::stdout().lock());
     let mut result = dispatch(&words, &mut output);
-    // Answers given before a malformed line are printed as well.
+    // Answers given before a malformed line are printed as well (not of `encode`).
     if let Err(error) = output.flush() {
         result = result.and(Err(error.to_string()));
     }
@@ -49,7 +49,7 @@ fn dispatch(words: &[&str], output: &mut impl Write) -> Result<u8, String> {
         ["product"] => answer_lines(input, output, on_numbers(product::answer)),
         ["table"] => print_table(output),
         ["calls"] => answer_calls(input, output),
-        ["encode"] => for_lines(input, output, script::encode),
+        ["encode"] => encode(input, output),
         ["program", file] => print_program(file, output),
         ["rewrite", file] => rewrite(file, output),
         ["compare", quality, folder, seed, first, count] => {
@@ -75,6 +75,15 @@ fn print_table(output: &mut impl Write) -> Result<u8, String> {
 fn answer_calls(input: impl BufRead, output: &mut impl Write) -> Result<u8, String> {
     let mut book = Book::fresh();
     answer_lines(input, output, |line| script::answer(&mut book, line))
+}
+
+/// Encodes filing calls: the whole filing, or nothing if a line is malformed, since
+/// a part of a filing would be read as one.
+fn encode(input: impl BufRead, output: &mut impl Write) -> Result<u8, String> {
+    let mut filing = Vec::new();
+    for_lines(input, &mut filing, script::encode)?;
+    print(output, &filing)?;
+    Ok(DONE)
 }
 
 fn print_program(file: &str, output: &mut impl Write) -> Result<u8, String> {

@@ -52,6 +52,19 @@ fn encoded_commands() {
 }
 
 #[test]
+fn nothing_is_encoded_if_a_line_is_malformed() {
+    for input in [
+        "join 0\njoin 1\namount 0 0 4 0 5o000\n",
+        "join 256\njoin 0\n",
+        "join 0\nsettle\njoin 1\n",
+    ] {
+        let (status, output, message) = run(&["encode"], input.as_bytes());
+        assert_eq!((status, output), (2, Vec::new()), "{input}");
+        assert!(!message.is_empty(), "{input}");
+    }
+}
+
+#[test]
 fn missing_files() {
     let missing = folder("missing").join("missing.q");
     let missing = missing.to_str().unwrap();

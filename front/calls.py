@@ -1,0 +1,137 @@
+"""The seven filing calls: tag, name, and the places of their values, in the order of the text and of the bytes."""
+
+from typing import NamedTuple, Tuple
+
+
+class Place(NamedTuple):
+    """The place of a value in a call; words[n] is the word for the number n."""
+
+    name: str
+    bits: int
+    expected: str
+    words: Tuple[str, ...] = ()
+    signed: bool = False
+    is_time: bool = False
+
+    def fits(self, number):
+        """Whether the number can be put into the bytes of this place; its range is the program's to judge."""
+        if self.signed:
+            return -(1 << self.bits - 1) <= number < 1 << self.bits - 1
+        return 0 <= number < 1 << self.bits
+
+
+class Kind(NamedTuple):
+    """One of the seven calls."""
+
+    tag: int
+    name: str
+    places: Tuple[Place, ...]
+
+    @property
+    def length(self):
+        """The bytes of the content."""
+        return sum(place.bits // 8 for place in self.places)
+
+
+class Call(NamedTuple):
+    """A call and its values, as numbers."""
+
+    kind: Kind
+    values: Tuple[int, ...]
+
+    def value(self, name):
+        """The value at the place of that name, or None."""
+        for place, value in zip(self.kind.places, self.values):
+            if place.name == name:
+                return value
+        return None
+
+
+def _worded(name, what, words):
+    numbers = f"a number 0 to {len(words) - 1}"
+    return Place(name, 8, f"{what}: {', '.join(words)}, or {numbers}", words)
+
+
+def _number(name, bits, what):
+    return Place(name, bits, f"{what}, as a whole number in digits alone")
+
+
+def _time(name):
+    return Place(
+        name,
+        64,
+        "a time that exists, as 2017-03-04T10:00 or 2017-03-04T10:00:30, or seconds from the start of 2017",
+        signed=True,
+        is_time=True,
+    )
+
+
+FIGURES = ("mv-weight", "mv-seconds", "lv-weight", "lv-seconds", "fees", "connections", "reconnection-fees", "reconnections")
+
+OPERATOR = _number("operator", 8, "an operator, 0 to 15")
+SIGN = _worded("sign", "a sign", ("file", "withdraw"))
+
+KINDS = (
+    Kind(1, "join", (OPERATOR,)),
+    Kind(
+        2,
+        "setting",
+        (
+            OPERATOR,
+            _worded("setting", "a setting", ("cabins", "access-points", "income")),
+            _number("value", 64, "cabins up to 100000, access points up to 4000000, or income in cents up to 100000000000"),
+        ),
+    ),
+    Kind(
+        3,
+        "interruption",
+        (
+            OPERATOR,
+            SIGN,
+            _worded("level", "a level", ("MV", "LV")),
+            _worded("cause", "a cause", ("own", "planned", "coupled", "exceptional", "unattested")),
+            _time("start"),
+            _time("end"),
+            _number("weight", 32, "a weight, for MV 1 to 100000 cabins and for LV 1"),
+        ),
+    ),
+    Kind(
+        4,
+        "amount",
+        (
+            OPERATOR,
+            _worded("year", "a year", ("2017", "2018", "2019")),
+            _worded("figure", "a figure", FIGURES),
+            SIGN,
+            _number("value", 64, "an amount up to 100000000000, fees in cents"),
+        ),
+    ),
+    Kind(
+        5,
+        "mark",
+        (
+            OPERATOR,
+            _worded("indicator", "an indicator", ("A1", "A2", "A3", "A4", "D1", "D2")),
+            _number("mark", 8, "a mark, 1 (unreliable) or 0"),
+        ),
+    ),
+    Kind(
+        6,
+        "rates",
+        (
+            _number("pot", 32, "the pot rate, up to 20000 millionths"),
+            _number("cap", 32, "the cap rate, up to 20000 millionths"),
+        ),
+    ),
+    Kind(
+        7,
+        "index",
+        (
+            _worded("index", "an index", ("june-2016", "june-2017", "june-2018", "june-2013")),
+            _number("value", 32, "the index in hundredths, 1 to 100000"),
+        ),
+    ),
+)
+
+BY_NAME = {kind.name: kind for kind in KINDS}
+BY_TAG = {kind.tag: kind for kind in KINDS}

@@ -1,0 +1,221 @@
+"""When a program is built, how far it is told, and what is said if it cannot be. A stand-in for rt builds stand-ins for the programs."""
+
+import os
+import shutil
+import sys
+
+from front import building
+from front.tests.common import PROGRAM, ROOT, InFolder, settle
+
+CRATES = "# the crates\n\nleaf:\nother: leaf\noutput: leaf io\nquality: output libc\nrewrite: leaf\n\nlone_test: other\n"
+
+# It counts its runs, proves what crates.txt of this tree has, and builds the program anew where a source has changed.
+RT = """#!/bin/sh
+echo "$@" >>runs
+echo "a note of the prover"
+for crate in leaf output; do echo "rt: $crate proved (1 s)"; done
+[ -e failing ] && { echo "rt: $2 NOT PROVED (exit 1, 1 s)"; exit 1; }
+echo "rt: $2 proved (unchanged since it was last proved)"
+mkdir -p target/bin
+[ -e unchanged ] || printf '#!/bin/sh\\n%s\\n' "$(cat "standing-in-for-$2")" >"target/bin/$2"
+chmod +x "target/bin/$2"
+[ -e failing-late ] && { echo "rt: $2 proved, and its run FAILED (0 s)"; exit 1; }
+[ -e forgetting ] && { rm "target/bin/$2"; exit 0; }
+echo "rt: $2 ran, and wrote what its file 'stdout' has (0 s)"
+"""
+
+
+class Tree(InFolder):
+    """A small tree with the front in it and a stand-in for rt on the path."""
+
+    def setUp(self):
+        super().setUp()
+        self.root = self.folder / "tree"
+        shutil.copytree(ROOT / "front", self.root / "front", ignore=shutil.ignore_patterns("tests", "__pycache__"))
+        shutil.copy2(ROOT / "settle", self.root / "settle")
+        self.file("tree/crates.txt", CRATES)
+        self.file("tree/standing-in-for-quality", "echo operator; cat filing.q")
+        for crate in ("leaf", "other", "output", "quality", "rewrite"):
+            self.file(f"tree/crates/{crate}/src/lib.rt", "")
+            self.file(f"tree/crates/{crate}/proofs/part/One.antt", "")
+        self.path = self.file("bin/rt", RT)
+        self.path.chmod(0o755)
+        self.filing = self.file("some.q", b"\x01\x00\x01\x00")
+        self.pass_time()
+
+    def pass_time(self):
+        """Makes all that is there older, so that what is written next is newer."""
+        for path in self.root.rglob("*"):
+            time = path.stat().st_mtime - 10
+            os.utime(path, (time, time))
+
+    def settle(self, *words, path=None):
+        found = f"{self.path.parent}:{os.environ['PATH']}" if path is None else path
+        return settle(*words or [self.filing], root=self.root, env={**os.environ, "PATH": found})
+
+    def runs(self):
+        file = self.root / "runs"
+        return file.read_text().splitlines() if file.exists() else []
+
+
+class Built(Tree):
+    def test_a_program_that_is_not_there_is_built_and_how_far_is_told(self):
+        run = self.settle()
+        self.assertEqual((run.status, run.output), (0, b"operator\n\x01\x00\x01\x00"))
+        self.assertEqual(self.runs(), ["check quality"])
+        self.assertEqual(
+            run.said.splitlines(),
+            [
+                "the program quality is not built: proving and building it, which takes some minutes",
+                "crate 1 of 3: leaf proved",
+                "crate 2 of 3: output proved",
+                "crate 3 of 3: quality proved",
+            ],
+        )
+        self.assertIn("a note of the prover", (self.root / "target/front/quality.log").read_text())
+
+    def test_one_that_is_newer_than_its_sources_is_run(self):
+        self.settle()
+        self.assertEqual(self.settle().said, "")
+        self.assertEqual(len(self.runs()), 1)
+
+    def test_a_touched_source_has_it_built_again(self):
+        for source in ["crates.txt", "crates/leaf/src/lib.rt", "crates/quality/proofs/part/One.antt", "crates/output/specs/New.antt"]:
+            self.settle()
+            self.pass_time()
+            before = len(self.runs())
+            self.file(f"tree/{source}", CRATES if source == "crates.txt" else "changed")
+            self.file("tree/standing-in-for-quality", f"echo operator by {source}")
+            run = self.settle()
+            self.assertEqual(run.output, f"operator by {source}\n".encode())
+            self.assertEqual(len(self.runs()), before + 1)
+            self.assertIn("is newer than the program quality", run.said)
+
+    def test_a_removed_source_has_it_built_again(self):
+        for removed in ["leaf/proofs/part/One.antt", "output/src/lib.rt"]:
+            self.settle()
+            self.pass_time()
+            file = self.root / "crates" / removed
+            file.unlink()
+            self.assertIn(f"{file.parent.relative_to(self.root)} is newer", self.settle().said)
+
+    def test_sources_of_other_crates_and_wrong_programs_do_not_count(self):
+        self.settle()
+        self.pass_time()
+        for file in ["other/src/lib.rt", "rewrite/src/lib.rt", "quality/must-fail/one.edit", "quality/stdout"]:
+            self.file(f"tree/crates/{file}", "changed")
+        self.assertEqual(self.settle().said, "")
+
+    def test_a_source_that_is_touched_and_the_same_is_looked_at_once(self):
+        self.settle()
+        self.pass_time()
+        self.file("tree/unchanged", "")
+        (self.root / "crates/leaf/src/lib.rt").touch()
+        self.assertIn("is newer", self.settle().said)
+        self.assertEqual(self.settle().said, "")
+        self.assertEqual(len(self.runs()), 2)
+
+
+class NotBuilt(Tree):
+    def test_a_failure_names_the_log_and_is_tried_once(self):
+        self.file("tree/failing", "")
+        run = self.settle(self.filing, self.filing)
+        log = self.root / "target/front/quality.log"
+        self.assertEqual(run.status, 2)
+        self.assertEqual(run.said.count(f"rt check quality ended with status 1; what the prover said is in {log}"), 2)
+        self.assertIn("quality NOT PROVED", log.read_text())
+        self.assertEqual(self.runs(), ["check quality"])
+        self.assertIn(f"# {self.filing}: trouble: the program could not be built", run.output.decode())
+
+    def test_an_old_program_is_not_run_where_a_source_is_newer(self):
+        self.settle()
+        self.pass_time()
+        self.file("tree/failing", "")
+        self.file("tree/crates/leaf/src/lib.rt", "changed")
+        run = self.settle()
+        self.assertEqual((run.status, run.output), (2, b""))
+
+    def test_a_program_that_failed_its_run_is_not_taken_the_next_time(self):
+        self.file("tree/failing-late", "")
+        for _ in range(2):
+            run = self.settle()
+            self.assertEqual((run.status, run.output), (2, b""))
+        (self.root / "failing-late").unlink()
+        self.assertEqual(self.settle().status, 0)
+        self.assertEqual(len(self.runs()), 3)
+
+    def test_a_program_that_rt_does_not_build_again(self):
+        self.file("tree/forgetting", "")
+        self.assertIn("remove the folder target and try again", self.settle().said)
+
+    def test_without_the_toolchain_it_is_said_what_to_install(self):
+        tools = self.folder / "tools"
+        tools.mkdir()
+        (tools / "python3").symlink_to(sys.executable)
+        run = self.settle(path=str(tools))
+        self.assertEqual((run.status, run.output), (2, b""))
+        self.assertIn("the program quality is not built, and rt is not installed. To build it install the Rattle kit", run.said)
+
+    def test_texts_are_judged_and_shown_without_a_program(self):
+        text = self.file("calls.txt", "join x")
+        self.assertIn("calls.txt:1: 'x'", self.settle(text).said)
+        self.assertEqual(self.settle("--show", self.filing).status, 0)
+        self.assertEqual(self.runs(), [])
+
+    def test_a_program_that_complains_is_trouble(self):
+        self.file("tree/standing-in-for-quality", "echo 'standard output: No space left on device' >&2")
+        run = self.settle()
+        self.assertEqual((run.status, run.output), (2, b""))
+        self.assertTrue(run.said.endswith(f"No space left on device\n{self.filing}: the program gave no answer\n"))
+        self.pass_time()
+        self.file("tree/crates/leaf/src/lib.rt", "changed")
+        self.file("tree/standing-in-for-quality", "exit 3")
+        self.assertIn("ended with status 3", self.settle().said)
+
+
+class Written(Tree):
+    """--write against a stand-in: a refusal is told by standard error, and an empty book is no refusal."""
+
+    def written(self, by, file="out.q"):
+        self.file("tree/standing-in-for-rewrite", by)
+        return self.settle("--write", self.folder / file if file != "-" else file, self.filing)
+
+    def test_the_book_goes_to_the_file(self):
+        run = self.written("cat filing.q; printf book")
+        self.assertEqual((run.status, run.output), (0, b""))
+        self.assertEqual((self.folder / "out.q").read_bytes(), b"\x01\x00\x01\x00book")
+        self.assertEqual(self.runs(), ["check rewrite"])
+
+    def test_standard_output(self):
+        self.assertEqual(self.written("printf book", "-").output, b"book")
+
+    def test_an_empty_book_is_written(self):
+        self.assertEqual(self.written("true").status, 0)
+        self.assertEqual((self.folder / "out.q").read_bytes(), b"")
+
+    def test_a_refusal_writes_nothing_and_is_explained(self):
+        run = self.written("echo refused 6 at 0 >&2")
+        self.assertEqual((run.status, run.output, (self.folder / "out.q").exists()), (1, b"", False))
+        self.assertIn(f"\nrefused 6 at 0\n{self.filing}: field 1 at byte 0: refused: join 0\n  6: ", run.said)
+
+    def test_too_long_and_trouble(self):
+        self.assertEqual(self.written("echo too long >&2").status, 1)
+        self.pass_time()
+        self.file("tree/crates/rewrite/src/lib.rt", "changed")
+        self.assertEqual(self.written("echo filing.q: Is a directory >&2").status, 2)
+        self.assertFalse((self.folder / "out.q").exists())
+
+    def test_a_tree_without_the_writer_says_so(self):
+        self.file("tree/crates.txt", CRATES.replace("rewrite", "reading"))
+        run = self.written("true")
+        self.assertEqual((run.status, run.output), (2, b""))
+        self.assertIn("this tree has no program rewrite", run.said)
+
+
+class RealTree(InFolder):
+    def test_the_program_of_this_tree_is_newer_than_its_sources(self):
+        crates = building.needed(ROOT, "quality")
+        self.assertEqual(crates[-1], "quality")
+        self.assertTrue({"exact", "calls", "output", "load"} <= set(crates))
+        self.assertFalse({"io", "writing", "book_test"} & set(crates))
+        self.assertIsNone(building.reason_to_build(ROOT, PROGRAM, crates), "rt check quality builds it")

@@ -1,0 +1,63 @@
+"""The pages for staff say what the programs and the front do."""
+
+import re
+
+from front import sheet, words
+from front.calls import KINDS
+from front.refusals import MEANINGS
+from front.tests.common import ROOT, InFolder, settle
+
+PAGES = ("README.md", "docs/FILING.md")
+BLOCK = re.compile(r"^```(\w+)\n(.*?)^```$", re.MULTILINE | re.DOTALL)
+
+
+def page(name):
+    return (ROOT / name).read_text(encoding="utf-8")
+
+
+class Pages(InFolder):
+    def test_the_exercises_of_the_pages_print_what_the_pages_say(self):
+        for name in PAGES:
+            blocks = BLOCK.findall(page(name))
+            shown = [(calls, printed) for (kind, calls), (then, printed) in zip(blocks, blocks[1:]) if (kind, then) == ("calls", "printed")]
+            self.assertTrue(shown, name)
+            for calls, printed in shown:
+                self.assertEqual(settle(self.file("exercise.txt", calls)), (0, printed.encode(), ""))
+
+    def test_the_table_of_the_page_is_read(self):
+        tables = [text for kind, text in BLOCK.findall(page("docs/FILING.md")) if kind == "csv"]
+        self.assertEqual([sheet.read(table)[1] for table in tables], [[]])
+
+    def test_every_meaning_stands_there(self):
+        for number, meaning in MEANINGS.items():
+            self.assertIn(f"| {number} | {meaning} |\n", page("docs/FILING.md"))
+
+    def test_every_word_stands_there_with_its_number(self):
+        for kind in KINDS:
+            for place in kind.places:
+                for number, word in enumerate(place.words):
+                    self.assertIn(f"`{word}` {number}", page("docs/FILING.md"))
+
+    def test_the_calls_and_bytes_of_the_tables(self):
+        text = page("docs/FILING.md")
+        for kind in KINDS:
+            names = " ".join(place.name for place in kind.places)
+            self.assertIn(f"`{kind.name} {names.upper()}`", text)
+            content = ", ".join(f"{place.name} {place.bits // 8}" for place in kind.places)
+            self.assertIn(f"| {kind.tag} | {kind.name} | {kind.length} | {content} |", text)
+            columns = ", ".join(f"`{place.name}`" for place in kind.places)
+            self.assertIn(f"| `{kind.name}` | `call`, {columns} |", text)
+
+    def test_the_examples_of_the_calls(self):
+        examples = re.findall(r"^\| `[a-z]+ [A-Z ]+` \| .* \| `(.*)` \|$", page("docs/FILING.md"), re.MULTILINE)
+        self.assertEqual(len(examples), len(KINDS))
+        self.assertEqual(words.read("\n".join(examples))[1], [])
+
+    def test_the_mistakes_that_the_page_shows(self):
+        text = page("docs/FILING.md")
+        calls = next(block for kind, block in BLOCK.findall(text) if kind == "calls")
+        for right, wrong in [("file 50000", "file 5o000"), ("amount 1 2017 fees", "amount 2 2017 fees")]:
+            self.file("exercise.txt", calls.replace(right, wrong))
+            run = settle("exercise.txt", cwd=self.folder)
+            for line in (run.output.decode() + run.said).splitlines():
+                self.assertIn(f"    {line}\n", text)

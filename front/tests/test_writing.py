@@ -1,0 +1,39 @@
+"""--write with the proved writer, where the tree has it: the book comes out as a filing that settles alike."""
+
+import unittest
+
+from front.tests.common import EXERCISE, ROOT, InFolder, settle
+
+MISSING = "this tree has no crates/rewrite yet"
+
+
+@unittest.skipUnless((ROOT / "crates" / "rewrite").is_dir(), MISSING)
+class Writer(InFolder):
+    def test_a_written_book_settles_alike_and_is_written_alike(self):
+        once, twice = self.folder / "once.q", self.folder / "twice.q"
+        for path in [ROOT / "examples" / "case-m", ROOT / "examples" / "course", EXERCISE / "words", EXERCISE / "csv"]:
+            self.assertEqual(settle("--write", once, path), (0, b"", ""))
+            self.assertEqual(settle("--write", twice, once), (0, b"", ""))
+            self.assertEqual(once.read_bytes(), twice.read_bytes())
+            self.assertLessEqual(len(once.read_bytes()), 7067)
+            self.assertEqual(settle(once), settle(path))
+            self.assertEqual(settle("--write", "-", path).output, once.read_bytes())
+
+    def test_withdrawn_entries_are_gone(self):
+        path = self.file("calls.txt", "join 3\namount 3 2018 fees file 9\namount 3 2018 fees withdraw 9\nrates 0 7\n")
+        self.assertEqual(settle("--write", self.folder / "out.q", path).status, 0)
+        shown = settle("--show", self.folder / "out.q").output.decode()
+        self.assertEqual([line.split("#")[0].strip() for line in shown.splitlines()], ["join 3", "rates 0 7"])
+
+    def test_an_empty_book(self):
+        out = self.folder / "out.q"
+        self.assertEqual(settle("--write", out, self.file("calls.txt", "# nothing\n")), (0, b"", ""))
+        self.assertEqual(out.read_bytes(), b"")
+
+    def test_a_refused_filing_is_not_written(self):
+        out = self.file("out.q", b"kept")
+        run = settle("--write", out, self.file("calls.txt", "join 0\njoin 0\n"))
+        self.assertEqual((run.status, run.output, out.read_bytes()), (1, b"", b"kept"))
+        self.assertIn("calls.txt:2: refused: join 0", run.said)
+        run = settle("--write", out, self.file("calls.txt", "rates 1 1\n" * 6000))
+        self.assertEqual((run.status, run.output, out.read_bytes()), (1, b"", b"kept"))

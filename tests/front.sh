@@ -1,0 +1,16 @@
+#!/usr/bin/env bash
+# Tests the command that staff use, with real runs of the program; the exercise of these tests also by the model.
+set -euo pipefail
+. "$(dirname "$0")/common.sh"
+
+# All that is skipped is told with its reason.
+if ! python3 -B -m unittest --verbose >"$work/said" 2>&1; then
+    cat "$work/said" >&2
+    exit 1
+fi
+sed -n 's/.* \.\.\. skipped /front: skipped: /p' "$work/said" | sort | uniq
+sed -n 's/^Ran /front: /p' "$work/said"
+
+exercise=front/tests/exercise
+./settle "$exercise/bytes" | cmp - <("$model" program "$exercise/bytes/filing.q")
+echo "front: the exercise prints what the model prints"
