@@ -47,5 +47,18 @@ rewritten long 0
 [ "$(cat "$work/long/told")" = "too long" ] || fail "a filing that is too long is not told on standard error"
 echo "rewriting: the largest book has 7067 bytes, an empty filing 0"
 
+mkdir -p "$work/unreadable/filing.q"
+(cd "$work/unreadable" && "$rewrite" >written 2>told) || true
+[ ! -s "$work/unreadable/written" ] || fail "a filing that cannot be read writes something"
+[ -s "$work/unreadable/told" ] || fail "a filing that cannot be read is not told"
+
+# The test program of the writer has case M's written filing at the front of the buffers that are long enough, and their other bytes as
+# they were.
+bytes=$("$model" rewrite examples/case-m/filing.q | od -An -v -tx1 | tr -d ' \n')
+for length in 127 130; do
+    grep -qx "$length = 127 ${bytes}aaaaaa" crates/writer_test/stdout || fail "writer_test does not write what the model writes"
+done
+echo "rewriting: the writer's test program holds what the model writes"
+
 filings_agree rewriting
 wrong_model_is_noticed rewriting
