@@ -4,7 +4,7 @@ use libc::STDERR_FILENO;
 use libc::STDOUT_FILENO;
 use load::Loaded;
 use load::load_filing;
-use rewriting::Streamed;
+use rewriting::Stream;
 use rewriting::rewritten;
 
 fn main() {
@@ -18,14 +18,17 @@ fn main() {
 
 fn print_rewritten(filing: &[u8]) {
     let mut text = [0u8; 7067];
-    match rewritten(filing, &mut text) {
-        Streamed::Output(count) => print(STDOUT_FILENO, &text[..count]),
-        Streamed::Error(count) => print(STDERR_FILENO, &text[..count]),
+    let printed = rewritten(filing, &mut text);
+    let count = printed.count;
+    let stream = printed.stream;
+    if !io::write_all(descriptor_of(stream), &text[..count]) {
+        os::fail(b"output");
     }
 }
 
-fn print(fd: i32, text: &[u8]) {
-    if !io::write_all(fd, text) {
-        os::fail(b"output");
+fn descriptor_of(stream: Stream) -> i32 {
+    match stream {
+        Stream::Output => STDOUT_FILENO,
+        Stream::Error => STDERR_FILENO,
     }
 }

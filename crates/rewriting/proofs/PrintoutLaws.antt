@@ -1,7 +1,7 @@
 -- What the program prints for a filing, case by case: too long, refused at a field, or read to its end into a book that can be written.
 -- Assumes nothing.
 use Prim.Native.Nat.{ℕ, _≤_, _<_}
-use mathlib.Core.Path.{_≡_, refl, sym}
+use mathlib.Core.Path.{_≡_, refl, sym, _∙_}
 use mathlib.Core.Bool.{true, false, false≢true}
 use mathlib.Core.List.{List}
 use lib.ListN.{length}
@@ -15,7 +15,12 @@ use Rattle.filing.proofs.ReadLaws.{read-as-calls}
 use Rattle.text.specs.Text.{bytesOf}
 use Rattle.output.specs.Output.{refusedField}
 use Rattle.writing.specs.Written.{written}
-use Rattle.rewriting.specs.Rewriting.{standard-output, standard-error, Printout, printed, writtenOr, printoutOf}
+use Rattle.text.specs.declared.Filled.{Filled}
+use Rattle.text.specs.Buffer.{filledSaid}
+use Rattle.writer.specs.Writer.{writerAnswer}
+use Rattle.writer.proofs.AnswerLaws.{write-fits}
+use Rattle.rewriting.specs.declared.Stream.the-variants.{Output, Error}
+use Rattle.rewriting.specs.Rewriting.{Printout, onStream, writtenOr, printoutOf}
 
 -- what follows from an answer that is no refusal
 fine-printout : (answer : Said Acceptance) → isRefused answer ≡ false → (refused : ℕ → Printout) (printout : Printout)
@@ -28,18 +33,23 @@ module _ (filing : List ℕ) where
   pub read-in-range : inRange (read freshBook filing .book) ≡ true
   read-in-range = rw (read-as-calls freshBook filing fresh-in-range .left-book) (all-stay _ freshBook fresh-in-range)
 
-  pub printout-long : 65536 < length filing → printed standard-error (bytesOf "too long\n") ≡ printoutOf filing
+  pub printout-long : 65536 < length filing → onStream Error (bytesOf "too long\n") ≡ printoutOf filing
   unfolding printoutOf
   printout-long long = rw (lt-ltb 65536 (length filing) long) refl
 
   module _ (short : length filing ≤ 65536) where
     pub printout-refused : (number : ℕ) → read freshBook filing .said ≡ refused-by number
-        → printed standard-error (refusedField number (read freshBook filing .offset)) ≡ printoutOf filing
+        → onStream Error (refusedField number (read freshBook filing .offset)) ≡ printoutOf filing
     unfolding printoutOf writtenOr onAnswer
     printout-refused number refused = rw (le-ltb 65536 (length filing) short, refused) refl
 
     pub printout-read : isRefused (read freshBook filing .said) ≡ false
-        → printed standard-output (written (read freshBook filing .book)) ≡ printoutOf filing
+        → onStream Output (written (read freshBook filing .book)) ≡ printoutOf filing
     unfolding printoutOf writtenOr
     printout-read fine =
-        rw (le-ltb 65536 (length filing) short, fine-printout (read freshBook filing .said) fine _ (printed standard-output (written (read freshBook filing .book)))) refl
+        rw (le-ltb 65536 (length filing) short, fine-printout (read freshBook filing .said) fine _ (onStream Output (written (read freshBook filing .book)))) refl
+
+-- a book in range and a buffer that fits: what the writer said is the number of bytes
+pub wrote-all : (b : Book) (buffer : List ℕ) → inRange b ≡ true → length (written b) ≤ length buffer → (r : Filled) → filledSaid r ≡ writerAnswer b buffer
+    → filledSaid r ≡ accepted (length (written b))
+wrote-all b buffer ranged room r answered = answered ∙ sym (write-fits b buffer ranged room .0)

@@ -5,8 +5,8 @@ use mathlib.Core.Bool.{cond}
 use mathlib.Core.List.{List}
 use lib.Dec.{ltb}
 use lib.ListN.{length}
-use Rattle.rewriting.specs.declared.Streamed.{Streamed}
-use Rattle.rewriting.specs.declared.Streamed.the-variants.{Output, Error}
+use Rattle.rewriting.specs.declared.Stream.{Stream}
+use Rattle.rewriting.specs.declared.Stream.the-variants.{Output, Error}
 use Rattle.calls.specs.Answers.{onAnswer, Acceptance}
 use Rattle.book.specs.Book.{freshBook}
 use Rattle.filing.specs.Reader.{Outcome, read}
@@ -14,31 +14,23 @@ use Rattle.text.specs.Text.{bytesOf}
 use Rattle.output.specs.Output.{refusedField}
 use Rattle.writing.specs.Written.{written}
 
-pub data Stream : Type 0 where
-  standard-output : Stream
-  standard-error : Stream
-
 -- a text and where it goes; the other stream stays empty
 pub record Printout : Type 0 where
   pub stream : Stream
   pub text : List ℕ
 
-abbrev pub printed : Stream → List ℕ → Printout
-printed stream text = record { stream = stream; text = text }
+abbrev pub onStream : Stream → List ℕ → Printout
+onStream stream text = record { stream = stream; text = text }
 
 -- a filing that was read: the line of the first field refused, or the book's written filing
 unfoldable pub writtenOr : Outcome → Printout
 writtenOr r =
-    onAnswer (λ (number : ℕ). printed standard-error (refusedField number (r .offset)))
-    (λ (value : Acceptance). printed standard-output (written (r .book))) (r .said)
+    onAnswer (λ (number : ℕ). onStream Error (refusedField number (r .offset)))
+    (λ (value : Acceptance). onStream Output (written (r .book))) (r .said)
 
 unfoldable pub printoutOf : List ℕ → Printout
-printoutOf filing = cond (ltb 65536 (length filing)) (printed standard-error (bytesOf "too long\n")) (writtenOr (read freshBook filing))
+printoutOf filing = cond (ltb 65536 (length filing)) (onStream Error (bytesOf "too long\n")) (writtenOr (read freshBook filing))
 
--- where a text goes and how many bytes it has; what the code's answer says of that
+-- where a text goes and how many bytes it has
 abbrev pub toldOf : Printout → Stream × ℕ
 toldOf printout = (printout .stream, length (printout .text))
-
-abbrev pub toldBy : Streamed → Stream × ℕ
-toldBy (Output count) = (standard-output, count)
-toldBy (Error count) = (standard-error, count)

@@ -6,7 +6,7 @@ ghost use lib.ListN.{length};
 ghost use Rattle.book.specs.Book.{inRange};
 ghost use Rattle.text.specs.Buffer.{putInto};
 ghost use Rattle.writing.specs.Written.{written};
-ghost use Rattle.rewriting.specs.Rewriting.{printoutOf, toldOf, toldBy};
+ghost use Rattle.rewriting.specs.Rewriting.{printoutOf, toldOf};
 use book::Book;
 use calls::Answer;
 use calls::number_of;
@@ -17,32 +17,43 @@ use text::Filled;
 use text::put_word;
 use writer::write;
 
-// How many bytes go to standard output, or to standard error.
-pub enum Streamed {
-    Output(usize),
-    Error(usize),
+pub enum Stream {
+    Output,
+    Error,
+}
+
+// Where a text goes, and how many bytes it has.
+pub struct Printed {
+    pub stream: Stream,
+    pub count: usize,
 }
 
 // Puts what is printed at the front of a buffer that every written filing fits, leaves the bytes after it, and answers how many there are
 // and where they go.
-pub fn rewritten(filing: &[u8], out: &mut [u8; 7067]) -> Streamed
-    ensures { λ r. ⌜ toldBy r ≡ toldOf (printoutOf (now (filing .entry))) ⌝ }
+pub fn rewritten(filing: &[u8], out: &mut [u8; 7067]) -> Printed
+    ensures { λ r. ⌜ (r .stream, r .count) ≡ toldOf (printoutOf (now (filing .entry))) ⌝ }
     ensures { λ r. ⌜ now (out .exit) ≡ putInto (now (out .entry)) (printoutOf (now (filing .entry)) .text) ⌝ }
 {
     if LONGEST_FILING < filing.len() {
-        return Streamed::Error(put_word(out, 0, b"too long\n"));
+        let count = put_word(out, 0, b"too long\n");
+        return Printed {
+            stream: Stream::Error,
+            count,
+        };
     }
     let reading = read(book::fresh(), filing);
     let offset = reading.offset;
     let b = reading.book;
     let answer = reading.answer;
     match answer {
-        Answer::Refused(refusal) => Streamed::Error(put_refused_field(
-            out,
-            number_of(refusal),
-            offset,
-        )),
-        _ => Streamed::Output(put_book(out, b)),
+        Answer::Refused(refusal) => Printed {
+            stream: Stream::Error,
+            count: put_refused_field(out, number_of(refusal), offset),
+        },
+        _ => Printed {
+            stream: Stream::Output,
+            count: put_book(out, b),
+        },
     }
 }
 

@@ -3,11 +3,9 @@
 use Prim.Native.Nat.{ℕ}
 use mathlib.Core.Path.{_≡_, sym, ap, _∙_}
 use native.Mathlib.Omega.{arith}
-use lib.ListN.{length}
-use Rattle.calls.specs.Answers.{accepted}
 use Rattle.text.specs.Buffer.{filledSaid}
-use Rattle.writing.specs.Written.{written}
 use Rattle.writer.proofs.AnswerLaws.{write-fits}
+use Rattle.rewriting.proofs.PrintoutLaws.{wrote-all}
 use borrow.Author.Needs.{needs}
 use Rattle.rewriting.proofs.put_book.Statement.{statement}
 use Rattle.rewriting.proofs.put_book.Tie as tie
@@ -28,11 +26,9 @@ same-length c = search needs
 returns : tie.Need-returns
 returns c =
     let begun = c .before .before .before .before .before .before .before .before in
-    let fit = write-fits (begun .args .b) (begun .args .out .now) (begun .pre .0) (begun .pre .1) in
     let wrote = c .before .before .before .before .before .write in
-    let answered : filledSaid (wrote .result) ≡ accepted (length (written (begun .args .b))) = wrote .ensures .0 ∙ sym (fit .0) in
-    let counted = sym (ap filledSaid (c .before .count .given .1)) ∙ answered in
-    (cc, wrote .ensures .1 ∙ sym (fit .1))
+    let counted = sym (ap filledSaid (c .before .count .given .1)) ∙ wrote-all (begun .args .b) (begun .args .out .now) (begun .pre .0) (begun .pre .1) (wrote .result) (wrote .ensures .0) in
+    (cc, wrote .ensures .1 ∙ sym (write-fits (begun .args .b) (begun .args .out .now) (begun .pre .0) (begun .pre .1) .1))
 
 same-length-2 : tie.Need-same-length-2
 same-length-2 c = search needs
@@ -41,10 +37,8 @@ same-length-2 c = search needs
 returns-2 : tie.Need-returns-2
 returns-2 c =
     let begun = c .before .before .before .before .before .before .before .before in
-    let fit = write-fits (begun .args .b) (begun .args .out .now) (begun .pre .0) (begun .pre .1) in
     let wrote = c .before .before .before .before .before .write in
-    let answered : filledSaid (wrote .result) ≡ accepted (length (written (begun .args .b))) = wrote .ensures .0 ∙ sym (fit .0) in
-    let refused = sym (ap filledSaid (c .before .refusal .given .1)) ∙ answered in
+    let refused = sym (ap filledSaid (c .before .refusal .given .1)) ∙ wrote-all (begun .args .b) (begun .args .out .now) (begun .pre .0) (begun .pre .1) (wrote .result) (wrote .ensures .0) in
     let never : _≡_ {A = ℕ} 0 1 = cc in
     absurd (omega arith)
 

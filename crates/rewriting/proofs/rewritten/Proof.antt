@@ -15,7 +15,8 @@ use Rattle.output.specs.Output.{refusedField}
 use Rattle.output.proofs.RefusalLaws.{at-front}
 use Rattle.writing.specs.Written.{written}
 use Rattle.writing.proofs.WrittenLaws.{written-out}
-use Rattle.rewriting.specs.Rewriting.{Printout, standard-output, standard-error, printed, toldOf}
+use Rattle.rewriting.specs.declared.Stream.the-variants.{Output, Error}
+use Rattle.rewriting.specs.Rewriting.{Printout, onStream, toldOf}
 use Rattle.rewriting.proofs.PrintoutLaws.{read-in-range, printout-long, printout-refused, printout-read}
 use borrow.Author.Needs.{needs}
 use Rattle.rewriting.proofs.rewritten.Statement.{statement}
@@ -34,7 +35,7 @@ returns c =
     let begun = c .before .before .before .before .before in
     let front = at-front (begun .args .out .now) (bytesOf "too long\n") (c .put-word .ensures) in
     let text = printout-long (begun .args .filing .now) (omega arith) in
-    ((λ i. (standard-error, front .0 i)) ∙ ap toldOf text, front .1 ∙ ap (λ (p : Printout). putInto (begun .args .out .now) (p .text)) text)
+    ((λ i. (Error, front .0 i)) ∙ ap toldOf text, front .1 ∙ ap (λ (p : Printout). putInto (begun .args .out .now) (p .text)) text)
 
 fresh-requires : tie.Need-fresh-requires
 fresh-requires c κs = search needs
@@ -70,8 +71,8 @@ returns-2 c =
     let refused = ap (λ (r : Outcome). r .said) (sym same) ∙ ap said (c .before .before .before .before .answer .given .1) in
     let number = c .before .number-of .ensures in
     let line = c .put-refused-field .ensures in
-    let text : printed standard-error (refusedField (c .before .number-of .result) (reading .result .offset)) ≡ _ = (λ i. printed standard-error (refusedField (number i) (same i .offset))) ∙ printout-refused filing (omega (arith, c .before .before .before .before .before .before .before .before .before .if1 .left)) _ refused in
-    ((λ i. (standard-error, line .0 i)) ∙ ap toldOf text, line .1 ∙ ap (λ (p : Printout). putInto (begun .args .out .now) (p .text)) text)
+    let text : onStream Error (refusedField (c .before .number-of .result) (reading .result .offset)) ≡ _ = (λ i. onStream Error (refusedField (number i) (same i .offset))) ∙ printout-refused filing (omega (arith, c .before .before .before .before .before .before .before .before .before .if1 .left)) _ refused in
+    ((λ i. (Error, line .0 i)) ∙ ap toldOf text, line .1 ∙ ap (λ (p : Printout). putInto (begun .args .out .now) (p .text)) text)
 
 -- read to its end
 returns-3 : tie.Need-returns-3
@@ -82,8 +83,8 @@ returns-3 c =
     let same : told (reading .result) ≡ read freshBook filing = reading .ensures ∙ ap (λ (b : Book). read b filing) (c .before .before .before .before .before .fresh .ensures) in
     let fine = ap (λ (r : Outcome). isRefused (r .said)) (sym same) ∙ told-accepted (reading .result .answer) (c .before .before .match .keys2) in
     let bytes = c .put-book .ensures in
-    let text = ap (λ (r : Outcome). printed standard-output (written (r .book))) same ∙ printout-read filing (omega (arith, c .before .before .before .before .before .before .if1 .left)) fine in
-    ((λ i. (standard-output, bytes .0 i)) ∙ ap toldOf text, bytes .1 ∙ ap (λ (p : Printout). putInto (begun .args .out .now) (p .text)) text)
+    let text = ap (λ (r : Outcome). onStream Output (written (r .book))) same ∙ printout-read filing (omega (arith, c .before .before .before .before .before .before .if1 .left)) fine in
+    ((λ i. (Output, bytes .0 i)) ∙ ap toldOf text, bytes .1 ∙ ap (λ (p : Printout). putInto (begun .args .out .now) (p .text)) text)
 
 pub rewritten-spec : {M : Type 1} → statement M
 rewritten-spec =
