@@ -6,7 +6,7 @@ use mathlib.Core.List.{List}
 use lib.Dec.{ltb, leb, eqb}
 use lib.ListN.{length, getD, replicate}
 use Rattle.book.specs.declared.Book.{Book}
-use Rattle.calls.specs.Limits.{operators, years, figureCount, settingCount, indicatorCount, indexCount, settingLimit, figureLimit, rateLimit, indexLeast, indexMost}
+use Rattle.calls.specs.Limits.{operators, years, figureCount, settingCount, indicatorCount, indexCount, settingLimit, figureLimit, rateLimit, indexLeast, indexMost, freshIndex}
 use Rattle.calls.specs.Masks.{has}
 use Rattle.calls.specs.Held.{Held, held}
 
@@ -19,7 +19,7 @@ bookWith joined marks settings figures pot cap indices =
 unfoldable pub freshBook : Book
 freshBook =
     bookWith 0 (replicate indicatorCount 0) (replicate (operators * settingCount) 0) (replicate (operators * years * figureCount) 0)
-    0 0 (replicate indexCount 10000)
+    0 0 (replicate indexCount freshIndex)
 
 -- where a setting and a figure stand
 unfoldable pub settingSlot : ℕ → ℕ → ℕ

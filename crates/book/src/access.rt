@@ -1,11 +1,23 @@
 // A fresh book, and what a book holds, by name.
 ghost use mathlib.Core.Path.{_≡_};
 ghost use mathlib.Core.Bool.{cond, _&&_};
-ghost use Prim.Native.Nat.{_<_};
+ghost use Prim.Native.Nat.{_*_, _<_};
 ghost use lib.Dec.{ltb};
 ghost use Rattle.calls.specs.Limits.{operators, years, settingCount, figureCount};
 ghost use Rattle.book.specs.Book.{freshBook, isJoined, settingSlot, figureSlot, settingOf, figureOf};
 use crate::Book;
+use calls::FIGURE_PLACES;
+use calls::FIGURES;
+use calls::FRESH_INDEX;
+use calls::INDICATORS;
+use calls::INDICES;
+use calls::LAST_FIGURE;
+use calls::LAST_OPERATOR;
+use calls::LAST_SETTING;
+use calls::LAST_YEAR;
+use calls::SETTING_PLACES;
+use calls::SETTINGS;
+use calls::YEARS;
 use calls::has_bit;
 
 pub fn fresh() -> Book
@@ -13,12 +25,12 @@ pub fn fresh() -> Book
 {
     Book {
         joined: 0,
-        marks: [0u16; 6],
-        settings: [0u64; 48],
-        figures: [0u64; 384],
+        marks: [0u16; INDICATORS],
+        settings: [0u64; SETTING_PLACES],
+        figures: [0u64; FIGURE_PLACES],
         pot_rate: 0,
         cap_rate: 0,
-        indices: [10000u32; 4],
+        indices: [FRESH_INDEX; INDICES],
     }
 }
 
@@ -32,10 +44,10 @@ pub fn is_joined(b: Book, operator: u8) -> bool
 pub fn setting_of(b: Book, operator: u8, which: u8) -> u64
     ensures { λ r. ⌜ r ≡ cond (ltb operator operators && ltb which settingCount) (settingOf b operator which) 0 ⌝ }
 {
-    if 15 < operator {
+    if LAST_OPERATOR < operator {
         return 0;
     }
-    if 2 < which {
+    if LAST_SETTING < which {
         return 0;
     }
     let settings = b.settings;
@@ -46,22 +58,22 @@ pub fn setting_of(b: Book, operator: u8, which: u8) -> u64
 // Where a setting of an operator stands.
 pub fn setting_slot(operator: u8, which: u8) -> usize
     requires { ⌜ (operator < operators) × (which < settingCount) ⌝ }
-    ensures { λ r. ⌜ (r ≡ settingSlot operator which) × (r < 48) ⌝ }
+    ensures { λ r. ⌜ (r ≡ settingSlot operator which) × (r < operators * settingCount) ⌝ }
 {
-    operator as usize * 3 + which as usize
+    operator as usize * SETTINGS + which as usize
 }
 
 // A figure of an operator and year; 0 for an operator, a year or a figure that there is not.
 pub fn figure_of(b: Book, operator: u8, year: u8, figure: u8) -> u64
     ensures { λ r. ⌜ r ≡ cond (ltb operator operators && ltb year years && ltb figure figureCount) (figureOf b operator year figure) 0 ⌝ }
 {
-    if 15 < operator {
+    if LAST_OPERATOR < operator {
         return 0;
     }
-    if 2 < year {
+    if LAST_YEAR < year {
         return 0;
     }
-    if 7 < figure {
+    if LAST_FIGURE < figure {
         return 0;
     }
     let figures = b.figures;
@@ -72,7 +84,7 @@ pub fn figure_of(b: Book, operator: u8, year: u8, figure: u8) -> u64
 // Where a figure of an operator and year stands.
 pub fn figure_slot(operator: u8, year: u8, figure: u8) -> usize
     requires { ⌜ (operator < operators) × (year < years) × (figure < figureCount) ⌝ }
-    ensures { λ r. ⌜ (r ≡ figureSlot operator year figure) × (r < 384) ⌝ }
+    ensures { λ r. ⌜ (r ≡ figureSlot operator year figure) × (r < operators * years * figureCount) ⌝ }
 {
-    (operator as usize * 3 + year as usize) * 8 + figure as usize
+    (operator as usize * YEARS + year as usize) * FIGURES + figure as usize
 }

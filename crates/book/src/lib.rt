@@ -8,20 +8,24 @@ pub use access::fresh;
 pub use access::is_joined;
 pub use access::setting_of;
 pub use access::setting_slot;
+use calls::FIGURE_PLACES;
+use calls::INDICATORS;
+use calls::INDICES;
+use calls::SETTING_PLACES;
 pub use range::in_range;
 
 pub struct Book {
     // Sixteen bits, one an operator.
     pub joined: u16,
     // Sixteen bits for each indicator: 1 is unreliable.
-    pub marks: [u16; 6],
-    // At operator * 3 + which: cabins, active access points, income in cents.
-    pub settings: [u64; 48],
-    // At (operator * 3 + year) * 8 + figure.
-    pub figures: [u64; 384],
+    pub marks: [u16; INDICATORS],
+    // At setting_slot(operator, which): cabins, active access points, income in cents.
+    pub settings: [u64; SETTING_PLACES],
+    // At figure_slot(operator, year, figure).
+    pub figures: [u64; FIGURE_PLACES],
     // Rates in millionths.
     pub pot_rate: u32,
     pub cap_rate: u32,
     // In hundredths; the last is that of June 2013.
-    pub indices: [u32; 4],
+    pub indices: [u32; INDICES],
 }

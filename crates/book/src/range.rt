@@ -2,11 +2,19 @@
 ghost use mathlib.Core.Path.{_≡_};
 ghost use mathlib.Core.Bool.{cond, not, _&&_, _||_};
 ghost use lib.Dec.{leb};
+ghost use Rattle.calls.specs.Limits.{indexLeast, indexMost};
 ghost use Rattle.calls.specs.Masks.{has};
 ghost use Rattle.book.specs.Book.{hasSixteenBits, settingsInRange, figuresInRange, marksInRange, ratesInRange, indicesInRange, inRange};
 use crate::Book;
 use calls::FIGURE_LIMIT;
+use calls::FIGURE_PLACES;
+use calls::INDEX_LEAST;
 use calls::INDEX_MOST;
+use calls::INDICES;
+use calls::MARK_PLACES;
+use calls::OPERATOR_FIGURES;
+use calls::SETTING_PLACES;
+use calls::SETTINGS;
 use calls::has_bit;
 use calls::setting_limit;
 
@@ -34,8 +42,8 @@ fn settings_in_range(b: Book) -> bool
     let joined = b.joined;
     let settings = b.settings;
     let mut i = 0;
-    while i < 48 {
-        if most_allowed(joined, (i / 3) as u8, setting_limit((i % 3) as u8)) < settings[i] {
+    while i < SETTING_PLACES {
+        if most_allowed(joined, (i / SETTINGS) as u8, setting_limit((i % SETTINGS) as u8)) < settings[i] {
             return false;
         }
         i += 1;
@@ -49,8 +57,8 @@ fn figures_in_range(b: Book) -> bool
     let joined = b.joined;
     let figures = b.figures;
     let mut i = 0;
-    while i < 384 {
-        if most_allowed(joined, (i / 24) as u8, FIGURE_LIMIT) < figures[i] {
+    while i < FIGURE_PLACES {
+        if most_allowed(joined, (i / OPERATOR_FIGURES) as u8, FIGURE_LIMIT) < figures[i] {
             return false;
         }
         i += 1;
@@ -74,7 +82,7 @@ fn marks_in_range(b: Book) -> bool
     let joined = b.joined;
     let marks = b.marks;
     let mut i = 0;
-    while i < 96 {
+    while i < MARK_PLACES {
         if !mark_allowed(marks[i / 16], joined, (i % 16) as u8) {
             return false;
         }
@@ -104,7 +112,7 @@ fn indices_in_range(b: Book) -> bool
 {
     let indices = b.indices;
     let mut i = 0;
-    while i < 4 {
+    while i < INDICES {
         if !index_within(indices[i]) {
             return false;
         }
@@ -114,9 +122,9 @@ fn indices_in_range(b: Book) -> bool
 }
 
 fn index_within(value: u32) -> bool
-    ensures { λ r. ⌜ r ≡ leb 1 value && leb value 100000 ⌝ }
+    ensures { λ r. ⌜ r ≡ leb indexLeast value && leb value indexMost ⌝ }
 {
-    if value < 1 {
+    if value < INDEX_LEAST {
         return false;
     }
     value <= INDEX_MOST

@@ -14,6 +14,7 @@ use Rattle.calls.specs.declared.Reason.{Reason}
 use Rattle.calls.specs.declared.Reason.the-variants.{Short, Planned, Coupled, Exceptional}
 use Rattle.calls.specs.declared.Judged.{Judged}
 use Rattle.calls.specs.Answers.{leftOutAs}
+use Rattle.calls.specs.Limits.{weightLimit}
 use Rattle.calls.specs.Call.{timesInRange, weightInRange, detailsInRange, secondsOf, yearOf, interruptionEntries, factsOf}
 use Rattle.calls.specs.Steps.{judgedSays, JudgedAs}
 use Rattle.calls.proofs.Flags.{both, and-false-right}
@@ -45,7 +46,7 @@ other-cause (suc n) not-one not-two not-three = rw (lt-leb (suc n) 3 (omega arit
 pub record Details (sign level cause weight : ℕ) : Type 0 where
   pub sign-most : sign ≤ 1
   pub level-most : level ≤ 1
-  pub weight-most : weight ≤ 100000
+  pub weight-most : weight ≤ weightLimit
 
 pub details : (sign level cause weight : ℕ) → detailsInRange sign level cause weight ≡ true → Details sign level cause weight
 unfolding detailsInRange weightInRange
@@ -58,6 +59,6 @@ details sign level cause weight e =
       weight-most = go (eqb level 0) (weighted .1);
     }
   where
-    go : (t : Bool) → cond t (leb 1 weight && leb weight 100000) (eqb weight 1) ≡ true → weight ≤ 100000
-    go true h = leb-true weight 100000 (both (leb 1 weight) (leb weight 100000) h .1)
+    go : (t : Bool) → cond t (leb 1 weight && leb weight weightLimit) (eqb weight 1) ≡ true → weight ≤ weightLimit
+    go true h = leb-true weight weightLimit (both (leb 1 weight) (leb weight weightLimit) h .1)
     go false h = omega (arith, eqb-true weight 1 h)

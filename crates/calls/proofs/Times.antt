@@ -11,6 +11,7 @@ use mir.Syntax.{w64}
 use mir.Val.{SFits, toZ, ofZ}
 use mir.Facts.{toZ-ofZ}
 use borrow.Author.Tests.{le-ltb, le-leb, lt-leb, ltb-true, ltb-false, leb-true}
+use Rattle.calls.specs.Limits.{lastEnd, longest}
 use Rattle.calls.specs.Call.{timesInRange, secondsOf, yearOf}
 use Rattle.calls.proofs.Flags.{both}
 
@@ -76,9 +77,9 @@ pub year-lt : {start end : ℤ} → Timed start end → yearOf end < 3
 unfolding yearOf
 year-lt t = rw (t .end-is) (omega (arith, t .stop-most))
 
-pub seconds-lt : {start end : ℤ} → Timed start end → secondsOf start end < 126144000
+pub seconds-most : {start end : ℤ} → Timed start end → secondsOf start end ≤ longest
 unfolding secondsOf
-seconds-lt t = rw (t .length-is) (omega (arith, t .length-most))
+seconds-most t = rw (t .length-is) (omega (arith, t .length-most))
 
 -- the tests of the code, one after the other
 module _ (start end : ℤ) where
@@ -87,15 +88,15 @@ module _ (start end : ℤ) where
   before-2017 t = rw (below (pos 0) end t) refl
 
   module _ (from : ltZ end (pos 0) ≡ false) where
-    pub after-2019 : ltZ (pos 94607999) end ≡ true → timesInRange start end ≡ false
+    pub after-2019 : ltZ (pos lastEnd) end ≡ true → timesInRange start end ≡ false
     unfolding timesInRange
-    after-2019 t = rw (not-below (pos 0) end from, below end (pos 94607999) t) refl
+    after-2019 t = rw (not-below (pos 0) end from, below end (pos lastEnd) t) refl
 
-    module _ (to : ltZ (pos 94607999) end ≡ false) where
+    module _ (to : ltZ (pos lastEnd) end ≡ false) where
       pub too-early : ltZ start (negsuc 31535999) ≡ true → timesInRange start end ≡ false
       unfolding timesInRange
-      too-early t = rw (not-below (pos 0) end from, not-below end (pos 94607999) to, below (negsuc 31535999) start t) refl
+      too-early t = rw (not-below (pos 0) end from, not-below end (pos lastEnd) to, below (negsuc 31535999) start t) refl
 
       pub in-order : ltZ start (negsuc 31535999) ≡ false → timesInRange start end ≡ leZ start end
       unfolding timesInRange
-      in-order early = rw (not-below (pos 0) end from, not-below end (pos 94607999) to, not-below (negsuc 31535999) start early) refl
+      in-order early = rw (not-below (pos 0) end from, not-below end (pos lastEnd) to, not-below (negsuc 31535999) start early) refl

@@ -8,16 +8,16 @@ use lib.IntN.{ℤ, pos, negℤ, natAbs, _-ℤ_}
 use lib.Signed.{leZ}
 use Rattle.calls.specs.declared.Call.{Call}
 use Rattle.calls.specs.declared.Call.the-variants.{Join, Setting, Interruption, Amount, Mark, Rates, Index}
-use Rattle.calls.specs.Limits.{years, figureCount, settingCount, indicatorCount, indexCount, settingLimit, rateLimit, indexLeast, indexMost, yearLength}
+use Rattle.calls.specs.Limits.{years, figureCount, settingCount, indicatorCount, indexCount, settingLimit, rateLimit, indexLeast, indexMost, yearLength, lastEnd, startBefore, weightLimit, shortMost}
 use Rattle.calls.specs.Answers.{Acceptance, yes-said, counted-in, left-out-as-short, left-out-under}
 
 -- "End is 0 to 94,607,999, start at least -31,536,000 and at most end"
 unfoldable pub timesInRange : ℤ → ℤ → Bool
-timesInRange start end = leZ (pos 0) end && leZ end (pos 94607999) && leZ (negℤ (pos 31536000)) start && leZ start end
+timesInRange start end = leZ (pos 0) end && leZ end (pos lastEnd) && leZ (negℤ (pos startBefore)) start && leZ start end
 
 -- "Weight is the number of cabins, 1 to 100,000, for MV and 1 for LV"; level 0 is MV, 1 is LV
 unfoldable pub weightInRange : ℕ → ℕ → Bool
-weightInRange level weight = cond (eqb level 0) (leb 1 weight && leb weight 100000) (eqb weight 1)
+weightInRange level weight = cond (eqb level 0) (leb 1 weight && leb weight weightLimit) (eqb weight 1)
 
 -- an interruption's values other than its times
 unfoldable pub detailsInRange : ℕ → ℕ → ℕ → ℕ → Bool
@@ -33,7 +33,7 @@ yearOf end = natAbs end / yearLength
 
 -- "An interruption of 180 seconds or less is left out as short; else cause 1, 2 or 3 is left out under that cause; else it counts"
 unfoldable pub outcome : ℕ → ℕ → ℕ → Acceptance
-outcome cause seconds year = cond (leb seconds 180) left-out-as-short (cond (leb 1 cause && leb cause 3) (left-out-under cause) (counted-in year))
+outcome cause seconds year = cond (leb seconds shortMost) left-out-as-short (cond (leb 1 cause && leb cause 3) (left-out-under cause) (counted-in year))
 
 -- a value for a figure of an operator and year: added with sign 0, subtracted with sign 1
 pub record Entry : Type 0 where

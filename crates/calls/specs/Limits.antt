@@ -1,6 +1,6 @@
 -- The ranges of document 01, "The book".
 -- Assumes nothing.
-use Prim.Native.Nat.{ℕ, zero, suc}
+use Prim.Native.Nat.{ℕ, zero, suc, _+_, _*_, _-_}
 
 abbrev pub operators : ℕ
 operators = 16
@@ -43,6 +43,29 @@ indexLeast = 1
 abbrev pub indexMost : ℕ
 indexMost = 100000
 
+-- "all four indices 10,000"
+abbrev pub freshIndex : ℕ
+freshIndex = 10000
+
 -- seconds in a year
 abbrev pub yearLength : ℕ
 yearLength = 31536000
+
+-- "End is 0 to 94,607,999, start at least -31,536,000": the last second of the three years, and how far before them one may begin
+abbrev pub lastEnd : ℕ
+lastEnd = 94607999
+
+abbrev pub startBefore : ℕ
+startBefore = 31536000
+
+-- "Weight is the number of cabins, 1 to 100,000, for MV"
+abbrev pub weightLimit : ℕ
+weightLimit = 100000
+
+-- "An interruption of 180 seconds or less is left out as short"
+abbrev pub shortMost : ℕ
+shortMost = 180
+
+-- no interruption lasts longer
+abbrev pub longest : ℕ
+longest = lastEnd + startBefore

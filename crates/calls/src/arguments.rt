@@ -3,15 +3,22 @@ ghost use mathlib.Core.Path.{_≡_};
 ghost use Rattle.calls.specs.Limits.{settingLimit};
 ghost use Rattle.calls.specs.Call.{factsOf};
 use crate::Call;
-
-const RATE_LIMIT: u32 = 20000;
-
-pub const INDEX_MOST: u32 = 100000;
+use crate::limits::ACCESS_POINT_LIMIT;
+use crate::limits::CABIN_LIMIT;
+use crate::limits::INCOME_LIMIT;
+use crate::limits::INDEX_LEAST;
+use crate::limits::INDEX_MOST;
+use crate::limits::LAST_FIGURE;
+use crate::limits::LAST_INDEX;
+use crate::limits::LAST_INDICATOR;
+use crate::limits::LAST_SETTING;
+use crate::limits::LAST_YEAR;
+use crate::limits::RATE_LIMIT;
 
 pub fn setting_in_range(which: u8, value: u64) -> bool
     ensures { λ r. ⌜ r ≡ factsOf (Call.Setting 0 which value) .in-range ⌝ }
 {
-    if 2 < which {
+    if LAST_SETTING < which {
         return false;
     }
     value <= setting_limit(which)
@@ -21,21 +28,21 @@ pub fn setting_limit(which: u8) -> u64
     ensures { λ r. ⌜ r ≡ settingLimit which ⌝ }
 {
     if which == 0 {
-        return 100000;
+        return CABIN_LIMIT;
     }
     if which == 1 {
-        return 4000000;
+        return ACCESS_POINT_LIMIT;
     }
-    100000000000
+    INCOME_LIMIT
 }
 
 pub fn amount_in_range(year: u8, figure: u8, sign: u8) -> bool
     ensures { λ r. ⌜ r ≡ factsOf (Call.Amount 0 year figure sign 0) .in-range ⌝ }
 {
-    if 2 < year {
+    if LAST_YEAR < year {
         return false;
     }
-    if 7 < figure {
+    if LAST_FIGURE < figure {
         return false;
     }
     sign <= 1
@@ -44,7 +51,7 @@ pub fn amount_in_range(year: u8, figure: u8, sign: u8) -> bool
 pub fn mark_in_range(indicator: u8, mark: u8) -> bool
     ensures { λ r. ⌜ r ≡ factsOf (Call.Mark 0 indicator mark) .in-range ⌝ }
 {
-    if 5 < indicator {
+    if LAST_INDICATOR < indicator {
         return false;
     }
     mark <= 1
@@ -62,10 +69,10 @@ pub fn rates_in_range(pot: u32, cap: u32) -> bool
 pub fn index_in_range(number: u8, value: u32) -> bool
     ensures { λ r. ⌜ r ≡ factsOf (Call.Index number value) .in-range ⌝ }
 {
-    if 3 < number {
+    if LAST_INDEX < number {
         return false;
     }
-    if value < 1 {
+    if value < INDEX_LEAST {
         return false;
     }
     value <= INDEX_MOST

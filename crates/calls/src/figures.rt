@@ -2,8 +2,7 @@
 ghost use mathlib.Core.Path.{_≡_};
 ghost use Rattle.calls.specs.Steps.{movedBy};
 use crate::Moved;
-
-pub const FIGURE_LIMIT: u64 = 100000000000;
+use crate::limits::FIGURE_LIMIT;
 
 // A figure with a value added, or with sign 1 subtracted.
 pub fn move_figure(sign: u8, value: u64, old: u64) -> Moved

@@ -6,19 +6,11 @@ ghost use Rattle.calls.specs.Steps.{JudgedAs};
 use crate::Call;
 use crate::Judged;
 use crate::Reason;
-
-const YEAR: u64 = 31536000;
-
-// The last second of the three years.
-const LAST_END: i64 = 94607999;
-
-// The first second of the year before them: an interruption may have begun then.
-const FIRST_START: i64 = -31536000;
-
-const MOST_CABINS: u32 = 100000;
-
-// Up to this many seconds an interruption is short.
-const SHORT: u64 = 180;
+use crate::limits::FIRST_START;
+use crate::limits::LAST_END;
+use crate::limits::SHORT;
+use crate::limits::WEIGHT_LIMIT;
+use crate::limits::YEAR_LENGTH;
 
 pub fn interruption_in_range(
     sign: u8,
@@ -60,7 +52,7 @@ fn weight_in_range(level: u8, weight: u32) -> bool
     if weight < 1 {
         return false;
     }
-    weight <= MOST_CABINS
+    weight <= WEIGHT_LIMIT
 }
 
 fn times_in_range(start: i64, end: i64) -> bool
@@ -84,7 +76,7 @@ pub fn year_of(start: i64, end: i64) -> u8
     ensures { λ r. ⌜ r ≡ yearOf end ⌝ }
 {
     let stop = end as u64;
-    (stop / YEAR) as u8
+    (stop / YEAR_LENGTH) as u8
 }
 
 // How long an interruption lasts.

@@ -2,12 +2,13 @@
 ghost use mathlib.Core.Path.{_≡_};
 ghost use Prim.Native.Nat.{_<_};
 ghost use Rattle.calls.specs.Masks.{has, including, excluding, remasked};
+use crate::limits::LAST_OPERATOR;
 
 // Whether bit k of a mask is set.
 pub fn has_bit(mask: u16, k: u8) -> bool
     ensures { λ r. ⌜ r ≡ has mask k ⌝ }
 {
-    if 15 < k {
+    if LAST_OPERATOR < k {
         return false;
     }
     (mask >> k) % 2 == 1

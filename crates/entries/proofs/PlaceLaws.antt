@@ -14,34 +14,43 @@ use Rattle.calls.specs.declared.Call.the-variants.{Amount}
 use Rattle.calls.specs.Limits.{operators, years, figureCount, settingCount, indicatorCount, indexCount}
 use Rattle.book.specs.Book.{isJoined, isMarked, settingOf, figureOf, indexOf}
 use Rattle.writing.specs.Written.{inTurn, unlessFresh, joinCalls, settingCalls, amountCalls, markCalls, indexCalls, rateCalls, writtenCalls}
-use Rattle.entries.specs.Entries.{joinAt, settingAt, amountAt, markAt, indexAt, ratesAt, callsAt}
+use Rattle.entries.specs.Entries.{joinAt, settingAt, amountAt, markAt, indexAt, ratesAt, settingsFrom, amountsFrom, marksFrom, indicesFrom, ratesFrom, places, callsAt}
+
+abbrev settingPlaces : ℕ
+settingPlaces = operators * settingCount
+
+abbrev figurePlaces : ℕ
+figurePlaces = operators * (years * figureCount)
+
+abbrev markPlaces : ℕ
+markPlaces = operators * indicatorCount
 
 module _ (b : Book) (place : ℕ) where
-  pub place-join : place < 16 → callsAt b place ≡ joinAt (b .joined) place
+  pub place-join : place < settingsFrom → callsAt b place ≡ joinAt (b .joined) place
   unfolding callsAt
-  place-join lt = rw (lt-ltb place 16 lt) refl
+  place-join lt = rw (lt-ltb place settingsFrom lt) refl
 
-  pub place-setting : 16 ≤ place → place < 64 → callsAt b place ≡ settingAt (b .settings) (place - 16)
+  pub place-setting : settingsFrom ≤ place → place < amountsFrom → callsAt b place ≡ settingAt (b .settings) (place - settingsFrom)
   unfolding callsAt
-  place-setting le lt = rw (le-ltb place 16 le, lt-ltb place 64 lt) refl
+  place-setting le lt = rw (le-ltb place settingsFrom le, lt-ltb place amountsFrom lt) refl
 
-  pub place-amount : 64 ≤ place → place < 448 → callsAt b place ≡ amountAt (b .figures) (place - 64)
+  pub place-amount : amountsFrom ≤ place → place < marksFrom → callsAt b place ≡ amountAt (b .figures) (place - amountsFrom)
   unfolding callsAt
-  place-amount le lt = rw (le-ltb place 16 (omega arith), le-ltb place 64 le, lt-ltb place 448 lt) refl
+  place-amount le lt = rw (le-ltb place settingsFrom (omega arith), le-ltb place amountsFrom le, lt-ltb place marksFrom lt) refl
 
-  pub place-mark : 448 ≤ place → place < 544 → callsAt b place ≡ markAt (b .marks) (place - 448)
+  pub place-mark : marksFrom ≤ place → place < indicesFrom → callsAt b place ≡ markAt (b .marks) (place - marksFrom)
   unfolding callsAt
-  place-mark le lt = rw (le-ltb place 16 (omega arith), le-ltb place 64 (omega arith), le-ltb place 448 le, lt-ltb place 544 lt) refl
+  place-mark le lt = rw (le-ltb place settingsFrom (omega arith), le-ltb place amountsFrom (omega arith), le-ltb place marksFrom le, lt-ltb place indicesFrom lt) refl
 
-  pub place-index : 544 ≤ place → place < 548 → callsAt b place ≡ indexAt (b .indices) (place - 544)
+  pub place-index : indicesFrom ≤ place → place < ratesFrom → callsAt b place ≡ indexAt (b .indices) (place - indicesFrom)
   unfolding callsAt
   place-index le lt =
-      rw (le-ltb place 16 (omega arith), le-ltb place 64 (omega arith), le-ltb place 448 (omega arith), le-ltb place 544 le, lt-ltb place 548 lt) refl
+      rw (le-ltb place settingsFrom (omega arith), le-ltb place amountsFrom (omega arith), le-ltb place marksFrom (omega arith), le-ltb place indicesFrom le, lt-ltb place ratesFrom lt) refl
 
-  pub place-rates : 548 ≤ place → callsAt b place ≡ ratesAt (b .«pot_rate») (b .«cap_rate»)
+  pub place-rates : ratesFrom ≤ place → callsAt b place ≡ ratesAt (b .«pot_rate») (b .«cap_rate»)
   unfolding callsAt
   place-rates le =
-      rw (le-ltb place 16 (omega arith), le-ltb place 64 (omega arith), le-ltb place 448 (omega arith), le-ltb place 544 (omega arith), le-ltb place 548 le) refl
+      rw (le-ltb place settingsFrom (omega arith), le-ltb place amountsFrom (omega arith), le-ltb place marksFrom (omega arith), le-ltb place indicesFrom (omega arith), le-ltb place ratesFrom le) refl
 
 module _ {A : Type 0} where
   -- the same lists in turn
@@ -80,45 +89,45 @@ module _ (b : Book) where
   abbrev at : ℕ → List Call
   at = callsAt b
 
-  joins-placed : joinCalls b ≡ inTurn 16 at
+  joins-placed : joinCalls b ≡ inTurn settingsFrom at
   unfolding joinCalls joinAt isJoined
-  joins-placed = turns-alike 16 _ at (λ k lt. sym (place-join b k lt))
+  joins-placed = turns-alike settingsFrom _ at (λ k lt. sym (place-join b k lt))
 
-  settings-placed : settingCalls b ≡ inTurn 48 (λ (k : ℕ). at (16 + k))
+  settings-placed : settingCalls b ≡ inTurn settingPlaces (λ (k : ℕ). at (settingsFrom + k))
   unfolding settingCalls settingAt settingOf
   settings-placed =
       turns-rows operators settingCount _
-      ∙ turns-from 48 16 at (settingAt (b .settings)) (λ k lt. place-setting b (16 + k) (omega arith) (omega arith))
+      ∙ turns-from settingPlaces settingsFrom at (settingAt (b .settings)) (λ k lt. place-setting b (settingsFrom + k) (omega arith) (omega arith))
 
   -- an amount of a figure
   abbrev amountOf : ℕ → ℕ → ℕ → List Call
   amountOf operator year figure =
       unlessFresh (figureOf b operator year figure) 0 (Amount operator year figure 0 (figureOf b operator year figure))
 
-  amounts-placed : amountCalls b ≡ inTurn 384 (λ (k : ℕ). at (64 + k))
+  amounts-placed : amountCalls b ≡ inTurn figurePlaces (λ (k : ℕ). at (amountsFrom + k))
   unfolding amountCalls amountAt figureOf
   amounts-placed =
       turns-alike operators _ _ (λ operator lt. turns-rows years figureCount (amountOf operator))
       ∙ turns-rows operators (years * figureCount) (λ (operator k : ℕ). amountOf operator (k / figureCount) (k % figureCount))
-      ∙ turns-alike 384 _ (amountAt (b .figures)) (λ k lt. let figure : k % 24 % 8 ≡ k % 8 = omega arith in rw figure refl)
-      ∙ turns-from 384 64 at (amountAt (b .figures)) (λ k lt. place-amount b (64 + k) (omega arith) (omega arith))
+      ∙ turns-alike figurePlaces _ (amountAt (b .figures)) (λ k lt. let figure : k % (years * figureCount) % figureCount ≡ k % figureCount = omega arith in rw figure refl)
+      ∙ turns-from figurePlaces amountsFrom at (amountAt (b .figures)) (λ k lt. place-amount b (amountsFrom + k) (omega arith) (omega arith))
 
-  marks-placed : markCalls b ≡ inTurn 96 (λ (k : ℕ). at (448 + k))
+  marks-placed : markCalls b ≡ inTurn markPlaces (λ (k : ℕ). at (marksFrom + k))
   unfolding markCalls markAt isMarked
   marks-placed =
       turns-rows operators indicatorCount _
-      ∙ turns-from 96 448 at (markAt (b .marks)) (λ k lt. place-mark b (448 + k) (omega arith) (omega arith))
+      ∙ turns-from markPlaces marksFrom at (markAt (b .marks)) (λ k lt. place-mark b (marksFrom + k) (omega arith) (omega arith))
 
-  indices-placed : indexCalls b ≡ inTurn 4 (λ (k : ℕ). at (544 + k))
+  indices-placed : indexCalls b ≡ inTurn indexCount (λ (k : ℕ). at (indicesFrom + k))
   unfolding indexCalls indexAt indexOf
-  indices-placed = turns-from 4 544 at (indexAt (b .indices)) (λ k lt. place-index b (544 + k) (omega arith) (omega arith))
+  indices-placed = turns-from indexCount indicesFrom at (indexAt (b .indices)) (λ k lt. place-index b (indicesFrom + k) (omega arith) (omega arith))
 
-  rates-placed : rateCalls b ≡ inTurn 1 (λ (k : ℕ). at (548 + k))
+  rates-placed : rateCalls b ≡ inTurn 1 (λ (k : ℕ). at (ratesFrom + k))
   unfolding rateCalls ratesAt inTurn
-  rates-placed = sym (place-rates b 548 (omega arith))
+  rates-placed = sym (place-rates b ratesFrom (omega arith))
 
-  pub all-placed : writtenCalls b ≡ inTurn 549 at
+  pub all-placed : writtenCalls b ≡ inTurn places at
   unfolding writtenCalls
   all-placed =
       (λ i. joins-placed i ++ settings-placed i ++ amounts-placed i ++ marks-placed i ++ indices-placed i ++ rates-placed i)
-      ∙ sym (rw (turns-split 548 1 at, turns-split 544 4 at, turns-split 448 96 at, turns-split 64 384 at, turns-split 16 48 at) refl)
+      ∙ sym (rw (turns-split ratesFrom 1 at, turns-split indicesFrom indexCount at, turns-split marksFrom markPlaces at, turns-split amountsFrom figurePlaces at, turns-split settingsFrom settingPlaces at) refl)

@@ -9,7 +9,7 @@ use lib.ListN.{length, getD}
 use Rattle.book.specs.declared.Book.{Book}
 use Rattle.calls.specs.declared.Call.{Call}
 use Rattle.calls.specs.declared.Call.the-variants.{Join, Setting, Amount, Mark, Rates, Index}
-use Rattle.calls.specs.Limits.{operators, years, figureCount, settingCount, indicatorCount, indexCount}
+use Rattle.calls.specs.Limits.{operators, years, figureCount, settingCount, indicatorCount, indexCount, freshIndex}
 use Rattle.calls.specs.Masks.{has}
 use Rattle.book.specs.Book.{settingSlot, figureSlot}
 use Rattle.encoding.specs.Fields.{bytesIn}
@@ -49,7 +49,7 @@ markAt marks place =
     cond (has (getD marks (place % indicatorCount) 0) (place / indicatorCount)) (Mark (place / indicatorCount) (place % indicatorCount) 1 ∷ []) []
 
 unfoldable pub indexAt : List ℕ → ℕ → List Call
-indexAt indices place = unlessFresh (getD indices place 0) 10000 (Index place (getD indices place 0))
+indexAt indices place = unlessFresh (getD indices place 0) freshIndex (Index place (getD indices place 0))
 
 unfoldable pub ratesAt : ℕ → ℕ → List Call
 ratesAt pot cap = cond (eqb pot 0 && eqb cap 0) [] (Rates pot cap ∷ [])
@@ -69,6 +69,10 @@ indicesFrom = marksFrom + operators * indicatorCount
 
 abbrev pub ratesFrom : ℕ
 ratesFrom = indicesFrom + indexCount
+
+-- rates are the last
+abbrev pub places : ℕ
+places = ratesFrom + 1
 
 -- the calls at a place of the written filing
 unfoldable pub callsAt : Book → ℕ → List Call

@@ -1,11 +1,20 @@
 // The places of a written filing, in its order: joins, settings, amounts, marks, indices, rates. At each the book's value is fresh, or
 // there is a field for it.
 ghost use mathlib.Core.Path.{_≡_};
-ghost use Prim.Native.Nat.{_<_};
+ghost use Prim.Native.Nat.{_*_, _<_};
+ghost use Rattle.calls.specs.Limits.{operators, years, figureCount, settingCount, indicatorCount, indexCount};
 ghost use Rattle.book.specs.Book.{bookWith};
-ghost use Rattle.entries.specs.Entries.{EntryOf, joinAt, settingAt, amountAt, markAt, indexAt, ratesAt, callsAt};
+ghost use Rattle.entries.specs.Entries.{EntryOf, places, joinAt, settingAt, amountAt, markAt, indexAt, ratesAt, callsAt};
 use book::figure_slot;
 use book::setting_slot;
+use calls::FIGURE_PLACES;
+use calls::FIGURES;
+use calls::FRESH_INDEX;
+use calls::INDICATORS;
+use calls::INDICES;
+use calls::OPERATOR_FIGURES;
+use calls::SETTING_PLACES;
+use calls::SETTINGS;
 use calls::has_bit;
 use encoding::Encoded;
 
@@ -33,19 +42,17 @@ const FILE: u64 = 0;
 // A mark that is set.
 const UNRELIABLE: u64 = 1;
 
-const FRESH_INDEX: u64 = 10000;
-
 pub fn entry_at(
     joined: u16,
-    marks: &[u16; 6],
-    settings: &[u64; 48],
-    figures: &[u64; 384],
+    marks: &[u16; INDICATORS],
+    settings: &[u64; SETTING_PLACES],
+    figures: &[u64; FIGURE_PLACES],
     pot_rate: u32,
     cap_rate: u32,
-    indices: &[u32; 4],
+    indices: &[u32; INDICES],
     place: usize,
 ) -> Entry
-    requires { ⌜ place < 549 ⌝ }
+    requires { ⌜ place < places ⌝ }
     ensures { λ r. ⌜ EntryOf r (callsAt (bookWith joined (now (marks .entry)) (now (settings .entry)) (now (figures .entry)) «pot_rate» «cap_rate» (now (indices .entry))) place) ⌝ }
 {
     if place < SETTINGS_FROM {
@@ -67,7 +74,7 @@ pub fn entry_at(
 }
 
 fn join_entry(joined: u16, place: usize) -> Entry
-    requires { ⌜ place < 16 ⌝ }
+    requires { ⌜ place < operators ⌝ }
     ensures { λ r. ⌜ EntryOf r (joinAt joined place) ⌝ }
 {
     if !has_bit(joined, place as u8) {
@@ -82,12 +89,12 @@ fn join_entry(joined: u16, place: usize) -> Entry
     })
 }
 
-fn setting_entry(settings: &[u64; 48], place: usize) -> Entry
-    requires { ⌜ place < 48 ⌝ }
+fn setting_entry(settings: &[u64; SETTING_PLACES], place: usize) -> Entry
+    requires { ⌜ place < operators * settingCount ⌝ }
     ensures { λ r. ⌜ EntryOf r (settingAt (now (settings .entry)) place) ⌝ }
 {
-    let operator = place / 3;
-    let which = place % 3;
+    let operator = place / SETTINGS;
+    let which = place % SETTINGS;
     let value = settings[setting_slot(operator as u8, which as u8)];
     if value == 0 {
         return Entry::Fresh;
@@ -101,13 +108,13 @@ fn setting_entry(settings: &[u64; 48], place: usize) -> Entry
     })
 }
 
-fn amount_entry(figures: &[u64; 384], place: usize) -> Entry
-    requires { ⌜ place < 384 ⌝ }
+fn amount_entry(figures: &[u64; FIGURE_PLACES], place: usize) -> Entry
+    requires { ⌜ place < operators * (years * figureCount) ⌝ }
     ensures { λ r. ⌜ EntryOf r (amountAt (now (figures .entry)) place) ⌝ }
 {
-    let operator = place / 24;
-    let year = place % 24 / 8;
-    let figure = place % 8;
+    let operator = place / OPERATOR_FIGURES;
+    let year = place % OPERATOR_FIGURES / FIGURES;
+    let figure = place % FIGURES;
     let value = figures[figure_slot(operator as u8, year as u8, figure as u8)];
     if value == 0 {
         return Entry::Fresh;
@@ -121,12 +128,12 @@ fn amount_entry(figures: &[u64; 384], place: usize) -> Entry
     })
 }
 
-fn mark_entry(marks: &[u16; 6], place: usize) -> Entry
-    requires { ⌜ place < 96 ⌝ }
+fn mark_entry(marks: &[u16; INDICATORS], place: usize) -> Entry
+    requires { ⌜ place < operators * indicatorCount ⌝ }
     ensures { λ r. ⌜ EntryOf r (markAt (now (marks .entry)) place) ⌝ }
 {
-    let operator = place / 6;
-    let indicator = place % 6;
+    let operator = place / INDICATORS;
+    let indicator = place % INDICATORS;
     if !has_bit(marks[indicator], operator as u8) {
         return Entry::Fresh;
     }
@@ -139,19 +146,19 @@ fn mark_entry(marks: &[u16; 6], place: usize) -> Entry
     })
 }
 
-fn index_entry(indices: &[u32; 4], place: usize) -> Entry
-    requires { ⌜ place < 4 ⌝ }
+fn index_entry(indices: &[u32; INDICES], place: usize) -> Entry
+    requires { ⌜ place < indexCount ⌝ }
     ensures { λ r. ⌜ EntryOf r (indexAt (now (indices .entry)) place) ⌝ }
 {
-    let value = wide(indices[place]);
-    if value == FRESH_INDEX {
+    let index = indices[place];
+    if index == FRESH_INDEX {
         return Entry::Fresh;
     }
     Entry::Differs(Encoded {
         tag: 7,
         front: place as u64,
         front_width: 1,
-        value,
+        value: wide(index),
         value_width: 4,
     })
 }

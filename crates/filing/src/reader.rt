@@ -14,6 +14,10 @@ ghost use Rattle.filing.specs.Steps.{reachedBy, toldWalk, stopped, advan
 use crate::Reading;
 use book::Book;
 use book::in_range;
+use calls::FIGURE_PLACES;
+use calls::INDICATORS;
+use calls::INDICES;
+use calls::SETTING_PLACES;
 use calls::Answer;
 use calls::Call;
 use calls::Refusal;
@@ -87,12 +91,12 @@ pub fn read(b: Book, bytes: &[u8]) -> Reading
 // The field at the offset.
 fn step(
     joined: &mut u16,
-    marks: &mut [u16; 6],
-    settings: &mut [u64; 48],
-    figures: &mut [u64; 384],
+    marks: &mut [u16; INDICATORS],
+    settings: &mut [u64; SETTING_PLACES],
+    figures: &mut [u64; FIGURE_PLACES],
     pot_rate: &mut u32,
     cap_rate: &mut u32,
-    indices: &mut [u32; 4],
+    indices: &mut [u32; INDICES],
     reached: Walk,
     bytes: &[u8],
 ) -> Walk
@@ -120,12 +124,12 @@ fn step(
 // A call applied; one that is refused leaves the book, the number applied and the offset.
 fn advance(
     joined: &mut u16,
-    marks: &mut [u16; 6],
-    settings: &mut [u64; 48],
-    figures: &mut [u64; 384],
+    marks: &mut [u16; INDICATORS],
+    settings: &mut [u64; SETTING_PLACES],
+    figures: &mut [u64; FIGURE_PLACES],
     pot_rate: &mut u32,
     cap_rate: &mut u32,
-    indices: &mut [u32; 4],
+    indices: &mut [u32; INDICES],
     reached: Walk,
     filing_call: Call,
     next: usize,

@@ -6,6 +6,7 @@ use mathlib.Core.List.{List, [], _∷_}
 use lib.Dec.{eqb}
 use Rattle.calls.specs.declared.Call.{Call}
 use Rattle.calls.specs.declared.Call.the-variants.{Join, Setting, Interruption, Amount, Mark, Rates, Index}
+use Rattle.calls.specs.Limits.{freshIndex}
 use Rattle.calls.specs.Held.{Held, held}
 use Rattle.calls.specs.Answers.{Said, onAnswer, Acceptance}
 use Rattle.calls.specs.Call.{Entry, factsOf}
@@ -31,7 +32,7 @@ history joined setting mark pot cap index filed withdrawn =
 
 -- "no operator, every setting at its fresh value, and two sums of 0"
 unfoldable pub plain : History
-plain = history (λ o. false) (λ o which. 0) (λ o indicator. false) 0 0 (λ number. 10000) (λ o year figure. 0) (λ o year figure. 0)
+plain = history (λ o. false) (λ o which. 0) (λ o indicator. false) 0 0 (λ number. freshIndex) (λ o year figure. 0) (λ o year figure. 0)
 
 -- "A figure's total, its entries less withdrawals, is filed less withdrawn"
 unfoldable pub total : History → ℕ → ℕ → ℕ → ℕ

@@ -178,3 +178,8 @@ module _ (b : Book) where
 pub nothing-entered : (b : Book) (value : Acceptance) → entering b [] value ≡ acceptedCall b value
 unfolding enterAll
 nothing-entered b value = entered-all b [] value (some-none _) (some-none _)
+
+-- a figure and the next one stand apart
+pub slots-apart : (operator year figure : ℕ) → figureSlot operator year (figure + 1) ≢ figureSlot operator year figure
+unfolding figureSlot
+slots-apart operator year figure same = omega (arith, same)

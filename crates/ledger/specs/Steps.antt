@@ -1,6 +1,6 @@
 -- What inner functions of the calls give: the checks that calls share, and entries made on a book.
 -- Assumes nothing.
-use Prim.Native.Nat.{ℕ}
+use Prim.Native.Nat.{ℕ, _≤_, _<_}
 use mathlib.Core.Bool.{Bool, not}
 use mathlib.Core.List.{List, [], _∷_}
 use lib.Dec.{leb}
@@ -10,7 +10,7 @@ use Rattle.calls.specs.declared.Call.{Call}
 use Rattle.calls.specs.declared.Answer.{Answer}
 use Rattle.ledger.specs.declared.Admission.{Admission}
 use Rattle.ledger.specs.declared.Admission.the-variants.{Admitted, Refused}
-use Rattle.calls.specs.Limits.{operators}
+use Rattle.calls.specs.Limits.{operators, years, figureCount, weightLimit, longest}
 use Rattle.calls.specs.Masks.{has}
 use Rattle.calls.specs.Answers.{Said, refused-by, accepted, firstOf, Acceptance, numberOf, said}
 use Rattle.calls.specs.Call.{Entry}
@@ -30,8 +30,28 @@ abbrev pub admissionSaid : Admission → Said (Unit {0})
 admissionSaid Admitted = accepted tt
 admissionSaid (Refused refusal) = refused-by (numberOf refusal)
 
+-- an amount's values other than its u64
+pub record AmountInRange (operator year figure sign : ℕ) : Type 0 where
+  pub operator-known : operator < operators
+  pub year-known : year < years
+  pub figure-known : figure < figureCount
+  pub sign-most : sign ≤ 1
+
+-- what is known of an interruption that counts
+pub record CountedInRange (operator sign level year weight seconds : ℕ) : Type 0 where
+  pub operator-known : operator < operators
+  pub sign-most : sign ≤ 1
+  pub level-most : level ≤ 1
+  pub year-known : year < years
+  pub weight-most : weight ≤ weightLimit
+  pub seconds-most : seconds ≤ longest
+
 -- entries made where neither 8 nor 9 applies
 unfoldable pub entering : Book → List Entry → Acceptance → Outcome
 entering b list value =
     outcomeOf b (enterAll b list)
     (firstOf ((8, some (passesLimit (figureOf b)) list) ∷ (9, some (fallsBelow (figureOf b)) list) ∷ []) value)
+
+-- entries made in figures that are lent: the answer, and the book that the parts make afterwards
+abbrev pub Enters : Book → List Entry → Acceptance → Answer → Book → Type 0
+Enters old list value answer new = (said answer ≡ entering old list value .said) × (new ≡ entering old list value .book)

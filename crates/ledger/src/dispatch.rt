@@ -9,6 +9,10 @@ use crate::Filed;
 use crate::interruptions;
 use crate::parts;
 use book::Book;
+use calls::FIGURE_PLACES;
+use calls::INDICATORS;
+use calls::INDICES;
+use calls::SETTING_PLACES;
 use calls::Answer;
 use calls::Call;
 
@@ -16,12 +20,12 @@ use calls::Call;
 // once and then knows that each call keeps it in range. Nobody can apply a call to a book that would get 5.
 pub fn apply_in(
     joined: &mut u16,
-    marks: &mut [u16; 6],
-    settings: &mut [u64; 48],
-    figures: &mut [u64; 384],
+    marks: &mut [u16; INDICATORS],
+    settings: &mut [u64; SETTING_PLACES],
+    figures: &mut [u64; FIGURE_PLACES],
     pot_rate: &mut u32,
     cap_rate: &mut u32,
-    indices: &mut [u32; 4],
+    indices: &mut [u32; INDICES],
     filing_call: Call,
 ) -> Answer
     requires { ⌜ inRange (bookWith (now joined) (now marks) (now settings) (now figures) (now «pot_rate») (now «cap_rate») (now indices)) ≡ true ⌝ }

@@ -1,14 +1,16 @@
 // An interruption filed to or withdrawn from the figures, lent and altered in place.
 ghost use mathlib.Core.Path.{_≡_};
 ghost use mathlib.Core.List.{List};
-ghost use Prim.Native.Nat.{ℕ, _≤_, _<_};
+ghost use Prim.Native.Nat.{ℕ};
 ghost use Rattle.book.specs.Book.{bookWith};
 ghost use mathlib.Core.Bool.{true};
 ghost use Rattle.calls.specs.Answers.{said, counted-in};
 ghost use Rattle.calls.specs.Call.{interruptionEntries, factsOf};
-ghost use Rattle.ledger.specs.Steps.{Leaves, entering};
+ghost use Rattle.ledger.specs.Steps.{Leaves, Enters, CountedInRange};
 use crate::Admission;
 use crate::parts::admit;
+use book::figure_slot;
+use calls::FIGURE_PLACES;
 use calls::Answer;
 use calls::Call;
 use calls::Judged;
@@ -23,7 +25,7 @@ use calls::year_of;
 // Level: 0 MV, 1 LV.
 pub(crate) fn interruption(
     joined: u16,
-    figures: &mut [u64; 384],
+    figures: &mut [u64; FIGURE_PLACES],
     operator: u8,
     sign: u8,
     level: u8,
@@ -50,7 +52,7 @@ pub(crate) fn interruption(
 
 // Weight, and weight times seconds, added or subtracted.
 fn enter_counted(
-    figures: &mut [u64; 384],
+    figures: &mut [u64; FIGURE_PLACES],
     operator: u8,
     sign: u8,
     level: u8,
@@ -58,12 +60,11 @@ fn enter_counted(
     weight: u32,
     seconds: u64,
 ) -> Answer
-    requires { ⌜ (operator < 16) × (sign ≤ 1) × (level ≤ 1) × (year < 3) × (weight ≤ 100000) × (seconds < 126144000) ⌝ }
-    ensures { λ r. ⌜ ((joined pot cap : ℕ) (marks settings indices : List ℕ) → (said r ≡ entering (bookWith joined marks settings (now (figures .entry)) pot cap indices) (interruptionEntries operator sign level weight seconds (counted-in year)) (counted-in year) .said) × (bookWith joined marks settings (now (figures .exit)) pot cap indices ≡ entering (bookWith joined marks settings (now (figures .entry)) pot cap indices) (interruptionEntries operator sign level weight seconds (counted-in year)) (counted-in year) .book)) ⌝ }
+    requires { ⌜ CountedInRange operator sign level year weight seconds ⌝ }
+    ensures { λ r. ⌜ ((joined pot cap : ℕ) (marks settings indices : List ℕ) → Enters (bookWith joined marks settings (now (figures .entry)) pot cap indices) (interruptionEntries operator sign level weight seconds (counted-in year)) (counted-in year) r (bookWith joined marks settings (now (figures .exit)) pot cap indices)) ⌝ }
 {
-    let row = (operator as usize * 3 + year as usize) * 8;
-    let weight_at = row + 2 * level as usize;
-    let seconds_at = row + (2 * level as usize + 1);
+    let weight_at = figure_slot(operator, year, 2 * level);
+    let seconds_at = figure_slot(operator, year, 2 * level + 1);
     match move_figure(sign, weight as u64, figures[weight_at]) {
         Moved::To(moved) => match move_figure(sign, weight as u64 * seconds, figures[seconds_at]) {
             Moved::To(moved_seconds) => {

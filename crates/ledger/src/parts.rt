@@ -1,11 +1,19 @@
 // The calls on the parts of a book that each changes, lent and altered in place; a refused call leaves them.
 ghost use mathlib.Core.Path.{_≡_};
-ghost use mathlib.Core.List.{List};
+ghost use mathlib.Core.List.{List, [], _∷_};
 ghost use Prim.Native.Nat.{ℕ};
 ghost use Rattle.book.specs.Book.{bookWith};
-ghost use Rattle.calls.specs.Answers.{firstOf};
-ghost use Rattle.ledger.specs.Steps.{Leaves, memberLines, admissionSaid};
+ghost use Rattle.calls.specs.Answers.{firstOf, yes-said};
+ghost use Rattle.calls.specs.Call.{entry};
+ghost use Rattle.ledger.specs.Steps.{Leaves, Enters, AmountInRange, memberLines, admissionSaid};
 use crate::Admission;
+use book::figure_slot;
+use book::setting_slot;
+use calls::FIGURE_PLACES;
+use calls::INDICATORS;
+use calls::INDICES;
+use calls::LAST_OPERATOR;
+use calls::SETTING_PLACES;
 use calls::Answer;
 use calls::Call;
 use calls::Moved;
@@ -23,7 +31,7 @@ use calls::setting_in_range;
 pub(crate) fn join(joined: &mut u16, operator: u8) -> Answer
     ensures { λ r. ⌜ ((marks settings figures indices : List ℕ) (pot cap : ℕ) → Leaves (bookWith (now (joined .entry)) marks settings figures pot cap indices) (Call.Join operator) r (bookWith (now (joined .exit)) marks settings figures pot cap indices)) ⌝ }
 {
-    if 15 < operator {
+    if LAST_OPERATOR < operator {
         return Answer::Refused(Refusal::UnknownOperator);
     }
     if has_bit(*joined, operator) {
@@ -37,7 +45,7 @@ pub(crate) fn join(joined: &mut u16, operator: u8) -> Answer
 pub(crate) fn admit(joined: u16, operator: u8, valid: bool) -> Admission
     ensures { λ r. ⌜ admissionSaid r ≡ firstOf (memberLines joined operator valid) tt ⌝ }
 {
-    if 15 < operator {
+    if LAST_OPERATOR < operator {
         return Admission::Refused(Refusal::UnknownOperator);
     }
     if !valid {
@@ -52,7 +60,7 @@ pub(crate) fn admit(joined: u16, operator: u8, valid: bool) -> Admission
 // Which: 0 cabins, 1 active access points, 2 income.
 pub(crate) fn setting(
     joined: u16,
-    settings: &mut [u64; 48],
+    settings: &mut [u64; SETTING_PLACES],
     operator: u8,
     which: u8,
     value: u64,
@@ -62,14 +70,15 @@ pub(crate) fn setting(
     if let Admission::Refused(refusal) = admit(joined, operator, setting_in_range(which, value)) {
         return Answer::Refused(refusal);
     }
-    settings[operator as usize * 3 + which as usize] = value;
+    let at = setting_slot(operator, which);
+    settings[at] = value;
     Answer::Yes
 }
 
 // Sign: 0 file, 1 withdraw.
 pub(crate) fn amount(
     joined: u16,
-    figures: &mut [u64; 384],
+    figures: &mut [u64; FIGURE_PLACES],
     operator: u8,
     year: u8,
     figure: u8,
@@ -85,7 +94,22 @@ pub(crate) fn amount(
     ) {
         return Answer::Refused(refusal);
     }
-    let at = (operator as usize * 3 + year as usize) * 8 + figure as usize;
+    enter_amount(figures, operator, year, figure, sign, value)
+}
+
+// A value added to a figure, or subtracted from it.
+fn enter_amount(
+    figures: &mut [u64; FIGURE_PLACES],
+    operator: u8,
+    year: u8,
+    figure: u8,
+    sign: u8,
+    value: u64,
+) -> Answer
+    requires { ⌜ AmountInRange operator year figure sign ⌝ }
+    ensures { λ r. ⌜ ((joined pot cap : ℕ) (marks settings indices : List ℕ) → Enters (bookWith joined marks settings (now (figures .entry)) pot cap indices) (entry operator year figure sign value ∷ []) yes-said r (bookWith joined marks settings (now (figures .exit)) pot cap indices)) ⌝ }
+{
+    let at = figure_slot(operator, year, figure);
     match move_figure(sign, value, figures[at]) {
         Moved::To(moved) => {
             figures[at] = moved;
@@ -99,7 +123,7 @@ pub(crate) fn amount(
 // Mark: 1 unreliable, 0 not.
 pub(crate) fn mark_indicator(
     joined: u16,
-    marks: &mut [u16; 6],
+    marks: &mut [u16; INDICATORS],
     operator: u8,
     indicator: u8,
     mark: u8,
@@ -126,7 +150,7 @@ pub(crate) fn rates(pot_rate: &mut u32, cap_rate: &mut u32, pot: u32, cap: u32) 
 }
 
 // Number: 0 to 2 the June before each year, 3 June 2013.
-pub(crate) fn index(indices: &mut [u32; 4], number: u8, value: u32) -> Answer
+pub(crate) fn index(indices: &mut [u32; INDICES], number: u8, value: u32) -> Answer
     ensures { λ r. ⌜ ((joined pot cap : ℕ) (marks settings figures : List ℕ) → Leaves (bookWith joined marks settings figures pot cap (now (indices .entry))) (Call.Index number value) r (bookWith joined marks settings figures pot cap (now (indices .exit)))) ⌝ }
 {
     if !index_in_range(number, value) {

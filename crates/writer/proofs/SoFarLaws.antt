@@ -10,7 +10,7 @@ use Rattle.book.specs.declared.Book.{Book}
 use Rattle.writing.specs.Written.{inTurn, filingOf, written}
 use Rattle.writing.proofs.WrittenLength.{filing-then}
 use Rattle.entries.specs.declared.Entry.{Entry}
-use Rattle.entries.specs.Entries.{entryBytes, EntryOf, callsAt}
+use Rattle.entries.specs.Entries.{places, entryBytes, EntryOf, callsAt}
 use Rattle.entries.proofs.PlaceLaws.{turns-split, all-placed}
 
 unfoldable pub soFar : Book → ℕ → List ℕ
@@ -25,17 +25,17 @@ module _ (b : Book) where
   unfolding soFar inTurn
   so-far-more place = rw (add-one place) (filing-then (inTurn place (callsAt b)) (callsAt b place))
 
-  pub so-far-all : soFar b 549 ≡ written b
+  pub so-far-all : soFar b places ≡ written b
   unfolding soFar written
   so-far-all = ap filingOf (sym (all-placed b))
 
   -- a part is no longer than the whole
-  pub so-far-within : (place : ℕ) → place ≤ 549 → length (soFar b place) ≤ length (written b)
+  pub so-far-within : (place : ℕ) → place ≤ places → length (soFar b place) ≤ length (written b)
   unfolding soFar
   so-far-within place le =
-      let rest : place + (549 - place) ≡ 549 = omega arith in
-      let whole : soFar b (place + (549 - place)) ≡ soFar b place ++ filingOf (inTurn (549 - place) (λ (k : ℕ). callsAt b (place + k))) =
-      ap filingOf (turns-split place (549 - place) (callsAt b)) ∙ filing-then (inTurn place (callsAt b)) _ in
+      let rest : place + (places - place) ≡ places = omega arith in
+      let whole : soFar b (place + (places - place)) ≡ soFar b place ++ filingOf (inTurn (places - place) (λ (k : ℕ). callsAt b (place + k))) =
+      ap filingOf (turns-split place (places - place) (callsAt b)) ∙ filing-then (inTurn place (callsAt b)) _ in
       rw (← so-far-all, ← rest, whole, length-append) (omega arith)
 
   -- the entry at the next place
@@ -46,5 +46,5 @@ module _ (b : Book) where
     pub size-more : length (soFar b place) + length (entryBytes entry) ≡ length (soFar b (place + 1))
     size-more = rw (so-far-entry, length-append) refl
 
-    pub room-more : (old : List ℕ) → place + 1 ≤ 549 → length (written b) ≤ length old → 0 + length (soFar b place ++ entryBytes entry) ≤ length old
+    pub room-more : (old : List ℕ) → place + 1 ≤ places → length (written b) ≤ length old → 0 + length (soFar b place ++ entryBytes entry) ≤ length old
     room-more old le room = rw (← so-far-entry) (omega (arith, so-far-within (place + 1) le))

@@ -7,7 +7,7 @@ use lib.Dec.{eqb}
 use Rattle.book.specs.declared.Book.{Book}
 use Rattle.calls.specs.declared.Call.{Call}
 use Rattle.calls.specs.declared.Call.the-variants.{Join, Setting, Amount, Mark, Rates, Index}
-use Rattle.calls.specs.Limits.{operators, years, figureCount, settingCount, indicatorCount, indexCount}
+use Rattle.calls.specs.Limits.{operators, years, figureCount, settingCount, indicatorCount, indexCount, freshIndex}
 use Rattle.book.specs.Book.{isJoined, isMarked, settingOf, figureOf, indexOf}
 use Rattle.fields.specs.Encoding.{encoded}
 
@@ -42,7 +42,7 @@ module _ (b : Book) where
       cond (isMarked b operator indicator) (Mark operator indicator 1 ∷ []) []))
 
   unfoldable pub indexCalls : List Call
-  indexCalls = inTurn indexCount (λ (number : ℕ). unlessFresh (indexOf b number) 10000 (Index number (indexOf b number)))
+  indexCalls = inTurn indexCount (λ (number : ℕ). unlessFresh (indexOf b number) freshIndex (Index number (indexOf b number)))
 
   -- "rates (one field if either isn't 0)"
   unfoldable pub rateCalls : List Call

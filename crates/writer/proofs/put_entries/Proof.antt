@@ -9,16 +9,17 @@ use Rattle.book.specs.Book.{bookWith}
 use Rattle.text.proofs.WrittenLaws.{Put, put-nothing, put-then, room-after}
 use Rattle.text.proofs.FittingLaws.{written-front}
 use Rattle.writing.specs.Written.{written}
+use Rattle.entries.specs.Entries.{places}
 use Rattle.writer.proofs.SoFarLaws.{soFar, so-far-none, so-far-all, so-far-entry, room-more}
 use Rattle.writer.proofs.put_entries.Statement.{statement}
 use Rattle.writer.proofs.put_entries.Tie as tie
 
 abbrev Inv-loop : tie.InvT-loop
 Inv-loop out₀ marks settings figures indices joined pot-rate cap-rate at₀ place₀ out at place =
-    (place ≤ 549) × Put out₀ 0 (soFar (bookWith joined marks settings figures pot-rate cap-rate indices) place) out at × (length out ≡ length out₀)
+    (place ≤ places) × Put out₀ 0 (soFar (bookWith joined marks settings figures pot-rate cap-rate indices) place) out at × (length out ≡ length out₀)
 
 abbrev μ-loop : tie.MeasureT-loop
-μ-loop out₀ marks settings figures indices joined pot-rate cap-rate at₀ place₀ out at place = 549 - place
+μ-loop out₀ marks settings figures indices joined pot-rate cap-rate at₀ place₀ out at place = places - place
 
 loop-holds : tie.Need-loop-holds Inv-loop μ-loop
 loop-holds c = (omega arith, rw so-far-none (put-nothing (c .before .before .before .before .before .args .out .now) 0), refl)
@@ -58,7 +59,7 @@ returns : tie.Need-returns Inv-loop μ-loop
 returns c =
     let begun = c .before .before .before .before .before .before .before in
     let here = c .before .loop in
-    let last : here .place ≡ 549 = omega arith in
+    let last : here .place ≡ places = omega arith in
     here .inv .1 .0 ∙ rw (last, so-far-all) (written-front (begun .args .out .now) (written (begun .args .b)))
 
 pub put-entries-spec : {M : Type 1} → statement M

@@ -5,16 +5,17 @@ use mathlib.Core.Path.{_≡_, refl, _∙_}
 use native.Mathlib.Omega.{arith}
 use lib.ListN.{length}
 use Rattle.book.specs.Book.{bookWith}
+use Rattle.entries.specs.Entries.{places}
 use Rattle.writer.proofs.SoFarLaws.{soFar, so-far-none, so-far-all, size-more}
 use Rattle.writer.proofs.written_size.Statement.{statement}
 use Rattle.writer.proofs.written_size.Tie as tie
 
 abbrev Inv-loop : tie.InvT-loop
 Inv-loop marks settings figures indices joined pot-rate cap-rate size₀ place₀ size place =
-    (place ≤ 549) × (size ≡ length (soFar (bookWith joined marks settings figures pot-rate cap-rate indices) place)) × (size ≤ 15 * place)
+    (place ≤ places) × (size ≡ length (soFar (bookWith joined marks settings figures pot-rate cap-rate indices) place)) × (size ≤ 15 * place)
 
 abbrev μ-loop : tie.MeasureT-loop
-μ-loop marks settings figures indices joined pot-rate cap-rate size₀ place₀ size place = 549 - place
+μ-loop marks settings figures indices joined pot-rate cap-rate size₀ place₀ size place = places - place
 
 loop-holds : tie.Need-loop-holds Inv-loop μ-loop
 loop-holds c = (omega arith, rw so-far-none refl, omega arith)
@@ -46,7 +47,7 @@ loop-again c =
 returns : tie.Need-returns Inv-loop μ-loop
 returns c =
     let here = c .before .loop in
-    let last : here .place ≡ 549 = omega arith in
+    let last : here .place ≡ places = omega arith in
     here .inv .1 ∙ rw (last, so-far-all) refl
 
 pub written-size-spec : {M : Type 1} → statement M

@@ -1,40 +1,31 @@
 -- `ledger::interruptions::enter_counted` meets its contract.
 -- Assumes nothing.
-use mathlib.Core.Path.{_≡_, refl, sym, _∙_}
 use Prim.Native.Nat.{_+_, _*_}
+use mathlib.Core.Path.{refl, sym, _∙_}
 use native.Mathlib.Omega.{arith}
-use native.Mathlib.Nat.{mul-le-mul, le-of-lt}
-use Rattle.book.specs.Book.{bookWith, figureSlot, figureOf}
+use native.Mathlib.Nat.{mul-le-mul}
+use Rattle.book.specs.Book.{bookWith, figureOf}
 use Rattle.calls.specs.Answers.{counted-in}
 use Rattle.calls.specs.Call.{entry, interruptionEntries}
-use Rattle.ledger.proofs.MoveLaws.{moved-as, both-moved, first-above, first-below, second-above, second-below}
+use Rattle.ledger.proofs.MoveLaws.{moved-as, both-moved, first-above, first-below, second-above, second-below, slots-apart}
 use borrow.Author.Needs.{needs}
 use Rattle.ledger.proofs.interruptions.enter_counted.Statement.{statement}
 use Rattle.ledger.proofs.interruptions.enter_counted.Tie as tie
 
-mul-row : tie.Need-mul-row
-mul-row c = search needs
+mul-figure-slot : tie.Need-mul-figure-slot
+mul-figure-slot c = search needs
 
-add-row : tie.Need-add-row
-add-row c = search needs
+figure-slot-requires : tie.Need-figure-slot-requires
+figure-slot-requires c κs = search needs
 
-mul-row-2 : tie.Need-mul-row-2
-mul-row-2 c = search needs
+mul-figure-slot-2 : tie.Need-mul-figure-slot-2
+mul-figure-slot-2 c = search needs
 
-mul-weight-at : tie.Need-mul-weight-at
-mul-weight-at c = search needs
+add-figure-slot : tie.Need-add-figure-slot
+add-figure-slot c = search needs
 
-add-weight-at : tie.Need-add-weight-at
-add-weight-at c = search needs
-
-mul-seconds-at : tie.Need-mul-seconds-at
-mul-seconds-at c = search needs
-
-add-seconds-at : tie.Need-add-seconds-at
-add-seconds-at c = search needs
-
-add-seconds-at-2 : tie.Need-add-seconds-at-2
-add-seconds-at-2 c = search needs
+figure-slot-requires-2 : tie.Need-figure-slot-requires-2
+figure-slot-requires-2 c κs = search needs
 
 mul-move-figure : tie.Need-mul-move-figure
 mul-move-figure c = search needs
@@ -50,8 +41,8 @@ enum-known-moved c = search needs
 
 mul-move-figure-2 : tie.Need-mul-move-figure-2
 mul-move-figure-2 c =
-    let start = c .before .before .before .before .before in
-    let product = mul-le-mul (start .pre .4) (le-of-lt (start .pre .5)) in
+    let start = c .before .before .before .before .before .before .before in
+    let product = mul-le-mul (start .pre .weight-most) (start .pre .seconds-most) in
     record { fits = omega (arith, product) }
 
 mul-move-figure-3 : tie.Need-mul-move-figure-3
@@ -92,51 +83,66 @@ enum-told-4 c = search needs
 
 -- both figures move
 returns : tie.Need-returns
-unfolding interruptionEntries figureOf figureSlot
+unfolding interruptionEntries figureOf
 returns c = λ joined pot cap marks settings indices.
-    let start = c .before .before .before .before .before .before .before .before .before .before in
-    rw (both-moved (bookWith joined marks settings (start .args .figures .now) pot cap indices) (entry (start .args .operator) (start .args .year) (2 * start .args .level) (start .args .sign) (start .args .weight)) (counted-in (start .args .year)) (entry (start .args .operator) (start .args .year) (2 * start .args .level + 1) (start .args .sign) (start .args .weight * start .args .seconds)) _ (moved-as (start .args .sign) (start .args .weight) _ (start .pre .1) _ (sym (c .before .before .before .before .before .before .before .before .move-figure .ensures) ∙ c .before .before .before .before .before .before .moved .given .1)) _ (λ e. omega (arith, e)) (moved-as (start .args .sign) (start .args .weight * start .args .seconds) _ (start .pre .1) _ (sym (c .before .before .before .move-figure2 .ensures) ∙ c .before .moved-seconds .given .1))) (refl, refl)
+    let start = c .before .before .before .before .before .before .before .before .before .before .before .before in
+    let weight-slot = c .before .before .before .before .before .before .before .before .before .before .before .figure-slot .ensures .0 in
+    let seconds-slot = c .before .before .before .before .before .before .before .before .before .before .figure-slot2 .ensures .0 in
+    let weight = moved-as (start .args .sign) (start .args .weight) _ (start .pre .sign-most) _ (sym (rw weight-slot at (c .before .before .before .before .before .before .before .before .move-figure .ensures)) ∙ c .before .before .before .before .before .before .moved .given .1) in
+    let seconds = moved-as (start .args .sign) (start .args .weight * start .args .seconds) _ (start .pre .sign-most) _ (sym (rw seconds-slot at (c .before .before .before .move-figure2 .ensures)) ∙ c .before .moved-seconds .given .1) in
+    rw (weight-slot, seconds-slot, both-moved (bookWith joined marks settings (start .args .figures .now) pot cap indices) (entry (start .args .operator) (start .args .year) (2 * start .args .level) (start .args .sign) (start .args .weight)) (counted-in (start .args .year)) (entry (start .args .operator) (start .args .year) (2 * start .args .level + 1) (start .args .sign) (start .args .weight * start .args .seconds)) _ weight _ (slots-apart (start .args .operator) (start .args .year) (2 * start .args .level)) seconds) (refl, refl)
 
 -- 8, by the seconds
 returns-2 : tie.Need-returns-2
-unfolding interruptionEntries figureOf figureSlot
+unfolding interruptionEntries figureOf
 returns-2 c = λ joined pot cap marks settings indices.
-    let start = c .before .before .before .before .before .before .before .before .before in
-    rw (second-above (bookWith joined marks settings (start .args .figures .now) pot cap indices) (entry (start .args .operator) (start .args .year) (2 * start .args .level) (start .args .sign) (start .args .weight)) (counted-in (start .args .year)) (entry (start .args .operator) (start .args .year) (2 * start .args .level + 1) (start .args .sign) (start .args .weight * start .args .seconds)) _ (moved-as (start .args .sign) (start .args .weight) _ (start .pre .1) _ (sym (c .before .before .before .before .before .before .before .move-figure .ensures) ∙ c .before .before .before .before .before .moved .given .1)) (moved-as (start .args .sign) (start .args .weight * start .args .seconds) _ (start .pre .1) _ (sym (c .before .before .move-figure2 .ensures) ∙ c .enum-told .given .1))) (refl, refl)
+    let start = c .before .before .before .before .before .before .before .before .before .before .before in
+    let weight-slot = c .before .before .before .before .before .before .before .before .before .before .figure-slot .ensures .0 in
+    let seconds-slot = c .before .before .before .before .before .before .before .before .before .figure-slot2 .ensures .0 in
+    let weight = moved-as (start .args .sign) (start .args .weight) _ (start .pre .sign-most) _ (sym (rw weight-slot at (c .before .before .before .before .before .before .before .move-figure .ensures)) ∙ c .before .before .before .before .before .moved .given .1) in
+    let seconds = moved-as (start .args .sign) (start .args .weight * start .args .seconds) _ (start .pre .sign-most) _ (sym (rw seconds-slot at (c .before .before .move-figure2 .ensures)) ∙ c .enum-told .given .1) in
+    rw (second-above (bookWith joined marks settings (start .args .figures .now) pot cap indices) (entry (start .args .operator) (start .args .year) (2 * start .args .level) (start .args .sign) (start .args .weight)) (counted-in (start .args .year)) (entry (start .args .operator) (start .args .year) (2 * start .args .level + 1) (start .args .sign) (start .args .weight * start .args .seconds)) _ weight seconds) (refl, refl)
 
 -- 9, by the seconds
 returns-3 : tie.Need-returns-3
-unfolding interruptionEntries figureOf figureSlot
+unfolding interruptionEntries figureOf
 returns-3 c = λ joined pot cap marks settings indices.
-    let start = c .before .before .before .before .before .before .before .before .before in
-    rw (second-below (bookWith joined marks settings (start .args .figures .now) pot cap indices) (entry (start .args .operator) (start .args .year) (2 * start .args .level) (start .args .sign) (start .args .weight)) (counted-in (start .args .year)) (entry (start .args .operator) (start .args .year) (2 * start .args .level + 1) (start .args .sign) (start .args .weight * start .args .seconds)) _ (moved-as (start .args .sign) (start .args .weight) _ (start .pre .1) _ (sym (c .before .before .before .before .before .before .before .move-figure .ensures) ∙ c .before .before .before .before .before .moved .given .1)) (moved-as (start .args .sign) (start .args .weight * start .args .seconds) _ (start .pre .1) _ (sym (c .before .before .move-figure2 .ensures) ∙ c .enum-told2 .given .1))) (refl, refl)
+    let start = c .before .before .before .before .before .before .before .before .before .before .before in
+    let weight-slot = c .before .before .before .before .before .before .before .before .before .before .figure-slot .ensures .0 in
+    let seconds-slot = c .before .before .before .before .before .before .before .before .before .figure-slot2 .ensures .0 in
+    let weight = moved-as (start .args .sign) (start .args .weight) _ (start .pre .sign-most) _ (sym (rw weight-slot at (c .before .before .before .before .before .before .before .move-figure .ensures)) ∙ c .before .before .before .before .before .moved .given .1) in
+    let seconds = moved-as (start .args .sign) (start .args .weight * start .args .seconds) _ (start .pre .sign-most) _ (sym (rw seconds-slot at (c .before .before .move-figure2 .ensures)) ∙ c .enum-told2 .given .1) in
+    rw (second-below (bookWith joined marks settings (start .args .figures .now) pot cap indices) (entry (start .args .operator) (start .args .year) (2 * start .args .level) (start .args .sign) (start .args .weight)) (counted-in (start .args .year)) (entry (start .args .operator) (start .args .year) (2 * start .args .level + 1) (start .args .sign) (start .args .weight * start .args .seconds)) _ weight seconds) (refl, refl)
 
 -- 8, by the weight
 returns-4 : tie.Need-returns-4
-unfolding interruptionEntries figureOf figureSlot
+unfolding interruptionEntries figureOf
 returns-4 c = λ joined pot cap marks settings indices.
-    let start = c .before .before .before .before in
-    rw (first-above (bookWith joined marks settings (start .args .figures .now) pot cap indices) (entry (start .args .operator) (start .args .year) (2 * start .args .level) (start .args .sign) (start .args .weight)) (counted-in (start .args .year)) (entry (start .args .operator) (start .args .year) (2 * start .args .level + 1) (start .args .sign) (start .args .weight * start .args .seconds)) (moved-as (start .args .sign) (start .args .weight) _ (start .pre .1) _ (sym (c .before .before .move-figure .ensures) ∙ c .enum-told3 .given .1))) (refl, refl)
+    let start = c .before .before .before .before .before .before in
+    let weight-slot = c .before .before .before .before .before .figure-slot .ensures .0 in
+    let seconds-slot = c .before .before .before .before .figure-slot2 .ensures .0 in
+    let weight = moved-as (start .args .sign) (start .args .weight) _ (start .pre .sign-most) _ (sym (rw weight-slot at (c .before .before .move-figure .ensures)) ∙ c .enum-told3 .given .1) in
+    rw (first-above (bookWith joined marks settings (start .args .figures .now) pot cap indices) (entry (start .args .operator) (start .args .year) (2 * start .args .level) (start .args .sign) (start .args .weight)) (counted-in (start .args .year)) (entry (start .args .operator) (start .args .year) (2 * start .args .level + 1) (start .args .sign) (start .args .weight * start .args .seconds)) weight) (refl, refl)
 
 -- 9, by the weight
 returns-5 : tie.Need-returns-5
-unfolding interruptionEntries figureOf figureSlot
+unfolding interruptionEntries figureOf
 returns-5 c = λ joined pot cap marks settings indices.
-    let start = c .before .before .before .before in
-    rw (first-below (bookWith joined marks settings (start .args .figures .now) pot cap indices) (entry (start .args .operator) (start .args .year) (2 * start .args .level) (start .args .sign) (start .args .weight)) (counted-in (start .args .year)) (entry (start .args .operator) (start .args .year) (2 * start .args .level + 1) (start .args .sign) (start .args .weight * start .args .seconds)) refl (moved-as (start .args .sign) (start .args .weight) _ (start .pre .1) _ (sym (c .before .before .move-figure .ensures) ∙ c .enum-told4 .given .1))) (refl, refl)
+    let start = c .before .before .before .before .before .before in
+    let weight-slot = c .before .before .before .before .before .figure-slot .ensures .0 in
+    let seconds-slot = c .before .before .before .before .figure-slot2 .ensures .0 in
+    let weight = moved-as (start .args .sign) (start .args .weight) _ (start .pre .sign-most) _ (sym (rw weight-slot at (c .before .before .move-figure .ensures)) ∙ c .enum-told4 .given .1) in
+    rw (first-below (bookWith joined marks settings (start .args .figures .now) pot cap indices) (entry (start .args .operator) (start .args .year) (2 * start .args .level) (start .args .sign) (start .args .weight)) (counted-in (start .args .year)) (entry (start .args .operator) (start .args .year) (2 * start .args .level + 1) (start .args .sign) (start .args .weight * start .args .seconds)) refl weight) (refl, refl)
 
 pub enter-counted-spec : {M : Type 1} → statement M
 enter-counted-spec =
     tie.close
     (tie.spec
-    mul-row
-    add-row
-    mul-row-2
-    mul-weight-at
-    add-weight-at
-    mul-seconds-at
-    add-seconds-at
-    add-seconds-at-2
+    mul-figure-slot
+    figure-slot-requires
+    mul-figure-slot-2
+    add-figure-slot
+    figure-slot-requires-2
     mul-move-figure
     element-copy-out-move-figure
     move-figure-requires

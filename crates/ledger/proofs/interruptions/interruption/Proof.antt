@@ -10,7 +10,7 @@ use Rattle.book.specs.Book.{bookWith}
 use Rattle.ledger.specs.Calls.{changed}
 use Rattle.ledger.specs.Steps.{admissionSaid}
 use Rattle.calls.proofs.Flags.{and-left, and-right}
-use Rattle.calls.proofs.Times.{back, timed, year-lt, seconds-lt}
+use Rattle.calls.proofs.Times.{back, timed, year-lt, seconds-most}
 use Rattle.calls.proofs.JudgedLaws.{details, left-out-none}
 use Rattle.ledger.proofs.AdmissionLaws.{member-decided}
 use Rattle.ledger.proofs.MoveLaws.{nothing-entered}
@@ -71,7 +71,14 @@ enter-counted-requires c κs =
     let times = timed (start .args .start) (start .args .end) (and-right (detailsInRange (start .args .sign) (start .args .level) (start .args .cause) (start .args .weight)) _ (ranged ∙ passed .in-range)) in
     let year = rw (back (start .fits .end)) at (c .before .year-of .ensures) in
     let seconds = rw (back (start .fits .start), back (start .fits .end)) at (c .before .before .before .before .before .seconds-of .ensures) in
-    (passed .small, in-range .sign-most, in-range .level-most, rw year (year-lt times), in-range .weight-most, rw seconds (seconds-lt times))
+    record {
+      operator-known = passed .small;
+      sign-most = in-range .sign-most;
+      level-most = in-range .level-most;
+      year-known = rw year (year-lt times);
+      weight-most = in-range .weight-most;
+      seconds-most = rw seconds (seconds-most times);
+    }
 
 enum-known-reason : tie.Need-enum-known-reason
 enum-known-reason c = search needs

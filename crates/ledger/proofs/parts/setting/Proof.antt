@@ -1,16 +1,14 @@
 -- `ledger::parts::setting` meets its contract.
 -- Assumes nothing.
 use mathlib.Core.Path.{refl, sym, ap, _∙_}
-use native.Mathlib.Omega.{arith}
+use mathlib.Core.List.{[]}
 use Rattle.calls.specs.declared.Call.the-variants.{Setting}
 use Rattle.calls.specs.Call.{factsOf}
-use Rattle.book.specs.Book.{bookWith, freshBook}
+use Rattle.book.specs.Book.{bookWith}
 use Rattle.ledger.specs.Steps.{admissionSaid}
 use Rattle.ledger.specs.Calls.{changed}
 use Rattle.calls.proofs.RangeLaws.{ranges}
 use Rattle.ledger.proofs.AdmissionLaws.{member-decided}
-use mathlib.Core.List.{[]}
-use Rattle.book.specs.Book.{settingSlot}
 use borrow.Author.Needs.{needs}
 use Rattle.ledger.proofs.parts.setting.Statement.{statement}
 use Rattle.ledger.proofs.parts.setting.Tie as tie
@@ -34,29 +32,26 @@ returns c = λ marks figures indices pot cap.
 enum-told : tie.Need-enum-told
 enum-told c = search needs
 
+setting-slot-requires : tie.Need-setting-slot-requires
+unfolding factsOf
+setting-slot-requires c κs =
+    let start = c .before .before .before .before in
+    let passed = member-decided (bookWith (start .args .joined) [] [] [] 0 0 []) (Setting (start .args .operator) (start .args .which) (start .args .value)) (start .args .operator) _ refl refl (sym (c .before .before .before .setting-in-range .ensures)) _ (sym (c .before .before .admit .ensures) ∙ ap admissionSaid (c .enum-told .given .1)) in
+    (passed .small, ranges (Setting (start .args .operator) (start .args .which) (start .args .value)) (sym (c .before .before .before .setting-in-range .ensures) ∙ passed .in-range) .0)
+
 mul-settings : tie.Need-mul-settings
 mul-settings c = search needs
 
-add-settings : tie.Need-add-settings
-add-settings c = search needs
-
-mul-settings-2 : tie.Need-mul-settings-2
-mul-settings-2 c = search needs
-
 element-write-settings : tie.Need-element-write-settings
-unfolding factsOf
-element-write-settings c =
-    let start = c .before .before .before .before in
-    let passed = member-decided (bookWith (start .args .joined) [] [] [] 0 0 []) (Setting (start .args .operator) (start .args .which) (start .args .value)) (start .args .operator) _ refl refl (sym (c .before .before .before .setting-in-range .ensures)) _ (sym (c .before .before .admit .ensures) ∙ ap admissionSaid (c .enum-told .given .1)) in
-    let in-range = ranges (Setting (start .args .operator) (start .args .which) (start .args .value)) (sym (c .before .before .before .setting-in-range .ensures) ∙ passed .in-range) in
-    omega (arith, passed .small, in-range .0)
+element-write-settings c = search needs
 
+-- stored
 returns-2 : tie.Need-returns-2
-unfolding factsOf changed settingSlot
+unfolding factsOf changed
 returns-2 c = λ marks figures indices pot cap.
-    let start = c .before .before .before .before in
-    let passed = member-decided (bookWith (start .args .joined) marks (start .args .settings .now) figures pot cap indices) (Setting (start .args .operator) (start .args .which) (start .args .value)) (start .args .operator) _ refl refl (sym (c .before .before .before .setting-in-range .ensures)) _ (sym (c .before .before .admit .ensures) ∙ ap admissionSaid (c .enum-told .given .1)) in
-    rw (passed .done refl) (refl, refl)
+    let start = c .before .before .before .before .before in
+    let passed = member-decided (bookWith (start .args .joined) marks (start .args .settings .now) figures pot cap indices) (Setting (start .args .operator) (start .args .which) (start .args .value)) (start .args .operator) _ refl refl (sym (c .before .before .before .before .setting-in-range .ensures)) _ (sym (c .before .before .before .admit .ensures) ∙ ap admissionSaid (c .before .enum-told .given .1)) in
+    rw (passed .done refl, c .setting-slot .ensures .0) (refl, refl)
 
 pub setting-spec : {M : Type 1} → statement M
 setting-spec =
@@ -67,8 +62,7 @@ setting-spec =
     enum-known-refusal
     returns
     enum-told
+    setting-slot-requires
     mul-settings
-    add-settings
-    mul-settings-2
     element-write-settings
     returns-2)
