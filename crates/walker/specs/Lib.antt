@@ -1,0 +1,2 @@
+-- The definitions of `walker`.
+pub mod Walk
