@@ -4,7 +4,9 @@ mod walkers;
 
 use fields::Field;
 pub use steps::step_at;
+pub use walkers::next;
 pub use walkers::offset;
+pub use walkers::walker_at;
 
 // A walk under way: the filing's bytes, and the offset of the next tag.
 pub struct Walker<'a> {
@@ -16,4 +18,10 @@ pub struct Walker<'a> {
 pub struct Step {
     pub field: Field,
     pub offset: usize,
+}
+
+// What stood at a walker, and the walker after it.
+pub struct Taken<'a> {
+    pub field: Field,
+    pub walker: Walker<'a>,
 }
