@@ -1,3 +1,5 @@
 -- What the proofs over a walker share.
 pub mod Owned
 pub mod ByWalk
+pub mod Returned
+pub mod WalkedLaws

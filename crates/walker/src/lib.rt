@@ -1,17 +1,19 @@
 // A walk over a filing: the lent bytes and the offset of the next tag in one record, with thin functions over it.
 mod steps;
 mod walkers;
+mod walks;
 
 use fields::Field;
 pub use steps::step_at;
 pub use walkers::next;
 pub use walkers::offset;
-pub use walkers::walker_at;
+pub use walkers::walker_over;
+pub use walks::walk;
 
 // A walk under way: the filing's bytes, and the offset of the next tag.
 pub struct Walker<'a> {
-    pub bytes: &'a [u8],
-    pub offset: usize,
+    bytes: &'a [u8],
+    offset: usize,
 }
 
 // What stands at an offset, and the offset after it: the same at the end and at a field that 1, 2 or 3 refuses.
@@ -24,4 +26,12 @@ pub struct Step {
 pub struct Taken<'a> {
     pub field: Field,
     pub walker: Walker<'a>,
+}
+
+// What a walk over a filing comes to: how many fields are well formed, the offset where the walk ends, and what stands there, the end
+// or the refusal.
+pub struct Walked {
+    pub fields: usize,
+    pub offset: usize,
+    pub field: Field,
 }

@@ -6,10 +6,10 @@ use crate::Taken;
 use crate::Walker;
 use crate::steps::step_at;
 
-pub fn walker_at<'a>(bytes: &'a [u8], offset: usize) -> Walker<'a>
-    ensures { λ r. ⌜ r ≡ walkerAt (bytes .entry) offset ⌝ }
+pub fn walker_over<'a>(bytes: &'a [u8]) -> Walker<'a>
+    ensures { λ r. ⌜ r ≡ walkerAt (bytes .entry) 0 ⌝ }
 {
-    Walker { bytes, offset }
+    Walker { bytes, offset: 0 }
 }
 
 pub fn offset<'a>(w: Walker<'a>) -> usize
