@@ -3,3 +3,4 @@ pub mod Owned
 pub mod ByWalk
 pub mod Returned
 pub mod WalkedLaws
+pub mod Turns
