@@ -4,7 +4,6 @@ mod walkers;
 mod walks;
 
 use fields::Field;
-pub use steps::step_at;
 pub use walkers::next;
 pub use walkers::offset;
 pub use walkers::walker_over;
@@ -14,12 +13,6 @@ pub use walks::walk;
 pub struct Walker<'a> {
     bytes: &'a [u8],
     offset: usize,
-}
-
-// What stands at an offset, and the offset after it: the same at the end and at a field that 1, 2 or 3 refuses.
-pub struct Step {
-    pub field: Field,
-    pub offset: usize,
 }
 
 // What stood at a walker, and the walker after it.

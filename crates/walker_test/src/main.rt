@@ -1,4 +1,4 @@
-// Walks over a few filings, and prints for each how many fields are well formed, where the walk ends and what stands there.
+// Walks over a few filings, and prints each as bytes = well formed fields, the offset where the walk ends, what stands there.
 use calls::Refusal;
 use calls::number_of;
 use fields::Field;
@@ -24,19 +24,33 @@ fn main() {
     );
 }
 
+// The filing's bytes, then what the walk comes to.
 fn show(bytes: &[u8]) {
+    put_bytes(bytes);
     let walked = walker::walk(bytes);
-    put_number(bytes.len());
-    put(b" bytes: ");
+    put(b"= ");
     put_number(walked.fields);
-    put(b" fields, at ");
+    put(b" ");
     put_number(walked.offset);
     let field = walked.field;
     match field {
-        Field::Filing { filing_call, next } => put(b" a field\n"),
-        Field::End => put(b" the end\n"),
+        Field::Filing { filing_call, next } => put(b" field\n"),
+        Field::End => put(b" end\n"),
         Field::Refused(refusal) => put_refusal(refusal),
     }
+}
+
+fn put_bytes(bytes: &[u8]) {
+    let mut i = 0;
+    while i < bytes.len() {
+        put_byte(bytes[i]);
+        i += 1;
+    }
+}
+
+fn put_byte(byte: u8) {
+    put_number(byte as usize);
+    put(b" ");
 }
 
 fn put_refusal(refusal: Refusal) {

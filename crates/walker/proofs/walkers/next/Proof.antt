@@ -39,12 +39,12 @@ use denote.Triple.Clauses.{ensured, lasts}
 use Rattle.fields.specs.Field.{fieldAt, fieldSaid}
 use Rattle.walker.specs.Walk.{walkerAt, offsetAfter}
 use Rattle.walker.specs.declared.Walker.{Walker}
-use Rattle.walker.specs.declared.Step.{Step}
+use Rattle.walker.specs.declared.steps.Step.{Step}
 use Rattle.walker.specs.declared.Taken.{Taken}
 use Rattle.walker.proofs.Walker as T
 use Rattle.walker.proofs.Walker.Laws as T′
-use Rattle.walker.proofs.Step as S
-use Rattle.walker.proofs.Step.Laws as S′
+use Rattle.walker.proofs.steps.Step as S
+use Rattle.walker.proofs.steps.Step.Laws as S′
 use Rattle.walker.proofs.Taken as R
 use Rattle.walker.proofs.Taken.Laws as R′
 use Rattle.walker.proofs.Owned.{walkerIn, sliceIn, machineOf, walker-spelt, walker-tells, α, takenVal, BytesOwned, WalkerOwned, OfWalker, OfTaken, walker-typed, walker-twice, bytes-of, walker-made}
