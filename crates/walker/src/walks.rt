@@ -7,6 +7,7 @@ ghost use Rattle.filing.specs.Laws.{callsIn};
 ghost use Rattle.walker.specs.Walk.{endIn, foundIn};
 use crate::Walked;
 use crate::walkers::next;
+use crate::walkers::offset;
 use crate::walkers::walker_over;
 
 pub fn walk(bytes: &[u8]) -> Walked
@@ -23,7 +24,7 @@ pub fn walk(bytes: &[u8]) -> Walked
     }
     Walked {
         fields,
-        offset: walker.offset,
+        offset: offset(walker),
         field: taken.field,
     }
 }

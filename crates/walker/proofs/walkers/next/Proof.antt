@@ -127,7 +127,7 @@ module _ {M : Type 1} (𝓤 : URA M) (H : Heap 𝓤) (A : Atoms 𝓤) (W : Given
         assigns ! (of-opd ! (load ! (from ! (fld ! refl (stop !))) (look-in ! 10 (sub ! 1 refl (whole !))))) (from ! (stop !)) (init ! 4 refl (tt, typed .1 .1 .0)) $
         move ! (14 ∷ []) $ use1 W (raw Asked ⊛ ‵ (WalkerOwned κ w)) apart $ split ! $
         calls-at ! fm (StepAt 𝓤 H A mem run) known passed (and-then ! (load ! (from ! (stop !)) (look ! 8 refl)) (and-then ! (load ! (from ! (stop !)) (look ! 6 refl)) (no-more !))) (λ u.
-        use1 W (Returned 𝓤 H A W S.the-type S′.the-laws κ q Stepped u) (returned 𝓤 H A W S.the-type S′.the-laws κ q _ Stepped said u) $ await ! tt $ pick ! (λ r. learn ! (λ got. split ! $ move ! (1 ∷ []) $
+        use1 W (Returned 𝓤 H A W S.the-row stepVal κ q Stepped u) (returned 𝓤 H A W S.the-row stepVal κ q Stepped u (LL.tells S.the-type S′.the-laws) _ said) $ await ! tt $ pick ! (λ r. learn ! (λ got. split ! $ move ! (1 ∷ []) $
         -- what the step owns, the token, what the walker owns, then the locals from _6 to _0
         land ! (from ! (stop !)) (init ! 11 refl (subst (λ (v : Val). Holds (hasTy S′.mir v) × WT v) (sym (got .1)) (LL.lawful S.the-type S′.the-laws 𝓤 H A W .typed r _ (got .2) .0))) $ rewrite ! 11 (λ (v : Val). ‵ (fat fullShare S′.mir l₂ 0 v)) (got .1) refl $
         assigns ! (of-opd ! (load ! (from ! (fld ! refl (stop !))) (look-in ! 13 (sub ! 0 refl (whole !))))) (from ! (stop !)) (init ! 5 refl (tt, typed .1 .0)) $
