@@ -10,7 +10,7 @@ use Rattle.calls.specs.Answers.{Said, refused-by, accepted, onAnswer, isRefused
 use Rattle.book.specs.declared.Book.{Book}
 use Rattle.fields.specs.Field.{Found, at-end, call-then, fieldAt}
 use Rattle.fields.proofs.FieldLaws.{Stands, stands}
-use Rattle.filing.specs.Reader.{Fields, field, ended, broken, followed, fieldsFrom, fieldsOf, read}
+use Rattle.filing.specs.Reader.{Fields, field, ended, broken, followed, fieldsFrom, fieldsOf}
 use Rattle.filing.specs.Laws.{callsIn, offsetsIn}
 use Rattle.filing.proofs.WalkLaws.{after}
 use Rattle.filing.proofs.ReadLaws.{read-as-calls}
