@@ -1,0 +1,48 @@
+-- Where a walk ends (specs/Laws.antt).
+-- Assumes nothing.
+use Prim.Native.Nat.{ℕ, zero, suc, _+_, _≤_}
+use mathlib.Core.Path.{_≡_, refl, ap, _∙_}
+use mathlib.Core.Bool.{true≢false}
+use mathlib.Core.List.{List}
+use native.Mathlib.Omega.{arith}
+use lib.ListN.{length, getD}
+use Rattle.calls.specs.Answers.{Said, refused-by, accepted, onAnswer, isRefused}
+use Rattle.book.specs.declared.Book.{Book}
+use Rattle.fields.specs.Field.{Found, at-end, call-then, fieldAt}
+use Rattle.fields.proofs.FieldLaws.{Stands, stands}
+use Rattle.filing.specs.Reader.{Fields, field, ended, broken, followed, fieldsFrom, fieldsOf}
+use Rattle.filing.specs.Laws.{callsIn, offsetsIn}
+use Rattle.filing.proofs.WalkLaws.{after}
+use Rattle.filing.proofs.ReadLaws.{read-as-calls}
+use Rattle.walker.specs.Walk.{endIn, foundIn}
+use Rattle.walker.specs.Laws.{EndsAtLength, EndsAsReading}
+
+-- the last of the offsets
+last-offset : (fields : Fields) → getD (offsetsIn fields) (length (callsIn fields)) 0 ≡ endIn fields
+unfolding offsetsIn callsIn endIn
+last-offset (field call at rest) = last-offset rest
+last-offset (ended at) = refl
+last-offset (broken number at) = refl
+
+pub ends-as-reading : (b : Book) (bytes : List ℕ) → EndsAsReading b bytes
+ends-as-reading b bytes ranged all =
+    read-as-calls b bytes ranged .at-offset ∙ ap (λ (n : ℕ). getD (offsetsIn (fieldsOf bytes)) n 0) all ∙ last-offset (fieldsOf bytes)
+
+-- with as many fields allowed as bytes are left
+to-length : (most : ℕ) (bytes : List ℕ) (at : ℕ) → length bytes ≤ most + at → at ≤ length bytes
+    → foundIn (fieldsFrom most bytes at) ≡ accepted at-end → endIn (fieldsFrom most bytes at) ≡ length bytes
+unfolding fieldsFrom followed onAnswer isRefused foundIn endIn
+to-length zero bytes at enough inside = λ e. omega arith
+to-length (suc most) bytes at enough inside = go (λ next. to-length most bytes next) (fieldAt bytes at) (stands bytes at)
+  where
+    go : ((next : ℕ) → length bytes ≤ most + next → next ≤ length bytes
+        → foundIn (fieldsFrom most bytes next) ≡ accepted at-end → endIn (fieldsFrom most bytes next) ≡ length bytes)
+        → (found : Said Found) → Stands bytes at found → foundIn (after (fieldsFrom most bytes) at found) ≡ accepted at-end
+        → endIn (after (fieldsFrom most bytes) at found) ≡ length bytes
+    go later (accepted (call-then call next)) placed e = later next (omega arith) (placed .1) e
+    go later (accepted at-end) placed e = omega arith
+    go later (refused-by number) placed e = absurd (true≢false (ap isRefused e))
+
+pub ends-at-length : (bytes : List ℕ) → EndsAtLength bytes
+unfolding fieldsOf
+ends-at-length bytes = to-length (length bytes) bytes 0 (omega arith) (omega arith)

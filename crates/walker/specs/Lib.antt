@@ -1,0 +1,3 @@
+-- The definitions of `walker`.
+pub mod Walk
+pub mod Laws
