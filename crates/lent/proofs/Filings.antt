@@ -1,6 +1,7 @@
 -- The book, an answer and a core's result as the theorem about lent calls takes them, and what every filing call promises.
 -- Assumes nothing.
 use mathlib.Core.Path.{_≡_, refl, ap}
+use mir.Syntax.{w8, w32, w64}
 use denote.Enum.Laws as EL
 use denote.Struct.Laws as LL
 use denote.Steps.{only}
@@ -15,8 +16,22 @@ use Rattle.calls.proofs.Answer as N
 use Rattle.calls.proofs.Answer.Laws as N′
 use Rattle.ledger.proofs.Filed as F
 use Rattle.ledger.proofs.Filed.Laws as F′
-use Rattle.lent.proofs.Plain.{Plain}
-use Rattle.lent.proofs.LentCall.{Paired}
+use Rattle.lent.proofs.Plain.{Plain, unsigned, signed}
+use Rattle.lent.proofs.Passed.{Passed, by-value}
+use Rattle.lent.proofs.Contracts.{Paired}
+
+-- the further parameters
+abbrev pub u8 : Passed 0
+u8 = by-value (unsigned w8)
+
+abbrev pub u32 : Passed 0
+u32 = by-value (unsigned w32)
+
+abbrev pub u64 : Passed 0
+u64 = by-value (unsigned w64)
+
+abbrev pub i64 : Passed 0
+i64 = by-value (signed w64)
 
 abbrev pub book : Plain
 book = record {
@@ -25,7 +40,7 @@ book = record {
   one = refl;
   val = LL.val B.the-type B′.the-laws;
   tells = LL.tells B.the-type B′.the-laws;
-  typed = λ 𝓤 H A W b is. LL.lawful B.the-type B′.the-laws 𝓤 H A W .typed b _ is .0;
+  typed = λ 𝓤 H A W b v is. LL.lawful B.the-type B′.the-laws 𝓤 H A W .typed b _ is .0;
   makes = λ 𝓤 H A W. LL.makes B.the-type B′.the-plain 𝓤 H A;
   last = λ b. tt;
   silent = λ b f. refl;
@@ -38,7 +53,7 @@ answer = record {
   one = refl;
   val = EL.val N.the-type N′.the-laws;
   tells = EL.tells N.the-type N′.the-laws;
-  typed = λ 𝓤 H A W a is. EL.lawful N.the-type N′.the-laws 𝓤 H A W tt .typed a _ is .0;
+  typed = λ 𝓤 H A W a v is. EL.lawful N.the-type N′.the-laws 𝓤 H A W tt .typed a _ is .0;
   makes = λ 𝓤 H A W. EL.makes N.the-type N′.the-plain 𝓤 H A;
   last = λ a. tt;
   silent = λ a f. refl;
@@ -50,8 +65,13 @@ filed = record {
   name = F.the-type .name;
   state = λ r. r .book;
   answer = λ r. r .answer;
+  both = λ b a. record { book = b; answer = a };
+  state-both = λ b a. refl;
+  answer-both = λ b a. refl;
   parts = λ r v is. (ap only (LL.tells F.the-type F′.the-laws r _ is), LL.owed F.the-type F′.the-laws r _ is .0, LL.owed F.the-type F′.the-laws r _ is .1 .0);
+  whole = λ b a is-b is-a. LL.owes F.the-type F′.the-laws (record { book = b; answer = a }) (is-b, (is-a, tt));
   typed = λ 𝓤 H A W r v is. LL.lawful F.the-type F′.the-laws 𝓤 H A W .typed r _ is .0;
+  makes = λ 𝓤 H A W. LL.makes F.the-type F′.the-plain 𝓤 H A;
 }
 
 -- the answer is what the call says, and the new book the one that it leaves

@@ -1,5 +1,7 @@
 -- What the proofs of the lent calls share.
 pub mod Plain
+pub mod Passed
 pub mod Locals
+pub mod Contracts
 pub mod LentCall
 pub mod Filings
