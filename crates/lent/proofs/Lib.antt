@@ -4,4 +4,5 @@ pub mod Passed
 pub mod Locals
 pub mod Contracts
 pub mod LentCall
+pub mod HeldCall
 pub mod Filings

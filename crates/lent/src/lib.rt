@@ -1,5 +1,6 @@
 // The filing calls with the book lent, by `&mut`: it is altered where it stands.
 mod filing;
+pub mod held;
 
 pub use filing::amount;
 pub use filing::index;
