@@ -1,13 +1,13 @@
--- The book, an answer and a core's result as the theorem about lent calls takes them, and what every filing call promises.
+-- The book, an answer and a core's result as the theorem about lent calls takes them, the seven calls, and what each promises.
 -- Assumes nothing.
 use mathlib.Core.Path.{_≡_, refl, ap}
+use mathlib.Core.List.{List, [], _∷_}
 use mir.Syntax.{w8, w32, w64}
 use denote.Enum.Laws as EL
 use denote.Struct.Laws as LL
 use denote.Steps.{only}
-use Rattle.book.specs.declared.Book.{Book}
-use Rattle.calls.specs.declared.Answer.{Answer}
 use Rattle.calls.specs.declared.Call.{Call}
+use Rattle.calls.specs.declared.Call.the-variants.{Join, Setting, Interruption, Amount, Mark, Rates, Index}
 use Rattle.calls.specs.Answers.{said}
 use Rattle.ledger.specs.Calls.{file}
 use Rattle.book.proofs.Book as B
@@ -17,20 +17,20 @@ use Rattle.calls.proofs.Answer.Laws as N′
 use Rattle.ledger.proofs.Filed as F
 use Rattle.ledger.proofs.Filed.Laws as F′
 use Rattle.lent.proofs.Plain.{Plain, unsigned, signed}
-use Rattle.lent.proofs.Passed.{Passed, by-value}
-use Rattle.lent.proofs.Contracts.{Paired}
+use Rattle.lent.proofs.Passed.{Passed, by-value, Values}
+use Rattle.lent.proofs.Contracts.{Paired, Promise}
 
 -- the further parameters
-abbrev pub u8 : Passed 0
+abbrev u8 : Passed 0
 u8 = by-value (unsigned w8)
 
-abbrev pub u32 : Passed 0
+abbrev u32 : Passed 0
 u32 = by-value (unsigned w32)
 
-abbrev pub u64 : Passed 0
+abbrev u64 : Passed 0
 u64 = by-value (unsigned w64)
 
-abbrev pub i64 : Passed 0
+abbrev i64 : Passed 0
 i64 = by-value (signed w64)
 
 abbrev pub book : Plain
@@ -74,6 +74,35 @@ filed = record {
   makes = λ 𝓤 H A W. LL.makes F.the-type F′.the-plain 𝓤 H A;
 }
 
+-- ---- each call: the types of its further parameters, and the call that their values make
+pub record CallOf : Type 2 where
+  pub params : List (Passed 0)
+  pub call : Values params → Call
+
+abbrev pub join : CallOf
+join = record { params = u8 ∷ []; call = λ xs. Join (xs .0) }
+
+abbrev pub setting : CallOf
+setting = record { params = u8 ∷ u8 ∷ u64 ∷ []; call = λ xs. Setting (xs .0) (xs .1 .0) (xs .1 .1 .0) }
+
+abbrev pub interruption : CallOf
+interruption = record {
+  params = u8 ∷ u8 ∷ u8 ∷ u8 ∷ i64 ∷ i64 ∷ u32 ∷ [];
+  call = λ xs. Interruption (xs .0) (xs .1 .0) (xs .1 .1 .0) (xs .1 .1 .1 .0) (xs .1 .1 .1 .1 .0) (xs .1 .1 .1 .1 .1 .0) (xs .1 .1 .1 .1 .1 .1 .0);
+}
+
+abbrev pub amount : CallOf
+amount = record { params = u8 ∷ u8 ∷ u8 ∷ u8 ∷ u64 ∷ []; call = λ xs. Amount (xs .0) (xs .1 .0) (xs .1 .1 .0) (xs .1 .1 .1 .0) (xs .1 .1 .1 .1 .0) }
+
+abbrev pub mark : CallOf
+mark = record { params = u8 ∷ u8 ∷ u8 ∷ []; call = λ xs. Mark (xs .0) (xs .1 .0) (xs .1 .1 .0) }
+
+abbrev pub rates : CallOf
+rates = record { params = u32 ∷ u32 ∷ []; call = λ xs. Rates (xs .0) (xs .1 .0) }
+
+abbrev pub index : CallOf
+index = record { params = u8 ∷ u32 ∷ []; call = λ xs. Index (xs .0) (xs .1 .0) }
+
 -- the answer is what the call says, and the new book the one that it leaves
-abbrev pub Files : {X : Type 0} → (X → Call) → Book → X → Answer → Book → Type 0
-Files call b xs a b′ = (said a ≡ file b (call xs) .said) × (b′ ≡ file b (call xs) .book)
+abbrev pub Files : (c : CallOf) → Promise filed (c .params)
+Files c b xs a b′ = (said a ≡ file b (c .call xs) .said) × (b′ ≡ file b (c .call xs) .book)

@@ -1,15 +1,13 @@
 -- `lent::interruption` is its core, lent.
 -- Assumes nothing.
-use mathlib.Core.List.{[], _∷_}
-use Rattle.calls.specs.declared.Call.the-variants.{Interruption}
 use Rattle.ledger.proofs.interruption.Symbol as core
 use Rattle.ledger.proofs.interruption.Met as core-thm
 use Rattle.lent.proofs.filing.interruption.Key.{name}
 use Rattle.lent.proofs.filing.interruption.Statement.{statement}
 use Rattle.lent.proofs.filing.interruption.Code as code
 use Rattle.lent.proofs.LentCall.{lent-call}
-use Rattle.lent.proofs.Filings.{i64, u32, u8, filed, Files}
+use Rattle.lent.proofs.Filings.{filed, interruption, Files}
 
 pub interruption-spec : {M : Type 1} → statement M
 unfolding code.routine
-interruption-spec 𝓤 H 𝓜 𝓖 𝓡 = lent-call filed (u8 ∷ u8 ∷ u8 ∷ u8 ∷ i64 ∷ i64 ∷ u32 ∷ []) (Files (λ xs. Interruption (xs .0) (xs .1 .0) (xs .1 .1 .0) (xs .1 .1 .1 .0) (xs .1 .1 .1 .1 .0) (xs .1 .1 .1 .1 .1 .0) (xs .1 .1 .1 .1 .1 .1 .0))) 𝓤 H 𝓜 𝓖 𝓡 code.env name core.name core.routine (code.unfolded 𝓤 H 𝓜 𝓡) code.calls-ledger·interruption (core-thm.met 𝓤 H 𝓜 𝓖 𝓡)
+interruption-spec 𝓤 H 𝓜 𝓖 𝓡 = lent-call filed (interruption .params) (Files interruption) 𝓤 H 𝓜 𝓖 𝓡 code.env name core.name core.routine (code.unfolded 𝓤 H 𝓜 𝓡) code.calls-ledger·interruption (core-thm.met 𝓤 H 𝓜 𝓖 𝓡)

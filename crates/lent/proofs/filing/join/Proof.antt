@@ -1,15 +1,13 @@
 -- `lent::join` is its core, lent.
 -- Assumes nothing.
-use mathlib.Core.List.{[], _∷_}
-use Rattle.calls.specs.declared.Call.the-variants.{Join}
 use Rattle.ledger.proofs.join.Symbol as core
 use Rattle.ledger.proofs.join.Met as core-thm
 use Rattle.lent.proofs.filing.join.Key.{name}
 use Rattle.lent.proofs.filing.join.Statement.{statement}
 use Rattle.lent.proofs.filing.join.Code as code
 use Rattle.lent.proofs.LentCall.{lent-call}
-use Rattle.lent.proofs.Filings.{u8, filed, Files}
+use Rattle.lent.proofs.Filings.{filed, join, Files}
 
 pub join-spec : {M : Type 1} → statement M
 unfolding code.routine
-join-spec 𝓤 H 𝓜 𝓖 𝓡 = lent-call filed (u8 ∷ []) (Files (λ xs. Join (xs .0))) 𝓤 H 𝓜 𝓖 𝓡 code.env name core.name core.routine (code.unfolded 𝓤 H 𝓜 𝓡) code.calls-ledger·join (core-thm.met 𝓤 H 𝓜 𝓖 𝓡)
+join-spec 𝓤 H 𝓜 𝓖 𝓡 = lent-call filed (join .params) (Files join) 𝓤 H 𝓜 𝓖 𝓡 code.env name core.name core.routine (code.unfolded 𝓤 H 𝓜 𝓡) code.calls-ledger·join (core-thm.met 𝓤 H 𝓜 𝓖 𝓡)

@@ -1,15 +1,13 @@
 -- `lent::mark` is its core, lent.
 -- Assumes nothing.
-use mathlib.Core.List.{[], _∷_}
-use Rattle.calls.specs.declared.Call.the-variants.{Mark}
 use Rattle.ledger.proofs.mark.Symbol as core
 use Rattle.ledger.proofs.mark.Met as core-thm
 use Rattle.lent.proofs.filing.mark.Key.{name}
 use Rattle.lent.proofs.filing.mark.Statement.{statement}
 use Rattle.lent.proofs.filing.mark.Code as code
 use Rattle.lent.proofs.LentCall.{lent-call}
-use Rattle.lent.proofs.Filings.{u8, filed, Files}
+use Rattle.lent.proofs.Filings.{filed, mark, Files}
 
 pub mark-spec : {M : Type 1} → statement M
 unfolding code.routine
-mark-spec 𝓤 H 𝓜 𝓖 𝓡 = lent-call filed (u8 ∷ u8 ∷ u8 ∷ []) (Files (λ xs. Mark (xs .0) (xs .1 .0) (xs .1 .1 .0))) 𝓤 H 𝓜 𝓖 𝓡 code.env name core.name core.routine (code.unfolded 𝓤 H 𝓜 𝓡) code.calls-ledger·mark (core-thm.met 𝓤 H 𝓜 𝓖 𝓡)
+mark-spec 𝓤 H 𝓜 𝓖 𝓡 = lent-call filed (mark .params) (Files mark) 𝓤 H 𝓜 𝓖 𝓡 code.env name core.name core.routine (code.unfolded 𝓤 H 𝓜 𝓡) code.calls-ledger·mark (core-thm.met 𝓤 H 𝓜 𝓖 𝓡)

@@ -1,15 +1,13 @@
 -- `lent::rates` is its core, lent.
 -- Assumes nothing.
-use mathlib.Core.List.{[], _∷_}
-use Rattle.calls.specs.declared.Call.the-variants.{Rates}
 use Rattle.ledger.proofs.rates.Symbol as core
 use Rattle.ledger.proofs.rates.Met as core-thm
 use Rattle.lent.proofs.filing.rates.Key.{name}
 use Rattle.lent.proofs.filing.rates.Statement.{statement}
 use Rattle.lent.proofs.filing.rates.Code as code
 use Rattle.lent.proofs.LentCall.{lent-call}
-use Rattle.lent.proofs.Filings.{u32, filed, Files}
+use Rattle.lent.proofs.Filings.{filed, rates, Files}
 
 pub rates-spec : {M : Type 1} → statement M
 unfolding code.routine
-rates-spec 𝓤 H 𝓜 𝓖 𝓡 = lent-call filed (u32 ∷ u32 ∷ []) (Files (λ xs. Rates (xs .0) (xs .1 .0))) 𝓤 H 𝓜 𝓖 𝓡 code.env name core.name core.routine (code.unfolded 𝓤 H 𝓜 𝓡) code.calls-ledger·rates (core-thm.met 𝓤 H 𝓜 𝓖 𝓡)
+rates-spec 𝓤 H 𝓜 𝓖 𝓡 = lent-call filed (rates .params) (Files rates) 𝓤 H 𝓜 𝓖 𝓡 code.env name core.name core.routine (code.unfolded 𝓤 H 𝓜 𝓡) code.calls-ledger·rates (core-thm.met 𝓤 H 𝓜 𝓖 𝓡)

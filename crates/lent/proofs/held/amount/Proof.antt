@@ -1,15 +1,13 @@
 -- `lent::held::amount` lends its book to `lent::amount`.
 -- Assumes nothing.
-use mathlib.Core.List.{[], _∷_}
-use Rattle.calls.specs.declared.Call.the-variants.{Amount}
 use Rattle.lent.proofs.filing.amount.Symbol as lent
 use Rattle.lent.proofs.filing.amount.Met as lent-thm
 use Rattle.lent.proofs.held.amount.Key.{name}
 use Rattle.lent.proofs.held.amount.Statement.{statement}
 use Rattle.lent.proofs.held.amount.Code as code
 use Rattle.lent.proofs.HeldCall.{held-call}
-use Rattle.lent.proofs.Filings.{u64, u8, filed, Files}
+use Rattle.lent.proofs.Filings.{filed, amount, Files}
 
 pub amount-spec : {M : Type 1} → statement M
 unfolding code.routine
-amount-spec 𝓤 H 𝓜 𝓖 𝓡 = held-call filed (u8 ∷ u8 ∷ u8 ∷ u8 ∷ u64 ∷ []) (Files (λ xs. Amount (xs .0) (xs .1 .0) (xs .1 .1 .0) (xs .1 .1 .1 .0) (xs .1 .1 .1 .1 .0))) 𝓤 H 𝓜 𝓖 𝓡 code.env name lent.name lent.routine (code.unfolded 𝓤 H 𝓜 𝓡) code.calls-lent·filing·amount (lent-thm.met 𝓤 H 𝓜 𝓖 𝓡)
+amount-spec 𝓤 H 𝓜 𝓖 𝓡 = held-call filed (amount .params) (Files amount) 𝓤 H 𝓜 𝓖 𝓡 code.env name lent.name lent.routine (code.unfolded 𝓤 H 𝓜 𝓡) code.calls-lent·filing·amount (lent-thm.met 𝓤 H 𝓜 𝓖 𝓡)

@@ -1,15 +1,13 @@
 -- `lent::held::interruption` lends its book to `lent::interruption`.
 -- Assumes nothing.
-use mathlib.Core.List.{[], _∷_}
-use Rattle.calls.specs.declared.Call.the-variants.{Interruption}
 use Rattle.lent.proofs.filing.interruption.Symbol as lent
 use Rattle.lent.proofs.filing.interruption.Met as lent-thm
 use Rattle.lent.proofs.held.interruption.Key.{name}
 use Rattle.lent.proofs.held.interruption.Statement.{statement}
 use Rattle.lent.proofs.held.interruption.Code as code
 use Rattle.lent.proofs.HeldCall.{held-call}
-use Rattle.lent.proofs.Filings.{i64, u32, u8, filed, Files}
+use Rattle.lent.proofs.Filings.{filed, interruption, Files}
 
 pub interruption-spec : {M : Type 1} → statement M
 unfolding code.routine
-interruption-spec 𝓤 H 𝓜 𝓖 𝓡 = held-call filed (u8 ∷ u8 ∷ u8 ∷ u8 ∷ i64 ∷ i64 ∷ u32 ∷ []) (Files (λ xs. Interruption (xs .0) (xs .1 .0) (xs .1 .1 .0) (xs .1 .1 .1 .0) (xs .1 .1 .1 .1 .0) (xs .1 .1 .1 .1 .1 .0) (xs .1 .1 .1 .1 .1 .1 .0))) 𝓤 H 𝓜 𝓖 𝓡 code.env name lent.name lent.routine (code.unfolded 𝓤 H 𝓜 𝓡) code.calls-lent·filing·interruption (lent-thm.met 𝓤 H 𝓜 𝓖 𝓡)
+interruption-spec 𝓤 H 𝓜 𝓖 𝓡 = held-call filed (interruption .params) (Files interruption) 𝓤 H 𝓜 𝓖 𝓡 code.env name lent.name lent.routine (code.unfolded 𝓤 H 𝓜 𝓡) code.calls-lent·filing·interruption (lent-thm.met 𝓤 H 𝓜 𝓖 𝓡)

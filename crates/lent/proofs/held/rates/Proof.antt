@@ -1,15 +1,13 @@
 -- `lent::held::rates` lends its book to `lent::rates`.
 -- Assumes nothing.
-use mathlib.Core.List.{[], _∷_}
-use Rattle.calls.specs.declared.Call.the-variants.{Rates}
 use Rattle.lent.proofs.filing.rates.Symbol as lent
 use Rattle.lent.proofs.filing.rates.Met as lent-thm
 use Rattle.lent.proofs.held.rates.Key.{name}
 use Rattle.lent.proofs.held.rates.Statement.{statement}
 use Rattle.lent.proofs.held.rates.Code as code
 use Rattle.lent.proofs.HeldCall.{held-call}
-use Rattle.lent.proofs.Filings.{u32, filed, Files}
+use Rattle.lent.proofs.Filings.{filed, rates, Files}
 
 pub rates-spec : {M : Type 1} → statement M
 unfolding code.routine
-rates-spec 𝓤 H 𝓜 𝓖 𝓡 = held-call filed (u32 ∷ u32 ∷ []) (Files (λ xs. Rates (xs .0) (xs .1 .0))) 𝓤 H 𝓜 𝓖 𝓡 code.env name lent.name lent.routine (code.unfolded 𝓤 H 𝓜 𝓡) code.calls-lent·filing·rates (lent-thm.met 𝓤 H 𝓜 𝓖 𝓡)
+rates-spec 𝓤 H 𝓜 𝓖 𝓡 = held-call filed (rates .params) (Files rates) 𝓤 H 𝓜 𝓖 𝓡 code.env name lent.name lent.routine (code.unfolded 𝓤 H 𝓜 𝓡) code.calls-lent·filing·rates (lent-thm.met 𝓤 H 𝓜 𝓖 𝓡)

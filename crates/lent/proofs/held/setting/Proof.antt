@@ -1,15 +1,13 @@
 -- `lent::held::setting` lends its book to `lent::setting`.
 -- Assumes nothing.
-use mathlib.Core.List.{[], _∷_}
-use Rattle.calls.specs.declared.Call.the-variants.{Setting}
 use Rattle.lent.proofs.filing.setting.Symbol as lent
 use Rattle.lent.proofs.filing.setting.Met as lent-thm
 use Rattle.lent.proofs.held.setting.Key.{name}
 use Rattle.lent.proofs.held.setting.Statement.{statement}
 use Rattle.lent.proofs.held.setting.Code as code
 use Rattle.lent.proofs.HeldCall.{held-call}
-use Rattle.lent.proofs.Filings.{u64, u8, filed, Files}
+use Rattle.lent.proofs.Filings.{filed, setting, Files}
 
 pub setting-spec : {M : Type 1} → statement M
 unfolding code.routine
-setting-spec 𝓤 H 𝓜 𝓖 𝓡 = held-call filed (u8 ∷ u8 ∷ u64 ∷ []) (Files (λ xs. Setting (xs .0) (xs .1 .0) (xs .1 .1 .0))) 𝓤 H 𝓜 𝓖 𝓡 code.env name lent.name lent.routine (code.unfolded 𝓤 H 𝓜 𝓡) code.calls-lent·filing·setting (lent-thm.met 𝓤 H 𝓜 𝓖 𝓡)
+setting-spec 𝓤 H 𝓜 𝓖 𝓡 = held-call filed (setting .params) (Files setting) 𝓤 H 𝓜 𝓖 𝓡 code.env name lent.name lent.routine (code.unfolded 𝓤 H 𝓜 𝓡) code.calls-lent·filing·setting (lent-thm.met 𝓤 H 𝓜 𝓖 𝓡)
