@@ -3,7 +3,6 @@
 use mathlib.Core.Path.{_≡_, refl, ap}
 use mathlib.Core.List.{List, [], _∷_}
 use mir.Syntax.{w8, w32, w64}
-use denote.Enum.Laws as EL
 use denote.Struct.Laws as LL
 use denote.Steps.{only}
 use Rattle.calls.specs.declared.Call.{Call}
@@ -16,7 +15,7 @@ use Rattle.calls.proofs.Answer as N
 use Rattle.calls.proofs.Answer.Laws as N′
 use Rattle.ledger.proofs.Filed as F
 use Rattle.ledger.proofs.Filed.Laws as F′
-use Rattle.lent.proofs.Plain.{Plain, unsigned, signed}
+use Rattle.lent.proofs.Plain.{Plain, unsigned, signed, of-struct, of-enum}
 use Rattle.lent.proofs.Passed.{Passed, by-value, Values}
 use Rattle.lent.proofs.Contracts.{Paired, Promise}
 
@@ -34,30 +33,10 @@ abbrev i64 : Passed 0
 i64 = by-value (signed w64)
 
 abbrev pub book : Plain
-book = record {
-  row = B.the-row;
-  ty = B′.mir;
-  one = refl;
-  val = LL.val B.the-type B′.the-laws;
-  tells = LL.tells B.the-type B′.the-laws;
-  typed = λ 𝓤 H A W b v is. LL.lawful B.the-type B′.the-laws 𝓤 H A W .typed b _ is .0;
-  makes = λ 𝓤 H A W. LL.makes B.the-type B′.the-plain 𝓤 H A;
-  last = λ b. tt;
-  silent = λ b f. refl;
-}
+book = of-struct B.the-type B′.the-laws B′.the-plain B′.the-copy
 
 abbrev pub answer : Plain
-answer = record {
-  row = N.the-row;
-  ty = N′.mir;
-  one = refl;
-  val = EL.val N.the-type N′.the-laws;
-  tells = EL.tells N.the-type N′.the-laws;
-  typed = λ 𝓤 H A W a v is. EL.lawful N.the-type N′.the-laws 𝓤 H A W tt .typed a _ is .0;
-  makes = λ 𝓤 H A W. EL.makes N.the-type N′.the-plain 𝓤 H A;
-  last = λ a. tt;
-  silent = λ a f. refl;
-}
+answer = of-enum N.the-type N′.the-laws tt N′.the-plain N′.the-copy
 
 abbrev pub filed : Paired book answer
 filed = record {

@@ -6,3 +6,4 @@ pub mod Contracts
 pub mod LentCall
 pub mod HeldCall
 pub mod Filings
+pub mod Readings

@@ -1,7 +1,7 @@
 -- `lent::held::interruption` lends its book to `lent::interruption`.
 -- Assumes nothing.
-use Rattle.lent.proofs.filing.interruption.Symbol as lent
-use Rattle.lent.proofs.filing.interruption.Met as lent-thm
+use Rattle.lent.proofs.lending.interruption.Symbol as lent
+use Rattle.lent.proofs.lending.interruption.Met as lent-thm
 use Rattle.lent.proofs.held.interruption.Key.{name}
 use Rattle.lent.proofs.held.interruption.Statement.{statement}
 use Rattle.lent.proofs.held.interruption.Code as code
@@ -10,4 +10,4 @@ use Rattle.lent.proofs.Filings.{filed, interruption, Files}
 
 pub interruption-spec : {M : Type 1} → statement M
 unfolding code.routine
-interruption-spec 𝓤 H 𝓜 𝓖 𝓡 = held-call filed (interruption .params) (Files interruption) 𝓤 H 𝓜 𝓖 𝓡 code.env name lent.name lent.routine (code.unfolded 𝓤 H 𝓜 𝓡) code.calls-lent·filing·interruption (lent-thm.met 𝓤 H 𝓜 𝓖 𝓡)
+interruption-spec 𝓤 H 𝓜 𝓖 𝓡 = held-call filed (interruption .params) (Files interruption) 𝓤 H 𝓜 𝓖 𝓡 code.env name lent.name lent.routine (code.unfolded 𝓤 H 𝓜 𝓡) code.calls-lent·lending·interruption (lent-thm.met 𝓤 H 𝓜 𝓖 𝓡)

@@ -1,7 +1,7 @@
 -- `lent::held::join` lends its book to `lent::join`.
 -- Assumes nothing.
-use Rattle.lent.proofs.filing.join.Symbol as lent
-use Rattle.lent.proofs.filing.join.Met as lent-thm
+use Rattle.lent.proofs.lending.join.Symbol as lent
+use Rattle.lent.proofs.lending.join.Met as lent-thm
 use Rattle.lent.proofs.held.join.Key.{name}
 use Rattle.lent.proofs.held.join.Statement.{statement}
 use Rattle.lent.proofs.held.join.Code as code
@@ -10,4 +10,4 @@ use Rattle.lent.proofs.Filings.{filed, join, Files}
 
 pub join-spec : {M : Type 1} → statement M
 unfolding code.routine
-join-spec 𝓤 H 𝓜 𝓖 𝓡 = held-call filed (join .params) (Files join) 𝓤 H 𝓜 𝓖 𝓡 code.env name lent.name lent.routine (code.unfolded 𝓤 H 𝓜 𝓡) code.calls-lent·filing·join (lent-thm.met 𝓤 H 𝓜 𝓖 𝓡)
+join-spec 𝓤 H 𝓜 𝓖 𝓡 = held-call filed (join .params) (Files join) 𝓤 H 𝓜 𝓖 𝓡 code.env name lent.name lent.routine (code.unfolded 𝓤 H 𝓜 𝓡) code.calls-lent·lending·join (lent-thm.met 𝓤 H 𝓜 𝓖 𝓡)

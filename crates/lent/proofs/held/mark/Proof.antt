@@ -1,7 +1,7 @@
 -- `lent::held::mark` lends its book to `lent::mark`.
 -- Assumes nothing.
-use Rattle.lent.proofs.filing.mark.Symbol as lent
-use Rattle.lent.proofs.filing.mark.Met as lent-thm
+use Rattle.lent.proofs.lending.mark.Symbol as lent
+use Rattle.lent.proofs.lending.mark.Met as lent-thm
 use Rattle.lent.proofs.held.mark.Key.{name}
 use Rattle.lent.proofs.held.mark.Statement.{statement}
 use Rattle.lent.proofs.held.mark.Code as code
@@ -10,4 +10,4 @@ use Rattle.lent.proofs.Filings.{filed, mark, Files}
 
 pub mark-spec : {M : Type 1} → statement M
 unfolding code.routine
-mark-spec 𝓤 H 𝓜 𝓖 𝓡 = held-call filed (mark .params) (Files mark) 𝓤 H 𝓜 𝓖 𝓡 code.env name lent.name lent.routine (code.unfolded 𝓤 H 𝓜 𝓡) code.calls-lent·filing·mark (lent-thm.met 𝓤 H 𝓜 𝓖 𝓡)
+mark-spec 𝓤 H 𝓜 𝓖 𝓡 = held-call filed (mark .params) (Files mark) 𝓤 H 𝓜 𝓖 𝓡 code.env name lent.name lent.routine (code.unfolded 𝓤 H 𝓜 𝓡) code.calls-lent·lending·mark (lent-thm.met 𝓤 H 𝓜 𝓖 𝓡)

@@ -2,9 +2,9 @@
 -- Assumes nothing.
 use Rattle.ledger.proofs.amount.Symbol as core
 use Rattle.ledger.proofs.amount.Met as core-thm
-use Rattle.lent.proofs.filing.amount.Key.{name}
-use Rattle.lent.proofs.filing.amount.Statement.{statement}
-use Rattle.lent.proofs.filing.amount.Code as code
+use Rattle.lent.proofs.lending.amount.Key.{name}
+use Rattle.lent.proofs.lending.amount.Statement.{statement}
+use Rattle.lent.proofs.lending.amount.Code as code
 use Rattle.lent.proofs.LentCall.{lent-call}
 use Rattle.lent.proofs.Filings.{filed, amount, Files}
 

@@ -2,9 +2,9 @@
 -- Assumes nothing.
 use Rattle.ledger.proofs.index.Symbol as core
 use Rattle.ledger.proofs.index.Met as core-thm
-use Rattle.lent.proofs.filing.index.Key.{name}
-use Rattle.lent.proofs.filing.index.Statement.{statement}
-use Rattle.lent.proofs.filing.index.Code as code
+use Rattle.lent.proofs.lending.index.Key.{name}
+use Rattle.lent.proofs.lending.index.Statement.{statement}
+use Rattle.lent.proofs.lending.index.Code as code
 use Rattle.lent.proofs.LentCall.{lent-call}
 use Rattle.lent.proofs.Filings.{filed, index, Files}
 

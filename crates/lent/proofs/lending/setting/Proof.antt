@@ -2,9 +2,9 @@
 -- Assumes nothing.
 use Rattle.ledger.proofs.setting.Symbol as core
 use Rattle.ledger.proofs.setting.Met as core-thm
-use Rattle.lent.proofs.filing.setting.Key.{name}
-use Rattle.lent.proofs.filing.setting.Statement.{statement}
-use Rattle.lent.proofs.filing.setting.Code as code
+use Rattle.lent.proofs.lending.setting.Key.{name}
+use Rattle.lent.proofs.lending.setting.Statement.{statement}
+use Rattle.lent.proofs.lending.setting.Code as code
 use Rattle.lent.proofs.LentCall.{lent-call}
 use Rattle.lent.proofs.Filings.{filed, setting, Files}
 

@@ -2,9 +2,9 @@
 -- Assumes nothing.
 use Rattle.ledger.proofs.interruption.Symbol as core
 use Rattle.ledger.proofs.interruption.Met as core-thm
-use Rattle.lent.proofs.filing.interruption.Key.{name}
-use Rattle.lent.proofs.filing.interruption.Statement.{statement}
-use Rattle.lent.proofs.filing.interruption.Code as code
+use Rattle.lent.proofs.lending.interruption.Key.{name}
+use Rattle.lent.proofs.lending.interruption.Statement.{statement}
+use Rattle.lent.proofs.lending.interruption.Code as code
 use Rattle.lent.proofs.LentCall.{lent-call}
 use Rattle.lent.proofs.Filings.{filed, interruption, Files}
 

@@ -2,9 +2,9 @@
 -- Assumes nothing.
 use Rattle.ledger.proofs.rates.Symbol as core
 use Rattle.ledger.proofs.rates.Met as core-thm
-use Rattle.lent.proofs.filing.rates.Key.{name}
-use Rattle.lent.proofs.filing.rates.Statement.{statement}
-use Rattle.lent.proofs.filing.rates.Code as code
+use Rattle.lent.proofs.lending.rates.Key.{name}
+use Rattle.lent.proofs.lending.rates.Statement.{statement}
+use Rattle.lent.proofs.lending.rates.Code as code
 use Rattle.lent.proofs.LentCall.{lent-call}
 use Rattle.lent.proofs.Filings.{filed, rates, Files}
 

@@ -2,9 +2,9 @@
 -- Assumes nothing.
 use Rattle.ledger.proofs.mark.Symbol as core
 use Rattle.ledger.proofs.mark.Met as core-thm
-use Rattle.lent.proofs.filing.mark.Key.{name}
-use Rattle.lent.proofs.filing.mark.Statement.{statement}
-use Rattle.lent.proofs.filing.mark.Code as code
+use Rattle.lent.proofs.lending.mark.Key.{name}
+use Rattle.lent.proofs.lending.mark.Statement.{statement}
+use Rattle.lent.proofs.lending.mark.Code as code
 use Rattle.lent.proofs.LentCall.{lent-call}
 use Rattle.lent.proofs.Filings.{filed, mark, Files}
 

@@ -2,9 +2,9 @@
 -- Assumes nothing.
 use Rattle.ledger.proofs.join.Symbol as core
 use Rattle.ledger.proofs.join.Met as core-thm
-use Rattle.lent.proofs.filing.join.Key.{name}
-use Rattle.lent.proofs.filing.join.Statement.{statement}
-use Rattle.lent.proofs.filing.join.Code as code
+use Rattle.lent.proofs.lending.join.Key.{name}
+use Rattle.lent.proofs.lending.join.Statement.{statement}
+use Rattle.lent.proofs.lending.join.Code as code
 use Rattle.lent.proofs.LentCall.{lent-call}
 use Rattle.lent.proofs.Filings.{filed, join, Files}
 
