@@ -37,6 +37,14 @@ pub(crate) fn put_byte(n: u8) -> u8 {
     n
 }
 
+pub(crate) fn put_word(n: u64) -> u32 {
+    (put_number(n % 4294967296) % 4294967296) as u32
+}
+
+pub(crate) fn put_half(n: u64) -> u16 {
+    (put_number(n % 65536) % 65536) as u16
+}
+
 pub(crate) fn put_time(raw: u64) -> i64 {
     let shifted = raw % 1000000000;
     if shifted < ADDED {

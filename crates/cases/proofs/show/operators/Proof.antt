@@ -1,9 +1,9 @@
--- `book_test::show::operators` is safe and ends.
+-- `cases::show::operators` is safe and ends.
 -- Assumes nothing.
 use Prim.Native.Nat.{_-_, _≤_}
 use native.Mathlib.Omega.{arith}
-use Rattle.book_test.proofs.show.operators.Statement.{statement}
-use Rattle.book_test.proofs.show.operators.Tie as tie
+use Rattle.cases.proofs.show.operators.Statement.{statement}
+use Rattle.cases.proofs.show.operators.Tie as tie
 
 abbrev Inv-loop : tie.InvT-loop
 Inv-loop b i₀ i = i ≤ 16

@@ -1,4 +1,4 @@
--- `book_test::settle::put_signed` is safe and ends.
+-- `cases::settle::put_signed` is safe and ends.
 -- Assumes nothing.
 use mathlib.Core.Path.{_≡_, refl, ap}
 use mathlib.Core.Bool.{true, false, true≢false}
@@ -12,11 +12,11 @@ use mir.Val.{SFits}
 use borrow.Author.Tests.{ltb-true, leb-true}
 use Rattle.calls.proofs.Times.{back}
 use borrow.Author.Needs.{needs}
-use Rattle.book_test.proofs.settle.put_signed.Statement.{statement}
-use Rattle.book_test.proofs.settle.put_signed.Tie as tie
-use Rattle.book_test.proofs.settle.put_signed.Reads as reads
-use Rattle.book_test.proofs.settle.put_signed.Lts as lts
-use Rattle.book_test.proofs.print.put.Reads as put-reads
+use Rattle.cases.proofs.settle.put_signed.Statement.{statement}
+use Rattle.cases.proofs.settle.put_signed.Tie as tie
+use Rattle.cases.proofs.settle.put_signed.Reads as reads
+use Rattle.cases.proofs.settle.put_signed.Lts as lts
+use Rattle.cases.proofs.print.put.Reads as put-reads
 use Rattle.io.proofs.print_decimal.Reads as print-decimal-reads
 
 -- a number below 0, with its sign turned

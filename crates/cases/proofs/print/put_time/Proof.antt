@@ -1,4 +1,4 @@
--- `book_test::print::put_time` is safe and ends.
+-- `cases::print::put_time` is safe and ends.
 -- Assumes nothing.
 use mathlib.Core.Bool.{Bool, true, false, cond}
 use Prim.Native.Nat.{ℕ, suc, _-_, _%_, _^_, _<_}
@@ -9,8 +9,8 @@ use lib.Signed.{mag}
 use mir.Syntax.{w64}
 use mir.Facts.{toZ-pos}
 use borrow.Author.Needs.{needs}
-use Rattle.book_test.proofs.print.put_time.Statement.{statement}
-use Rattle.book_test.proofs.print.put_time.Tie as tie
+use Rattle.cases.proofs.print.put_time.Statement.{statement}
+use Rattle.cases.proofs.print.put_time.Tie as tie
 
 slice-aggregate-put : tie.Need-slice-aggregate-put
 slice-aggregate-put c = search needs

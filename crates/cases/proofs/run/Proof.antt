@@ -1,16 +1,16 @@
--- `book_test::main` is safe and ends.
+-- `cases::run` is safe and ends.
 -- Assumes nothing.
 use borrow.Author.Needs.{needs}
 use Prim.Native.Nat.{_-_, _≤_}
 use native.Mathlib.Omega.{arith}
-use Rattle.book_test.proofs.main.Statement.{statement}
-use Rattle.book_test.proofs.main.Tie as tie
+use Rattle.cases.proofs.run.Statement.{statement}
+use Rattle.cases.proofs.run.Tie as tie
 
 abbrev Inv-loop : tie.InvT-loop
-Inv-loop b₀ i₀ b i = i ≤ 628
+Inv-loop lends b₀ i₀ b i = i ≤ 628
 
 abbrev μ-loop : tie.MeasureT-loop
-μ-loop b₀ i₀ b i = 628 - i
+μ-loop lends b₀ i₀ b i = 628 - i
 
 fresh-requires : tie.Need-fresh-requires Inv-loop μ-loop
 fresh-requires c κs = search needs
@@ -33,8 +33,8 @@ loop-again c = omega arith
 returns : tie.Need-returns Inv-loop μ-loop
 returns c = omega arith
 
-pub main-spec : {M : Type 1} → statement M
-main-spec =
+pub run-spec : {M : Type 1} → statement M
+run-spec =
     tie.close
     (tie.spec
     Inv-loop

@@ -1,13 +1,13 @@
--- `book_test::settle::pools` is safe and ends.
+-- `cases::settle::pools` is safe and ends.
 -- Assumes nothing.
 use borrow.Author.Needs.{needs}
 use Prim.Native.Nat.{_-_, _≤_}
 use native.Mathlib.Omega.{arith}
-use Rattle.book_test.proofs.settle.pools.Statement.{statement}
-use Rattle.book_test.proofs.settle.pools.Tie as tie
-use Rattle.book_test.proofs.settle.pools.Reads as reads
-use Rattle.book_test.proofs.settle.pools.Lts as lts
-use Rattle.book_test.proofs.print.put_number.Reads as put-number-reads
+use Rattle.cases.proofs.settle.pools.Statement.{statement}
+use Rattle.cases.proofs.settle.pools.Tie as tie
+use Rattle.cases.proofs.settle.pools.Reads as reads
+use Rattle.cases.proofs.settle.pools.Lts as lts
+use Rattle.cases.proofs.print.put_number.Reads as put-number-reads
 
 abbrev Inv-loop : tie.InvT-loop
 Inv-loop list i₀ i = i ≤ 6

@@ -1,10 +1,10 @@
--- `book_test::show::figures` is safe and ends.
+-- `cases::show::figures` is safe and ends.
 -- Assumes nothing.
 use borrow.Author.Needs.{needs}
 use Prim.Native.Nat.{_-_, _≤_}
 use native.Mathlib.Omega.{arith}
-use Rattle.book_test.proofs.show.figures.Statement.{statement}
-use Rattle.book_test.proofs.show.figures.Tie as tie
+use Rattle.cases.proofs.show.figures.Statement.{statement}
+use Rattle.cases.proofs.show.figures.Tie as tie
 
 abbrev Inv-loop : tie.InvT-loop
 Inv-loop b operator i₀ i = i ≤ 24

@@ -1,8 +1,10 @@
 // The cases, eight numbers each: what to do, and its arguments. Of an interruption level and cause share a number, level * 16 + cause,
 // and 100,000,000 is added to its times. A store names a kind of value, a place and the value.
+ghost use Prim.Native.Nat.{_<_};
+
 pub(crate) const COUNT: usize = 628;
 
-pub(crate) const CASES: [u64; 5024] = [
+const CASES: [u64; 5024] = [
     9,
     0,
     0,
@@ -5028,3 +5030,15 @@ pub(crate) const CASES: [u64; 5024] = [
     0,
     0,
 ];
+
+pub(crate) fn cell(at: usize) -> u64
+    requires { ⌜ at < 5024 ⌝ }
+{
+    CASES[at]
+}
+
+pub(crate) fn byte(at: usize) -> u8
+    requires { ⌜ at < 5024 ⌝ }
+{
+    (cell(at) % 256) as u8
+}

@@ -1,16 +1,16 @@
--- `book_test::show::masks` is safe and ends.
+-- `cases::show::indices` is safe and ends.
 -- Assumes nothing.
 use borrow.Author.Needs.{needs}
 use Prim.Native.Nat.{_-_, _≤_}
 use native.Mathlib.Omega.{arith}
-use Rattle.book_test.proofs.show.masks.Statement.{statement}
-use Rattle.book_test.proofs.show.masks.Tie as tie
+use Rattle.cases.proofs.show.indices.Statement.{statement}
+use Rattle.cases.proofs.show.indices.Tie as tie
 
 abbrev Inv-loop : tie.InvT-loop
-Inv-loop marks i₀ i = i ≤ 6
+Inv-loop list i₀ i = i ≤ 4
 
 abbrev μ-loop : tie.MeasureT-loop
-μ-loop marks i₀ i = 6 - i
+μ-loop list i₀ i = 4 - i
 
 slice-aggregate-put : tie.Need-slice-aggregate-put Inv-loop μ-loop
 slice-aggregate-put c = omega arith
@@ -21,14 +21,14 @@ put-requires c κs = search needs
 loop-holds : tie.Need-loop-holds Inv-loop μ-loop
 loop-holds c = omega arith
 
-mul-put-half : tie.Need-mul-put-half Inv-loop μ-loop
-mul-put-half c = omega arith
+mul-put-word : tie.Need-mul-put-word Inv-loop μ-loop
+mul-put-word c = omega arith
 
-array-read-put-half : tie.Need-array-read-put-half Inv-loop μ-loop
-array-read-put-half c = omega arith
+array-read-put-word : tie.Need-array-read-put-word Inv-loop μ-loop
+array-read-put-word c = omega arith
 
-put-half-requires : tie.Need-put-half-requires Inv-loop μ-loop
-put-half-requires c κs = search needs
+put-word-requires : tie.Need-put-word-requires Inv-loop μ-loop
+put-word-requires c κs = search needs
 
 add-i : tie.Need-add-i Inv-loop μ-loop
 add-i c = omega arith
@@ -42,8 +42,8 @@ loop-again c = omega arith
 returns : tie.Need-returns Inv-loop μ-loop
 returns c = omega arith
 
-pub masks-spec : {M : Type 1} → statement M
-masks-spec =
+pub indices-spec : {M : Type 1} → statement M
+indices-spec =
     tie.close
     (tie.spec
     Inv-loop
@@ -51,9 +51,9 @@ masks-spec =
     slice-aggregate-put
     put-requires
     loop-holds
-    mul-put-half
-    array-read-put-half
-    put-half-requires
+    mul-put-word
+    array-read-put-word
+    put-word-requires
     add-i
     loop-less
     loop-again

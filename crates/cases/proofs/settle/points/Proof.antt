@@ -1,14 +1,14 @@
--- `book_test::settle::points` is safe and ends.
+-- `cases::settle::points` is safe and ends.
 -- Assumes nothing.
 use borrow.Author.Needs.{needs}
 use Prim.Native.Nat.{_-_, _≤_}
 use native.Mathlib.Omega.{arith}
-use Rattle.book_test.proofs.settle.points.Statement.{statement}
-use Rattle.book_test.proofs.settle.points.Tie as tie
-use Rattle.book_test.proofs.settle.points.Reads as reads
-use Rattle.book_test.proofs.settle.points.Lts as lts
-use Rattle.book_test.proofs.print.put.Reads as put-reads
-use Rattle.book_test.proofs.print.put_number.Reads as put-number-reads
+use Rattle.cases.proofs.settle.points.Statement.{statement}
+use Rattle.cases.proofs.settle.points.Tie as tie
+use Rattle.cases.proofs.settle.points.Reads as reads
+use Rattle.cases.proofs.settle.points.Lts as lts
+use Rattle.cases.proofs.print.put.Reads as put-reads
+use Rattle.cases.proofs.print.put_number.Reads as put-number-reads
 
 abbrev Inv-loop : tie.InvT-loop
 Inv-loop operator list i₀ i = i ≤ 6

@@ -1,16 +1,16 @@
--- `book_test::settle::whole` is safe and ends.
+-- `cases::settle::whole` is safe and ends.
 -- Assumes nothing.
 use borrow.Author.Needs.{needs}
 use Prim.Native.Nat.{_-_, _≤_}
 use native.Mathlib.Omega.{arith}
-use Rattle.book_test.proofs.settle.whole.Statement.{statement}
-use Rattle.book_test.proofs.settle.whole.Tie as tie
-use Rattle.book_test.proofs.settle.whole.Reads as reads
-use Rattle.book_test.proofs.settle.whole.Lts as lts
-use Rattle.book_test.proofs.print.put.Reads as put-reads
-use Rattle.book_test.proofs.print.put_number.Reads as put-number-reads
-use Rattle.book_test.proofs.settle.one.Reads as one-reads
-use Rattle.book_test.proofs.settle.pools.Reads as pools-reads
+use Rattle.cases.proofs.settle.whole.Statement.{statement}
+use Rattle.cases.proofs.settle.whole.Tie as tie
+use Rattle.cases.proofs.settle.whole.Reads as reads
+use Rattle.cases.proofs.settle.whole.Lts as lts
+use Rattle.cases.proofs.print.put.Reads as put-reads
+use Rattle.cases.proofs.print.put_number.Reads as put-number-reads
+use Rattle.cases.proofs.settle.one.Reads as one-reads
+use Rattle.cases.proofs.settle.pools.Reads as pools-reads
 
 abbrev Inv-loop : tie.InvT-loop
 Inv-loop b s i₀ i = i ≤ 16
