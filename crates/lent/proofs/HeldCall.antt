@@ -36,15 +36,16 @@ use denote.Steps.{only, owned, peeks, facts, heard, nothing}
 use denote.Struct.Steps.{spelt}
 use denote.Triple.Statement.{Triple}
 use denote.Triple.Call.{calls-at}
-use denote.Triple.Entry.{Vals, onEntry}
+use denote.Triple.Entry.{Args, Vals, onEntry}
 use denote.Triple.Table.{entered, cited}
-use denote.Triple.Clauses.{Lasts, ensured, lasts}
+use denote.Triple.Weaken.{weaken}
+use denote.Triple.Clauses.{Lasts, atExit, ensured, lasts}
 use denote.Triple.Walked.{says, Stays, stay-none, walkOf, goes-none, ends-at, walked, walk-meets}
 use denote.Exit.{yes}
 use Rattle.lent.proofs.Plain.{Plain}
 use Rattle.lent.proofs.Passed.{Passed, of-core, of-lent, Values, Good, owned-all, twice-all, stays, goes-all, Rows, values, args, values-args, spelling, telling, machines, good, finals, fitting, had-at-entry, had-by-callee, had-at-exit}
 use Rattle.lent.proofs.Locals.{locals, Blocks, env, copies, after, Stand, stand-after, from-at, alloc-all, free-all, pass-all, opds-all}
-use Rattle.lent.proofs.Contracts.{Paired, Promise, core-ended, lent-ended, pairTy, core-clauses, lent-clauses, Core, Lent}
+use Rattle.lent.proofs.Contracts.{Paired, Promise, core-ended, lent-ended, pairTy, CoreEnsures, core-ensuring, core-clauses, lent-clauses, Core, Lent}
 
 -- ---- a state in a local is a state that can be lent, and back
 module _ (B : Plain) {M : Type 1} (𝓤 : URA M) (H : Heap 𝓤) (A : Atoms 𝓤) (W : Given 𝓤 H A) (h : B .row .Denot) (l : ℕ) where
@@ -109,7 +110,7 @@ module _ {B N : Plain} (P : Paired B N) {n : ℕ} (Ps : List (Passed n)) where
       vals = (B .val h ∷ [], machines (of-core n) κs Ps a)
 
       abbrev Post : Val → SProp 𝓤
-      Post = walkOf 𝓤 H A (core-ended P Ps) stayed (core-clauses P Ps S 𝓤 H A) .post ((κs, qs, tt, (h, a), vals), tt)
+      Post = walkOf 𝓤 H A (core-ended P Ps) stayed (core-clauses P Ps S 𝓤) .post ((κs, qs, tt, (h, a), vals), tt)
 
       -- what the further parameters own, and the tokens of their lifetimes
       abbrev own : Fml
@@ -129,16 +130,16 @@ module _ {B N : Plain} (P : Paired B N) {n : ℕ} (Ps : List (Passed n)) where
         abbrev passed-on : Denots (Rows (of-lent n) (ν ∷ [], κs) Ps)
         passed-on = args (of-lent n) (ν ∷ [], κs) Ps xs
 
-        abbrev to : Lent P Ps S 𝓤 H A .Ghost
+        abbrev to : Lent P Ps 𝓤 H A (lent-clauses P Ps S 𝓤) .Ghost
         to = (((ν ∷ [], κs), (fullShare, qs), tt, (x, passed-on), (vptr l zero ∷ [], machines (of-lent n) (ν ∷ [], κs) Ps passed-on)), tt)
 
-        asked : ent 𝓤 (sep 𝓤 (sep 𝓤 (A .lft (ν ∷ []) fullShare) tokens) (sep 𝓤 (sem 𝓤 H A ref) (sem 𝓤 H A own))) (sep 𝓤 (Lent P Ps S 𝓤 H A .pre to) (sem 𝓤 H A own))
+        asked : ent 𝓤 (sep 𝓤 (sep 𝓤 (A .lft (ν ∷ []) fullShare) tokens) (sep 𝓤 (sem 𝓤 H A ref) (sem 𝓤 H A own))) (sep 𝓤 (Lent P Ps 𝓤 H A (lent-clauses P Ps S 𝓤) .pre to) (sem 𝓤 H A own))
         asked =
             qed W ((‵ (flft (ν ∷ []) fullShare) ⊛ raw tokens) ∷ ‵ ref ∷ ‵ own ∷ []) ∵ move ! (2 ∷ []) $ use1 W (‵ own ⊛ ‵ own) (twice-all κs 𝓤 H A W Ps xs) $ split ! $
             rewrite ! 0 (λ (F : Fml). ‵ F) (had-by-callee (of-lent n) (ν ∷ [], κs) Ps xs) refl $ move ! (3 ∷ 0 ∷ []) $ fjoin ! $ move ! (2 ∷ 0 ∷ []) $ join ! $ nothing ! $ move ! (1 ∷ 0 ∷ []) $ join ! $ frame ! $ done !
 
         abbrev Ensured : N .row .Denot → SProp 𝓤
-        Ensured = ensured 𝓤 H A (lent-ended P Ps) (lent-clauses P Ps S 𝓤 H A) (ν ∷ [], κs) (x, passed-on) tt
+        Ensured = ensured 𝓤 H A (lent-ended P Ps) (lent-clauses P Ps S 𝓤) (ν ∷ [], κs) (x, passed-on) tt
 
         abbrev Left : Type 0
         Left = Lasts (lent-ended P Ps) (ν ∷ [], κs) (x, passed-on)
@@ -157,11 +158,11 @@ module _ {B N : Plain} (P : Paired B N) {n : ℕ} (Ps : List (Passed n)) where
       exits : (b : B .row .Denot) (r : N .row .Denot) → Is (P .row) (P .both b r) (pairVal b r ∷ []) → S h xs (P .answer (P .both b r)) (P .state (P .both b r)) → ent 𝓤 (sep 𝓤 tokens (sem 𝓤 H A own)) (Post (pairVal b r))
       exits b r is e =
           qed W (raw tokens ∷ ‵ own ∷ []) ∵
-          suffices ! _ (ends-at 𝓤 H A (core-ended P Ps) stayed (core-clauses P Ps S 𝓤 H A) W ((κs, qs, tt, (h, a), vals), tt) (pairVal b r) (P .both b r) (B .last h, finals (of-core n) κs Ps a) (tt, fitting (of-core n) κs Ps a)) $ says ! e $
+          suffices ! _ (ends-at 𝓤 H A (core-ended P Ps) stayed (core-clauses P Ps S 𝓤) W ((κs, qs, tt, (h, a), vals), tt) (pairVal b r) (P .both b r) (B .last h, finals (of-core n) κs Ps a) (tt, fitting (of-core n) κs Ps a)) $ says ! e $
           frame ! $ rewrite ! 0 (λ (F : Fml). ‵ F) (had-at-exit (of-core n) κs Ps a) refl $ owned ! (B .row) (Is (B .row)) (B .makes 𝓤 H A W) h (B .val h ∷ []) was $ fjoin ! $ frame ! $
           owned ! (P .row) (Is (P .row)) (P .makes 𝓤 H A W) (P .both b r) _ is $ done !
 
-      module _ (lent : Name) (C : Calls 𝓤 H) (Λ : Loops 𝓤 H) (fm : FmC 𝓤 H (W .laws) C) (known : Triple 𝓤 (C lent) (Lent P Ps S 𝓤 H A)) where
+      module _ (lent : Name) (C : Calls 𝓤 H) (Λ : Loops 𝓤 H) (fm : FmC 𝓤 H (W .laws) C) (known : Triple 𝓤 (C lent) (Lent P Ps 𝓤 H A (lent-clauses P Ps S 𝓤))) where
         abbrev vs : List Val
         vs = B .val h ∷ flat (Rows (of-core n) κs Ps) (machines (of-core n) κs Ps a)
 
@@ -178,9 +179,9 @@ module _ {B N : Plain} (P : Paired B N) {n : ℕ} (Ps : List (Passed n)) where
             -- the state is lent for a lifetime ν of the call
             move ! (7 ∷ []) $ use1 W (‵ (mem (B .row) .lies h l₂ zero)) (can-lend B 𝓤 H A W h l₂ was) $ lft-new ! tt (λ ν. move ! (1 ∷ []) $
             use1 W (later (some (λ (γ : GName). ‵ (ref ν l₂ γ) ⊛ ‵ (flent (ν ∷ []) (SemTy.Body (mem (B .row)) l₂ zero γ))))) (lends-ref 𝓤 H A W (B .row) (named 0) (ν ∷ []) h l₂ zero) $ await ! tt $ pick ! (λ γ. split ! $
-            move ! (2 ∷ 16 ∷ 0 ∷ 15 ∷ 3 ∷ []) $ join ! $ use3 W (raw (Lent P Ps S 𝓤 H A .pre (to ν l₂ γ)) ⊛ ‵ own) (asked ν l₂ γ) $ split ! $ move ! (0 ∷ 2 ∷ []) $
+            move ! (2 ∷ 16 ∷ 0 ∷ 15 ∷ 3 ∷ []) $ join ! $ use3 W (raw (Lent P Ps 𝓤 H A (lent-clauses P Ps S 𝓤) .pre (to ν l₂ γ)) ⊛ ‵ own) (asked ν l₂ γ) $ split ! $ move ! (0 ∷ 2 ∷ []) $
             -- [what the call asks; the further parameters; what they own; the lender's part; room for the copy; …; the reference; …; room for the answer; …; the state's end; _1; …; room for _0; …]
-            calls-at ! fm (Lent P Ps S 𝓤 H A) known (to ν l₂ γ) (and-then ! (load ! (from-at ! (stands l₀ l₁ ls l₂ l₃ l₄ l₅ 2) (stop !)) (look ! 6 refl))
+            calls-at ! fm (Lent P Ps 𝓤 H A (lent-clauses P Ps S 𝓤)) known (to ν l₂ γ) (and-then ! (load ! (from-at ! (stands l₀ l₁ ls l₂ l₃ l₄ l₅ 2) (stop !)) (look ! 6 refl))
             (opds-all (of-core n) ! (of-lent n) (ν ∷ [], κs) Ps ls xs (places l₀ l₁ ls l₂ l₃ l₄ l₅) (rest l₂ l₃ l₄ l₅) (λ j. suc (suc j)) (λ j. refl))) (λ v.
             use1 W (later (some (λ (r : N .row .Denot). ((‵ (flft (ν ∷ []) fullShare) ⊛ raw tokens) ⊛ ‵ (N .row .own r (v ∷ []))) ⊛ raw (Ensured ν l₂ γ r)))) (id⊢ 𝓤 _) $ await ! tt $ pick ! (λ r. split ! $ move ! (1 ∷ []) $
             use1 W (some (λ (ws : Left ν l₂ γ). ‵ (lasts (lent-ended P Ps) (ν ∷ [], κs) (x ν l₂ γ, passed-on ν l₂ γ) ws) ⊛ raw (fact 𝓤 (Told ν l₂ γ r ws)))) (id⊢ 𝓤 _) $ pick ! (λ ws.
@@ -200,19 +201,25 @@ module _ {B N : Plain} (P : Paired B N) {n : ℕ} (Ps : List (Passed n)) where
             move ! (7 ∷ 8 ∷ []) $ free1 ! $ move ! (5 ∷ 6 ∷ []) $ free1 ! $ move ! (3 ∷ 4 ∷ []) $ free1 ! $ free0 ! $ keep ! (0 ∷ 2 ∷ []) $
             by ! (exits (ws .0) r (P .whole (ws .0) r is′ (subst (Is (N .row) r) (N .tells r (v ∷ []) is) is)) (kept ν l₂ γ r ws e)))))))))))))))))
 
-    pub held-meets : (W : Given 𝓤 H A) (lent : Name) (𝓣 : Tables 𝓤 H) → Triple 𝓤 (𝓣 .C lent) (Lent P Ps S 𝓤 H A) → Triple 𝓤 (WpFn 𝓤 H (𝓣 .C) (𝓣 .Λ) (held-function lent)) (Core P Ps S 𝓤 H A)
+    pub held-meets : (W : Given 𝓤 H A) (lent : Name) (𝓣 : Tables 𝓤 H) → Triple 𝓤 (𝓣 .C lent) (Lent P Ps 𝓤 H A (lent-clauses P Ps S 𝓤)) → Triple 𝓤 (WpFn 𝓤 H (𝓣 .C) (𝓣 .Λ) (held-function lent)) (Core P Ps 𝓤 H A (core-clauses P Ps S 𝓤))
     held-meets W lent 𝓣 known =
-        walk-meets 𝓤 H A (core-ended P Ps) stayed W (goes-none 𝓤 H A W n (λ _. B .row) yes (λ κs y f. B .silent y f), goes-all (of-core n) 𝓤 H A W Ps) (core-clauses P Ps S 𝓤 H A)
+        walk-meets 𝓤 H A (core-ended P Ps) stayed W (goes-none 𝓤 H A W n (λ _. B .row) yes (λ κs y f. B .silent y f), goes-all (of-core n) 𝓤 H A W Ps) (core-clauses P Ps S 𝓤)
         (WpFn 𝓤 H (𝓣 .C) (𝓣 .Λ) (held-function lent)) (WpFn-mono 𝓤 H (W .laws) 𝓣 (held-function lent))
-        (walked 𝓤 H A (core-ended P Ps) stayed (core-clauses P Ps S 𝓤 H A) (WpFn 𝓤 H (𝓣 .C) (𝓣 .Λ) (held-function lent))
+        (walked 𝓤 H A (core-ended P Ps) stayed (core-clauses P Ps S 𝓤) (WpFn 𝓤 H (𝓣 .C) (𝓣 .Λ) (held-function lent))
         (λ κs. ((λ y. B .val y ∷ []), spelling (of-core n) κs Ps)) (λ κs. (B .tells, telling (of-core n) κs Ps))
         (λ κs qs bounds a _ are. via 𝓤 _ (fst∗ 𝓤 _ (emp 𝓤))
         (walk W κs qs (a .0) (are .0) (a .1) (good (of-core n) κs Ps (a .1) (are .1)) lent (𝓣 .C) (𝓣 .Λ) (fmOf 𝓤 H (W .laws) 𝓣) known)))
 
-  -- the same of the routines: the lent call's theorem gives the core's contract again
+  -- the same of the routines: the lent call's theorem gives the held one's, whatever that ensures of what is promised
   pub held-call : (S : Promise P Ps) {M : Type 1} (𝓤 : URA M) (H : Heap 𝓤) (𝓜 : Model 𝓤 H) (𝓖 : GhostRules 𝓤 H) (𝓡 : Running 𝓤 H 𝓜) (γ : Env) (k lent : Name) (r : Routine)
-      → Closed 𝓤 H (tables 𝓤 H 𝓜 𝓡 γ .C) (tables 𝓤 H 𝓜 𝓡 γ .Λ) k (held-function lent) → γ lent ≡ r → Triple 𝓤 (𝓡 .run r) (Lent P Ps S 𝓤 H (𝓖 .A)) → Triple 𝓤 (𝓡 .run (γ k)) (Core P Ps S 𝓤 H (𝓖 .A))
+      → Closed 𝓤 H (tables 𝓤 H 𝓜 𝓡 γ .C) (tables 𝓤 H 𝓜 𝓡 γ .Λ) k (held-function lent) → γ lent ≡ r → Triple 𝓤 (𝓡 .run r) (Lent P Ps 𝓤 H (𝓖 .A) (lent-clauses P Ps S 𝓤))
+      → (E : CoreEnsures P Ps 𝓤) → ((κs : Lfts n) (a : Args (core-ended P Ps .signature) κs) (res : P .row .Denot) (ws : Lasts (core-ended P Ps) κs a)
+      → ent 𝓤 (fact 𝓤 (S (a .0) (values (of-core n) κs Ps (a .1)) (P .answer res) (P .state res))) (E κs a tt res (atExit (core-ended P Ps) κs a ws)))
+      → Triple 𝓤 (𝓡 .run (γ k)) (Core P Ps 𝓤 H (𝓖 .A) (core-ensuring P Ps 𝓤 E))
   unfolding tablesOf
-  held-call S 𝓤 H 𝓜 𝓖 𝓡 γ k lent r unfolds calls met =
-      entered 𝓤 H (Core P Ps S 𝓤 H (𝓖 .A)) (tables 𝓤 H 𝓜 𝓡 γ .C) (tables 𝓤 H 𝓜 𝓡 γ .Λ) k (held-function lent) unfolds
-      (held-meets S 𝓤 H (𝓖 .A) (givenOf 𝓤 H 𝓜 𝓖) lent (tablesOf 𝓤 H 𝓜 (tables 𝓤 H 𝓜 𝓡 γ)) (cited 𝓤 H (Lent P Ps S 𝓤 H (𝓖 .A)) 𝓜 𝓡 γ lent r calls met))
+  held-call S 𝓤 H 𝓜 𝓖 𝓡 γ k lent r unfolds calls met E ensures =
+      let W : Given 𝓤 H (𝓖 .A) = givenOf 𝓤 H 𝓜 𝓖 in
+      let 𝓣 : Tables 𝓤 H = tablesOf 𝓤 H 𝓜 (tables 𝓤 H 𝓜 𝓡 γ) in
+      entered 𝓤 H (Core P Ps 𝓤 H (𝓖 .A) (core-ensuring P Ps 𝓤 E)) (tables 𝓤 H 𝓜 𝓡 γ .C) (tables 𝓤 H 𝓜 𝓡 γ .Λ) k (held-function lent) unfolds
+      (weaken 𝓤 H (𝓖 .A) (core-ended P Ps) W (core-clauses P Ps S 𝓤) E (λ κs a g res ws. ensures κs a res ws) (WpFn 𝓤 H (𝓣 .C) (𝓣 .Λ) (held-function lent)) (WpFn-mono 𝓤 H (W .laws) 𝓣 (held-function lent))
+      (held-meets S 𝓤 H (𝓖 .A) W lent 𝓣 (cited 𝓤 H (Lent P Ps 𝓤 H (𝓖 .A) (lent-clauses P Ps S 𝓤)) 𝓜 𝓡 γ lent r calls met)))

@@ -36,16 +36,17 @@ use denote.Steps.{opens, closes, owned, peeks, heard, nothing}
 use denote.Struct.Steps.{spelt}
 use denote.Triple.Statement.{Contract, Triple}
 use denote.Triple.Call.{calls-at}
-use denote.Triple.Entry.{Vals, onEntry}
+use denote.Triple.Entry.{Args, Vals, onEntry}
 use denote.Triple.End.{all}
 use denote.Triple.Spec.{Meets, tripleOf}
 use denote.Triple.Table.{entered, cited}
-use denote.Triple.Clauses.{Ended, Clauses, closing, ensured, lasts}
+use denote.Triple.Weaken.{weaken}
+use denote.Triple.Clauses.{Lasts, atExit, ensured, lasts}
 use denote.Triple.Walked.{says, Stays, stay-ref, walkOf, AllGo, goes-ref, ends-at, walked, walk-meets}
 use denote.Exit.{yes}
 use Rattle.lent.proofs.Plain.{Plain}
 use Rattle.lent.proofs.Passed.{Passed, of-core, of-lent, Values, Good, owned-all, twice-all, stays, goes-all, Rows, values, args, values-args, spelling, telling, machines, good, finals, fitting, had-at-entry, had-by-callee, had-at-exit}
-use Rattle.lent.proofs.Contracts.{Paired, Promise, core-ended, lent-ended, pairTy, core-clauses, lent-clauses, Core, Lent}
+use Rattle.lent.proofs.Contracts.{Paired, Promise, core-ended, lent-ended, pairTy, LentEnsures, lent-ensuring, core-clauses, lent-clauses, Core, Lent}
 use Rattle.lent.proofs.Locals.{locals, Blocks, env, cells, copies, after, Stand, stand-after, from-at, alloc-all, free-all, pass-all, opds-all}
 
 module _ {B N : Plain} (P : Paired B N) {n : ℕ} (Ps : List (Passed n)) where
@@ -97,7 +98,7 @@ module _ {B N : Plain} (P : Paired B N) {n : ℕ} (Ps : List (Passed n)) where
       vals = (vptr b o ∷ [], machines (of-lent n) (κ, κs) Ps a)
 
       abbrev Post : Val → SProp 𝓤
-      Post = walkOf 𝓤 H A (lent-ended P Ps) stayed (lent-clauses P Ps S 𝓤 H A) .post (((κ, κs), (q, qs), tt, (x, a), vals), tt)
+      Post = walkOf 𝓤 H A (lent-ended P Ps) stayed (lent-clauses P Ps S 𝓤) .post (((κ, κs), (q, qs), tt, (x, a), vals), tt)
 
       -- what the further parameters own, and the tokens of their lifetimes
       abbrev own : Fml
@@ -110,10 +111,10 @@ module _ {B N : Plain} (P : Paired B N) {n : ℕ} (Ps : List (Passed n)) where
       abbrev passed-on : Denots (Rows (of-core n) κs Ps)
       passed-on = args (of-core n) κs Ps xs
 
-      abbrev to : Core P Ps S 𝓤 H A .Ghost
+      abbrev to : Core P Ps 𝓤 H A (core-clauses P Ps S 𝓤) .Ghost
       to = ((κs, qs, tt, (h, passed-on), (B .val h ∷ [], machines (of-core n) κs Ps passed-on)), tt)
 
-      asked : Is (B .row) h (B .val h ∷ []) → ent 𝓤 (sep 𝓤 tokens (sem 𝓤 H A own)) (sep 𝓤 (Core P Ps S 𝓤 H A .pre to) (sem 𝓤 H A own))
+      asked : Is (B .row) h (B .val h ∷ []) → ent 𝓤 (sep 𝓤 tokens (sem 𝓤 H A own)) (sep 𝓤 (Core P Ps 𝓤 H A (core-clauses P Ps S 𝓤) .pre to) (sem 𝓤 H A own))
       asked was =
           qed W (raw tokens ∷ ‵ own ∷ []) ∵ move ! (1 ∷ []) $ use1 W (‵ own ⊛ ‵ own) (twice-all κs 𝓤 H A W Ps xs) $ split ! $ rewrite ! 0 (λ (F : Fml). ‵ F) (had-by-callee (of-core n) κs Ps xs) refl $
           owned ! (B .row) (Is (B .row)) (B .makes 𝓤 H A W) h (B .val h ∷ []) was $ fjoin ! $ move ! (2 ∷ 0 ∷ []) $ join ! $ nothing ! $ move ! (1 ∷ 0 ∷ []) $ join ! $ frame ! $ done !
@@ -122,7 +123,7 @@ module _ {B N : Plain} (P : Paired B N) {n : ℕ} (Ps : List (Passed n)) where
       Told r = S h xs (P .answer r) (P .state r)
 
       abbrev Ensured : P .row .Denot → SProp 𝓤
-      Ensured = ensured 𝓤 H A (core-ended P Ps) (core-clauses P Ps S 𝓤 H A) κs (h, passed-on) tt
+      Ensured = ensured 𝓤 H A (core-ended P Ps) (core-clauses P Ps S 𝓤) κs (h, passed-on) tt
 
       told : (r : P .row .Denot) → ent 𝓤 (Ensured r) (fact 𝓤 (Told r))
       told r = subst (λ (ys : Values Ps). ent 𝓤 (Ensured r) (fact 𝓤 (S h ys (P .answer r) (P .state r)))) (values-args (of-core n) κs Ps xs)
@@ -132,11 +133,11 @@ module _ {B N : Plain} (P : Paired B N) {n : ℕ} (Ps : List (Passed n)) where
           → ent 𝓤 (⋆ 𝓤 H A (‵ (fobs γ (B .row .coded .code (P .state r))) ∷ ‵ (fbor κ (SemTy.Body (mem (B .row)) b o γ)) ∷ ‵ (flft κ q) ∷ raw tokens ∷ ‵ own ∷ [])) (Post (N .val (P .answer r)))
       exits r is e =
           qed W (‵ (fobs γ (B .row .coded .code (P .state r))) ∷ ‵ (fbor κ (SemTy.Body (mem (B .row)) b o γ)) ∷ ‵ (flft κ q) ∷ raw tokens ∷ ‵ own ∷ []) ∵
-          suffices ! _ (ends-at 𝓤 H A (lent-ended P Ps) stayed (lent-clauses P Ps S 𝓤 H A) W (((κ, κs), (q, qs), tt, (x, a), vals), tt) (N .val (P .answer r)) (P .answer r) (P .state r, finals (of-lent n) (κ, κs) Ps a) (tt, fitting (of-lent n) (κ, κs) Ps a)) $ says ! e $
+          suffices ! _ (ends-at 𝓤 H A (lent-ended P Ps) stayed (lent-clauses P Ps S 𝓤) W (((κ, κs), (q, qs), tt, (x, a), vals), tt) (N .val (P .answer r)) (P .answer r) (P .state r, finals (of-lent n) (κ, κs) Ps a) (tt, fitting (of-lent n) (κ, κs) Ps a)) $ says ! e $
           move ! (2 ∷ 3 ∷ []) $ join ! $ frame ! $ feqI ! (List Val) (vptr b o ∷ []) (vptr b o ∷ []) refl $ fjoin3 ! $
           rewrite ! 1 (λ (F : Fml). ‵ F) (had-at-exit (of-lent n) (κ, κs) Ps a) refl $ fjoin ! $ frame ! $ owned ! (N .row) (Is (N .row)) (N .makes 𝓤 H A W) (P .answer r) _ is $ done !
 
-      module _ (core : Name) (C : Calls 𝓤 H) (Λ : Loops 𝓤 H) (fm : FmC 𝓤 H (W .laws) C) (known : Triple 𝓤 (C core) (Core P Ps S 𝓤 H A)) where
+      module _ (core : Name) (C : Calls 𝓤 H) (Λ : Loops 𝓤 H) (fm : FmC 𝓤 H (W .laws) C) (known : Triple 𝓤 (C core) (Core P Ps 𝓤 H A (core-clauses P Ps S 𝓤))) where
         abbrev vs : List Val
         vs = vptr b o ∷ flat (Rows (of-lent n) (κ, κs) Ps) (machines (of-lent n) (κ, κs) Ps a)
 
@@ -153,8 +154,8 @@ module _ {B N : Plain} (P : Paired B N) {n : ℕ} (Ps : List (Passed n)) where
             rewrite ! 0 (λ (τs : List Ty). ‵ (cellAt fullShare τs (B .val h ∷ []) b o)) (B .one) refl $
             -- [the state's cell; what it owns; the open borrow; obs; auth; the further parameters; room for the copy; …; room for the pair; …; _1; …; room for _0; …; what they own; their tokens]
             assigns ! (of-opd ! (load ! (from ! (hop ! (look ! 10 refl) (stop !))) (look-raw ! 0 refl))) (from-at ! (stands l₀ l₁ ls lp lb 1) (stop !)) (init ! 6 refl (B .typed 𝓤 H A W h _ was)) $
-            move ! (15 ∷ 14 ∷ 5 ∷ []) $ use2 W (raw (Core P Ps S 𝓤 H A .pre to) ⊛ ‵ own) (asked was) $ split ! $ move ! (0 ∷ 2 ∷ []) $
-            calls-at ! fm (Core P Ps S 𝓤 H A) known to
+            move ! (15 ∷ 14 ∷ 5 ∷ []) $ use2 W (raw (Core P Ps 𝓤 H A (core-clauses P Ps S 𝓤) .pre to) ⊛ ‵ own) (asked was) $ split ! $ move ! (0 ∷ 2 ∷ []) $
+            calls-at ! fm (Core P Ps 𝓤 H A (core-clauses P Ps S 𝓤)) known to
             (and-then ! (load ! (from-at ! (stands l₀ l₁ ls lp lb 1) (stop !)) (look ! 8 refl)) (opds-all (of-lent n) ! (of-core n) κs Ps ls xs (places l₀ l₁ ls lp lb) (rest lp lb) (λ j. suc (suc j)) (λ j. refl))) (λ v.
             use1 W (later (some (λ (r : P .row .Denot). (raw tokens ⊛ ‵ (P .row .own r (v ∷ []))) ⊛ raw (Ensured r)))) (id⊢ 𝓤 _) $ await ! tt $ pick ! (λ r.
             split ! $ move ! (1 ∷ []) $ use1 W (raw (fact 𝓤 (Told r))) (told r) $ heard ! (Told r) (λ e. split ! $ move ! (1 ∷ []) $
@@ -173,19 +174,25 @@ module _ {B N : Plain} (P : Paired B N) {n : ℕ} (Ps : List (Passed n)) where
             move ! (12 ∷ 13 ∷ []) $ free1 ! $ move ! (10 ∷ 11 ∷ []) $ free1 ! $ move ! (4 ∷ []) $ free-all (of-lent n) ! Ps ls xs $ move ! (7 ∷ 8 ∷ []) $ free1 ! $ move ! (5 ∷ 6 ∷ []) $ free1 ! $ free0 ! $
             by ! (exits r (P .parts r v is .2) e))))))))))))
 
-    pub lent-meets : (W : Given 𝓤 H A) (core : Name) (𝓣 : Tables 𝓤 H) → Triple 𝓤 (𝓣 .C core) (Core P Ps S 𝓤 H A) → Triple 𝓤 (WpFn 𝓤 H (𝓣 .C) (𝓣 .Λ) (lent-function core)) (Lent P Ps S 𝓤 H A)
+    pub lent-meets : (W : Given 𝓤 H A) (core : Name) (𝓣 : Tables 𝓤 H) → Triple 𝓤 (𝓣 .C core) (Core P Ps 𝓤 H A (core-clauses P Ps S 𝓤)) → Triple 𝓤 (WpFn 𝓤 H (𝓣 .C) (𝓣 .Λ) (lent-function core)) (Lent P Ps 𝓤 H A (lent-clauses P Ps S 𝓤))
     lent-meets W core 𝓣 known =
-        walk-meets 𝓤 H A (lent-ended P Ps) stayed W (goes-ref 𝓤 H A W (suc n) 0 tt (plain (λ _. B .row)), goes-all (of-lent n) 𝓤 H A W Ps) (lent-clauses P Ps S 𝓤 H A)
+        walk-meets 𝓤 H A (lent-ended P Ps) stayed W (goes-ref 𝓤 H A W (suc n) 0 tt (plain (λ _. B .row)), goes-all (of-lent n) 𝓤 H A W Ps) (lent-clauses P Ps S 𝓤)
         (WpFn 𝓤 H (𝓣 .C) (𝓣 .Λ) (lent-function core)) (WpFn-mono 𝓤 H (W .laws) 𝓣 (lent-function core))
-        (walked 𝓤 H A (lent-ended P Ps) stayed (lent-clauses P Ps S 𝓤 H A) (WpFn 𝓤 H (𝓣 .C) (𝓣 .Λ) (lent-function core))
+        (walked 𝓤 H A (lent-ended P Ps) stayed (lent-clauses P Ps S 𝓤) (WpFn 𝓤 H (𝓣 .C) (𝓣 .Λ) (lent-function core))
         (λ κs. (ptr-vals, spelling (of-lent n) κs Ps)) (λ κs. (mut-tells (named 0) (κs .0) (B .row), telling (of-lent n) κs Ps))
         (λ κs qs bounds a _ are. via 𝓤 _ (fst∗ 𝓤 _ (emp 𝓤))
         (walk W (κs .0) (κs .1) (qs .0) (qs .1) (a .0 .ptr .0) (a .0 .ptr .1) (a .0 .name) (a .0 .now) (a .1) (good (of-lent n) κs Ps (a .1) (are .1)) core (𝓣 .C) (𝓣 .Λ) (fmOf 𝓤 H (W .laws) 𝓣) known)))
 
-  -- the same of the routines: the core's theorem gives the lent call's
+  -- the same of the routines: the core's theorem gives the lent call's, whatever that ensures of what is promised
   pub lent-call : (S : Promise P Ps) {M : Type 1} (𝓤 : URA M) (H : Heap 𝓤) (𝓜 : Model 𝓤 H) (𝓖 : GhostRules 𝓤 H) (𝓡 : Running 𝓤 H 𝓜) (γ : Env) (k core : Name) (r : Routine)
-      → Closed 𝓤 H (tables 𝓤 H 𝓜 𝓡 γ .C) (tables 𝓤 H 𝓜 𝓡 γ .Λ) k (lent-function core) → γ core ≡ r → Triple 𝓤 (𝓡 .run r) (Core P Ps S 𝓤 H (𝓖 .A)) → Triple 𝓤 (𝓡 .run (γ k)) (Lent P Ps S 𝓤 H (𝓖 .A))
+      → Closed 𝓤 H (tables 𝓤 H 𝓜 𝓡 γ .C) (tables 𝓤 H 𝓜 𝓡 γ .Λ) k (lent-function core) → γ core ≡ r → Triple 𝓤 (𝓡 .run r) (Core P Ps 𝓤 H (𝓖 .A) (core-clauses P Ps S 𝓤))
+      → (E : LentEnsures P Ps 𝓤) → ((κs : Lfts (suc n)) (a : Args (lent-ended P Ps .signature) κs) (res : N .row .Denot) (ws : Lasts (lent-ended P Ps) κs a)
+      → ent 𝓤 (fact 𝓤 (S (now (a .0)) (values (of-lent n) κs Ps (a .1)) res (ws .0))) (E κs a tt res (atExit (lent-ended P Ps) κs a ws)))
+      → Triple 𝓤 (𝓡 .run (γ k)) (Lent P Ps 𝓤 H (𝓖 .A) (lent-ensuring P Ps 𝓤 E))
   unfolding tablesOf
-  lent-call S 𝓤 H 𝓜 𝓖 𝓡 γ k core r unfolds calls met =
-      entered 𝓤 H (Lent P Ps S 𝓤 H (𝓖 .A)) (tables 𝓤 H 𝓜 𝓡 γ .C) (tables 𝓤 H 𝓜 𝓡 γ .Λ) k (lent-function core) unfolds
-      (lent-meets S 𝓤 H (𝓖 .A) (givenOf 𝓤 H 𝓜 𝓖) core (tablesOf 𝓤 H 𝓜 (tables 𝓤 H 𝓜 𝓡 γ)) (cited 𝓤 H (Core P Ps S 𝓤 H (𝓖 .A)) 𝓜 𝓡 γ core r calls met))
+  lent-call S 𝓤 H 𝓜 𝓖 𝓡 γ k core r unfolds calls met E ensures =
+      let W : Given 𝓤 H (𝓖 .A) = givenOf 𝓤 H 𝓜 𝓖 in
+      let 𝓣 : Tables 𝓤 H = tablesOf 𝓤 H 𝓜 (tables 𝓤 H 𝓜 𝓡 γ) in
+      entered 𝓤 H (Lent P Ps 𝓤 H (𝓖 .A) (lent-ensuring P Ps 𝓤 E)) (tables 𝓤 H 𝓜 𝓡 γ .C) (tables 𝓤 H 𝓜 𝓡 γ .Λ) k (lent-function core) unfolds
+      (weaken 𝓤 H (𝓖 .A) (lent-ended P Ps) W (lent-clauses P Ps S 𝓤) E (λ κs a g res ws. ensures κs a res ws) (WpFn 𝓤 H (𝓣 .C) (𝓣 .Λ) (lent-function core)) (WpFn-mono 𝓤 H (W .laws) 𝓣 (lent-function core))
+      (lent-meets S 𝓤 H (𝓖 .A) W core 𝓣 (cited 𝓤 H (Core P Ps 𝓤 H (𝓖 .A) (core-clauses P Ps S 𝓤)) 𝓜 𝓡 γ core r calls met)))
