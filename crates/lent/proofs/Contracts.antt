@@ -27,7 +27,7 @@ use denote.Exit.{yes}
 use Rattle.lent.proofs.Plain.{Plain}
 use Rattle.lent.proofs.Passed.{Passed, of-core, of-lent, Values, slots, values}
 
--- a struct of a state and an answer
+-- a struct of exactly a state and an answer, in this order: it is taken apart, put together, and has the machine value of its two fields
 pub record Paired (B N : Plain) : Type 2 where
   pub row : RattleType
   pub name : Sym

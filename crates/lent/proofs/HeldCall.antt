@@ -12,7 +12,7 @@ use lib.ListN.{length}
 use mir.Syntax.{Name, Ty, tyRef, erased, named, mut, place, copy, rvOpd, addrOf, aggregate, Body, seq, assign, call, return, local, valueLocal, memorySlot, Fn}
 use mir.Val.{Val, vptr, vstruct, vcons, vnil}
 use base.Logic.{SProp, ent, emp, sep, guard, via, fst∗, id⊢}
-use base.Fml.{Fml, GName, Lft, fsep, fat, flft, flent}
+use base.Fml.{Fml, GName, fsep, fat, flft, flent}
 use prog.Wp.{Heap, Calls, Loops, WpFn, Closed, Tables}
 use prog.Model.{Model}
 use prog.Routine.{Routine, Env}
@@ -31,7 +31,6 @@ use denote.Laws.{Is, shows}
 use denote.Memory.{mem, cellAt, partOf, pointee}
 use denote.Ref.{RefT, MutRef}
 use denote.Lend.{lends-ref, ref-back}
-use denote.Signature.{plain}
 use denote.Steps.{only, owned, peeks, facts, heard, nothing}
 use denote.Struct.Steps.{spelt}
 use denote.Triple.Statement.{Triple}
@@ -43,7 +42,7 @@ use denote.Triple.Clauses.{Lasts, atExit, ensured, lasts}
 use denote.Triple.Walked.{says, Stays, stay-none, walkOf, goes-none, ends-at, walked, walk-meets}
 use denote.Exit.{yes}
 use Rattle.lent.proofs.Plain.{Plain}
-use Rattle.lent.proofs.Passed.{Passed, of-core, of-lent, Values, Good, owned-all, twice-all, stays, goes-all, Rows, values, args, values-args, spelling, telling, machines, good, finals, fitting, had-at-entry, had-by-callee, had-at-exit}
+use Rattle.lent.proofs.Passed.{Passed, of-core, of-lent, Values, Good, owned-all, stays, goes-all, Rows, values, args, values-args, spelling, telling, machines, good, finals, fitting, had-at-entry, had-at-exit, passes-on}
 use Rattle.lent.proofs.Locals.{locals, Blocks, env, copies, after, Stand, stand-after, from-at, alloc-all, free-all, pass-all, opds-all}
 use Rattle.lent.proofs.Contracts.{Paired, Promise, core-ended, lent-ended, pairTy, CoreEnsures, core-ensuring, core-clauses, lent-clauses, Core, Lent}
 
@@ -135,8 +134,9 @@ module _ {B N : Plain} (P : Paired B N) {n : ℕ} (Ps : List (Passed n)) where
 
         asked : ent 𝓤 (sep 𝓤 (sep 𝓤 (A .lft (ν ∷ []) fullShare) tokens) (sep 𝓤 (sem 𝓤 H A ref) (sem 𝓤 H A own))) (sep 𝓤 (Lent P Ps 𝓤 H A (lent-clauses P Ps S 𝓤) .pre to) (sem 𝓤 H A own))
         asked =
-            qed W ((‵ (flft (ν ∷ []) fullShare) ⊛ raw tokens) ∷ ‵ ref ∷ ‵ own ∷ []) ∵ move ! (2 ∷ []) $ use1 W (‵ own ⊛ ‵ own) (twice-all κs 𝓤 H A W Ps xs) $ split ! $
-            rewrite ! 0 (λ (F : Fml). ‵ F) (had-by-callee (of-lent n) (ν ∷ [], κs) Ps xs) refl $ move ! (3 ∷ 0 ∷ []) $ fjoin ! $ move ! (2 ∷ 0 ∷ []) $ join ! $ nothing ! $ move ! (1 ∷ 0 ∷ []) $ join ! $ frame ! $ done !
+            qed W ((‵ (flft (ν ∷ []) fullShare) ⊛ raw tokens) ∷ ‵ ref ∷ ‵ own ∷ []) ∵ move ! (2 ∷ []) $
+            use1 W (‵ (owns (Rows (of-lent n) (ν ∷ [], κs) Ps) passed-on (machines (of-lent n) (ν ∷ [], κs) Ps passed-on)) ⊛ ‵ own) (passes-on (of-lent n) (ν ∷ [], κs) 𝓤 H A W Ps xs) $ split ! $
+            move ! (3 ∷ 0 ∷ []) $ fjoin ! $ move ! (2 ∷ 0 ∷ []) $ join ! $ nothing ! $ move ! (1 ∷ 0 ∷ []) $ join ! $ frame ! $ done !
 
         abbrev Ensured : N .row .Denot → SProp 𝓤
         Ensured = ensured 𝓤 H A (lent-ended P Ps) (lent-clauses P Ps S 𝓤) (ν ∷ [], κs) (x, passed-on) tt

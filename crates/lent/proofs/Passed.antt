@@ -36,16 +36,22 @@ pub record Form : Type 0 where
   pub written : Written
   pub reaches : List (Written × List Ty)
 
+-- whatever is owned has a machine value of the type τ
+abbrev Fits : (n : ℕ) {X : Type 0} → (Lfts n → X → List Val → Fml) → (X → Val) → Ty → Type 2
+Fits n {X} own val τ =
+    (M : Type 1) (𝓤 : URA M) (H : Heap 𝓤) (A : Atoms 𝓤) → Given 𝓤 H A → (κs : Lfts n) (x : X) → shadow (own κs x (val x ∷ [])) → T (hasTy τ (val x)) × WT (val x)
+
 pub record Passed (n : ℕ) : Type 2 where
+  -- its value, what it owns at the further lifetimes, and a value's one machine value
   pub Value : Type 0
   pub own : Lfts n → Value → List Val → Fml
   pub coded : Coded Value
+  pub val : Value → Val
   pub in-core : Form
   pub in-lent : Form
-  pub val : Value → Val
   pub tells : (κs : Lfts n) (x : Value) (vs : List Val) → shadow (own κs x vs) → vs ≡ val x ∷ []
-  pub typed-in-core : {M : Type 1} (𝓤 : URA M) (H : Heap 𝓤) (A : Atoms 𝓤) → Given 𝓤 H A → (κs : Lfts n) (x : Value) → shadow (own κs x (val x ∷ [])) → T (hasTy (in-core .ty) (val x)) × WT (val x)
-  pub typed-in-lent : {M : Type 1} (𝓤 : URA M) (H : Heap 𝓤) (A : Atoms 𝓤) → Given 𝓤 H A → (κs : Lfts n) (x : Value) → shadow (own κs x (val x ∷ [])) → T (hasTy (in-lent .ty) (val x)) × WT (val x)
+  pub typed-in-core : Fits n own val (in-core .ty)
+  pub typed-in-lent : Fits n own val (in-lent .ty)
   pub twice : {M : Type 1} (𝓤 : URA M) (H : Heap 𝓤) (A : Atoms 𝓤) → Given 𝓤 H A → (κs : Lfts n) (x : Value) (vs : List Val) → ent 𝓤 (sem 𝓤 H A (own κs x vs)) (sep 𝓤 (sem 𝓤 H A (own κs x vs)) (sem 𝓤 H A (own κs x vs)))
 
 -- plain data: its facts make what it owns, so as often as is wanted
@@ -58,8 +64,8 @@ by-value {n} P = record {
   in-lent = record { ty = P .ty; written = P .row .written; reaches = P .row .reaches };
   val = P .val;
   tells = λ κs. P .tells;
-  typed-in-core = λ 𝓤 H A W κs x is. P .typed 𝓤 H A W x _ is;
-  typed-in-lent = λ 𝓤 H A W κs x is. P .typed 𝓤 H A W x _ is;
+  typed-in-core = λ M 𝓤 H A W κs x is. P .typed 𝓤 H A W x _ is;
+  typed-in-lent = λ M 𝓤 H A W κs x is. P .typed 𝓤 H A W x _ is;
   twice = λ 𝓤 H A W κs x vs.
       qed W (‵ (P .row .own x vs) ∷ []) ∵ facts ! (P .row) (Is (P .row)) (shows 𝓤 H A (P .row)) x vs (λ is.
       owned ! (P .row) (Is (P .row)) (P .makes 𝓤 H A W) x vs is $ owned ! (P .row) (Is (P .row)) (P .makes 𝓤 H A W) x vs is $ done !);
@@ -78,8 +84,8 @@ shared-slice R = record {
   in-lent = slice-form 1 R;
   val = λ x. sliceVal (ptr x) (length (now x));
   tells = λ κs. shr-slice-tells (named 0) (κs .0) R;
-  typed-in-core = λ 𝓤 H A W κs x is. shr-slice-lawful 𝓤 H A W (named 0) (κs .0) R .typed x _ is .0;
-  typed-in-lent = λ 𝓤 H A W κs x is. shr-slice-lawful 𝓤 H A W (named 1) (κs .0) R .typed x _ is .0;
+  typed-in-core = λ M 𝓤 H A W κs x is. shr-slice-lawful 𝓤 H A W (named 0) (κs .0) R .typed x _ is .0;
+  typed-in-lent = λ M 𝓤 H A W κs x is. shr-slice-lawful 𝓤 H A W (named 1) (κs .0) R .typed x _ is .0;
   twice = λ 𝓤 H A W κs. shr-slice-copy 𝓤 H A W (named 0) (κs .0) R .twice;
 }
 
@@ -88,7 +94,7 @@ pub record Side (n : ℕ) : Type 2 where
   pub lifetimes : ℕ
   pub further : Lfts lifetimes → Lfts n
   pub form : Passed n → Form
-  pub typed : (P : Passed n) {M : Type 1} (𝓤 : URA M) (H : Heap 𝓤) (A : Atoms 𝓤) → Given 𝓤 H A → (κs : Lfts n) (x : P .Value) → shadow (P .own κs x (P .val x ∷ [])) → T (hasTy (form P .ty) (P .val x)) × WT (P .val x)
+  pub typed : (P : Passed n) → Fits n (P .own) (P .val) (form P .ty)
 
 abbrev pub of-core : (n : ℕ) → Side n
 of-core n = record { lifetimes = n; further = λ κs. κs; form = λ P. P .in-core; typed = λ P. P .typed-in-core }
@@ -110,13 +116,6 @@ module _ {n : ℕ} where
     abbrev pub owned-all : (Ps : List (Passed n)) → Values Ps → Fml
     owned-all [] xs = ftrue
     owned-all (P ∷ Ps) xs = fsep (P .own κs (xs .0) (P .val (xs .0) ∷ [])) (owned-all Ps (xs .1))
-
-    pub twice-all : {M : Type 1} (𝓤 : URA M) (H : Heap 𝓤) (A : Atoms 𝓤) → Given 𝓤 H A → (Ps : List (Passed n)) (xs : Values Ps) → ent 𝓤 (sem 𝓤 H A (owned-all Ps xs)) (sep 𝓤 (sem 𝓤 H A (owned-all Ps xs)) (sem 𝓤 H A (owned-all Ps xs)))
-    twice-all 𝓤 H A W [] xs = qed W (‵ ftrue ∷ []) ∵ nothing ! $ done !
-    twice-all 𝓤 H A W (P ∷ Ps) xs =
-        let one : Fml = P .own κs (xs .0) (P .val (xs .0) ∷ []) in
-        qed W (‵ (owned-all (P ∷ Ps) xs) ∷ []) ∵ fsplit ! $ use1 W (‵ one ⊛ ‵ one) (P .twice 𝓤 H A W κs (xs .0) _) $ split ! $ move ! (2 ∷ []) $
-        use1 W (‵ (owned-all Ps (xs .1)) ⊛ ‵ (owned-all Ps (xs .1))) (twice-all 𝓤 H A W Ps (xs .1)) $ split ! $ move ! (2 ∷ 0 ∷ 3 ∷ 1 ∷ []) $ fjoin ! $ frame ! $ fjoin ! $ done !
 
   -- ---- in a signature
   module _ (s : Side n) where
@@ -187,15 +186,21 @@ module _ {n : ℕ} where
       abbrev pub Had : (Ps : List (Passed n)) → Denots (Rows Ps) → Fml
       Had Ps a = hasOf κs (slots Ps) (all yes (slots Ps)) (stays Ps) a (finals Ps a) (machines Ps a)
 
-      -- what they own, as a signature says it: at entry, for a callee, and at exit
+      -- what they own, as a signature says it at entry and at exit
       pub had-at-entry : (Ps : List (Passed n)) (a : Denots (Rows Ps)) → owns (Rows Ps) a (machines Ps a) ≡ owned-all (s .further κs) Ps (values Ps a)
       had-at-entry [] a = refl
       had-at-entry (P ∷ Ps) a = λ i. fsep (P .own (s .further κs) (a .0) (P .val (a .0) ∷ [])) (had-at-entry Ps (a .1) i)
 
-      pub had-by-callee : (Ps : List (Passed n)) (xs : Values Ps) → owned-all (s .further κs) Ps xs ≡ owns (Rows Ps) (args Ps xs) (machines Ps (args Ps xs))
-      had-by-callee [] xs = refl
-      had-by-callee (P ∷ Ps) xs = λ i. fsep (P .own (s .further κs) (xs .0) (P .val (xs .0) ∷ [])) (had-by-callee Ps (xs .1) i)
-
       pub had-at-exit : (Ps : List (Passed n)) (a : Denots (Rows Ps)) → owned-all (s .further κs) Ps (values Ps a) ≡ Had Ps a
       had-at-exit [] a = refl
       had-at-exit (P ∷ Ps) a = λ i. fsep (P .own (s .further κs) (a .0) (P .val (a .0) ∷ [])) (had-at-exit Ps (a .1) i)
+
+      -- a callee is given what it asks of them, and the caller keeps it
+      pub passes-on : {M : Type 1} (𝓤 : URA M) (H : Heap 𝓤) (A : Atoms 𝓤) → Given 𝓤 H A → (Ps : List (Passed n)) (xs : Values Ps)
+          → ent 𝓤 (sem 𝓤 H A (owned-all (s .further κs) Ps xs)) (sep 𝓤 (sem 𝓤 H A (owns (Rows Ps) (args Ps xs) (machines Ps (args Ps xs)))) (sem 𝓤 H A (owned-all (s .further κs) Ps xs)))
+      passes-on 𝓤 H A W [] xs = qed W (‵ ftrue ∷ []) ∵ nothing ! $ done !
+      passes-on 𝓤 H A W (P ∷ Ps) xs =
+          let one : Fml = P .own (s .further κs) (xs .0) (P .val (xs .0) ∷ []) in
+          let others : Fml = owned-all (s .further κs) Ps (xs .1) in
+          qed W (‵ (fsep one others) ∷ []) ∵ fsplit ! $ use1 W (‵ one ⊛ ‵ one) (P .twice 𝓤 H A W (s .further κs) (xs .0) _) $ split ! $ move ! (2 ∷ []) $
+          use1 W (‵ (owns (Rows Ps) (args Ps (xs .1)) (machines Ps (args Ps (xs .1)))) ⊛ ‵ others) (passes-on 𝓤 H A W Ps (xs .1)) $ split ! $ move ! (2 ∷ 0 ∷ 3 ∷ 1 ∷ []) $ fjoin ! $ frame ! $ fjoin ! $ done !

@@ -1,6 +1,6 @@
 -- `lent::read_fresh` meets its contract.
 -- Assumes nothing.
-use mathlib.Core.Path.{_≡_, ap, _∙_}
+use mathlib.Core.Path.{ap, _∙_}
 use Rattle.book.specs.declared.Book.{Book}
 use Rattle.filing.specs.Reader.{read}
 use borrow.Author.Needs.{needs}
