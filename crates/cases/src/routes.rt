@@ -20,7 +20,7 @@ pub(crate) fn by_value(b: Book, filing_call: Call) -> Filed {
             start,
             end,
             weight,
-        } => { ledger::interruption(b, operator, sign, level, cause, start, end, weight) }
+        } => ledger::interruption(b, operator, sign, level, cause, start, end, weight),
         Call::Amount {
             operator,
             year,
@@ -54,7 +54,7 @@ pub(crate) fn lent(b: Book, filing_call: Call) -> Filed {
             start,
             end,
             weight,
-        } => { held::interruption(b, operator, sign, level, cause, start, end, weight) }
+        } => held::interruption(b, operator, sign, level, cause, start, end, weight),
         Call::Amount {
             operator,
             year,

@@ -9,9 +9,9 @@ use book::Book;
 pub fn read(b: &mut Book, bytes: &[u8]) -> Progress
     ensures { λ r. ⌜ reading (now (b .exit)) (r .applied) (r .offset) (said (r .answer)) ≡ Reader·read (now (b .entry)) (now (bytes .entry)) ⌝ }
 {
-    let read = read_apart(*b, bytes);
-    *b = read.book;
-    read.progress
+    let after = read_apart(*b, bytes);
+    *b = after.book;
+    after.progress
 }
 
 // The core: a reading by value, with the book apart from the rest.
