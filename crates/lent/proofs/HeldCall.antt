@@ -201,7 +201,7 @@ module _ {B N : Plain} (P : Paired B N) {n : ℕ} (Ps : List (Passed n)) where
             move ! (7 ∷ 8 ∷ []) $ free1 ! $ move ! (5 ∷ 6 ∷ []) $ free1 ! $ move ! (3 ∷ 4 ∷ []) $ free1 ! $ free0 ! $ keep ! (0 ∷ 2 ∷ []) $
             by ! (exits (ws .0) r (P .whole (ws .0) r is′ (subst (Is (N .row) r) (N .tells r (v ∷ []) is) is)) (kept ν l₂ γ r ws e)))))))))))))))))
 
-    pub held-meets : (W : Given 𝓤 H A) (lent : Name) (𝓣 : Tables 𝓤 H) → Triple 𝓤 (𝓣 .C lent) (Lent P Ps 𝓤 H A (lent-clauses P Ps S 𝓤)) → Triple 𝓤 (WpFn 𝓤 H (𝓣 .C) (𝓣 .Λ) (held-function lent)) (Core P Ps 𝓤 H A (core-clauses P Ps S 𝓤))
+    held-meets : (W : Given 𝓤 H A) (lent : Name) (𝓣 : Tables 𝓤 H) → Triple 𝓤 (𝓣 .C lent) (Lent P Ps 𝓤 H A (lent-clauses P Ps S 𝓤)) → Triple 𝓤 (WpFn 𝓤 H (𝓣 .C) (𝓣 .Λ) (held-function lent)) (Core P Ps 𝓤 H A (core-clauses P Ps S 𝓤))
     held-meets W lent 𝓣 known =
         walk-meets 𝓤 H A (core-ended P Ps) stayed W (goes-none 𝓤 H A W n (λ _. B .row) yes (λ κs y f. B .silent y f), goes-all (of-core n) 𝓤 H A W Ps) (core-clauses P Ps S 𝓤)
         (WpFn 𝓤 H (𝓣 .C) (𝓣 .Λ) (held-function lent)) (WpFn-mono 𝓤 H (W .laws) 𝓣 (held-function lent))

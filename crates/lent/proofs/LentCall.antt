@@ -170,7 +170,7 @@ module _ {B N : Plain} (P : Paired B N) {n : ℕ} (Ps : List (Passed n)) where
             move ! (12 ∷ 13 ∷ []) $ free1 ! $ move ! (10 ∷ 11 ∷ []) $ free1 ! $ move ! (4 ∷ []) $ free-all (of-lent n) ! Ps ls xs $ move ! (7 ∷ 8 ∷ []) $ free1 ! $ move ! (5 ∷ 6 ∷ []) $ free1 ! $ free0 ! $
             by ! (exits r (P .parts r v is .2) e))))))))))))
 
-    pub lent-meets : (W : Given 𝓤 H A) (core : Name) (𝓣 : Tables 𝓤 H) → Triple 𝓤 (𝓣 .C core) (Core P Ps 𝓤 H A (core-clauses P Ps S 𝓤)) → Triple 𝓤 (WpFn 𝓤 H (𝓣 .C) (𝓣 .Λ) (lent-function core)) (Lent P Ps 𝓤 H A (lent-clauses P Ps S 𝓤))
+    lent-meets : (W : Given 𝓤 H A) (core : Name) (𝓣 : Tables 𝓤 H) → Triple 𝓤 (𝓣 .C core) (Core P Ps 𝓤 H A (core-clauses P Ps S 𝓤)) → Triple 𝓤 (WpFn 𝓤 H (𝓣 .C) (𝓣 .Λ) (lent-function core)) (Lent P Ps 𝓤 H A (lent-clauses P Ps S 𝓤))
     lent-meets W core 𝓣 known =
         walk-meets 𝓤 H A (lent-ended P Ps) stayed W (goes-ref 𝓤 H A W (suc n) 0 tt (plain (λ _. B .row)), goes-all (of-lent n) 𝓤 H A W Ps) (lent-clauses P Ps S 𝓤)
         (WpFn 𝓤 H (𝓣 .C) (𝓣 .Λ) (lent-function core)) (WpFn-mono 𝓤 H (W .laws) 𝓣 (lent-function core))
