@@ -43,7 +43,13 @@ fn settings_in_range(b: Book) -> bool
     let settings = b.settings;
     let mut i = 0;
     while i < SETTING_PLACES {
-        if most_allowed(joined, (i / SETTINGS) as u8, setting_limit((i % SETTINGS) as u8)) < settings[i] {
+        if most_allowed(
+            joined,
+            (i / SETTINGS) as u8,
+            setting_limit((i % SETTINGS) as u8),
+        )
+            < settings[i]
+        {
             return false;
         }
         i += 1;

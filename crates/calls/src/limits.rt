@@ -3,38 +3,55 @@
 pub const LAST_OPERATOR: u8 = 15;
 
 pub const YEARS: usize = 3;
+
 pub const LAST_YEAR: u8 = 2;
 
 pub const FIGURES: usize = 8;
+
 pub const LAST_FIGURE: u8 = 7;
 
 pub const SETTINGS: usize = 3;
+
 pub const LAST_SETTING: u8 = 2;
 
 pub const INDICATORS: usize = 6;
+
 pub(crate) const LAST_INDICATOR: u8 = 5;
 
 pub const INDICES: usize = 4;
+
 pub(crate) const LAST_INDEX: u8 = 3;
 
 // How many of each the sixteen operators have, and the figures of one operator.
 pub const SETTING_PLACES: usize = 48;
+
 pub const FIGURE_PLACES: usize = 384;
+
 pub const OPERATOR_FIGURES: usize = 24;
+
 pub const MARK_PLACES: usize = 96;
 
 pub(crate) const CABIN_LIMIT: u64 = 100000;
+
 pub(crate) const ACCESS_POINT_LIMIT: u64 = 4000000;
+
 pub(crate) const INCOME_LIMIT: u64 = 100000000000;
+
 pub const FIGURE_LIMIT: u64 = 100000000000;
+
 pub(crate) const RATE_LIMIT: u32 = 20000;
+
 pub const INDEX_LEAST: u32 = 1;
+
 pub const INDEX_MOST: u32 = 100000;
+
 pub const FRESH_INDEX: u32 = 10000;
 
 // Of an interruption: cabins, and seconds.
 pub(crate) const WEIGHT_LIMIT: u32 = 100000;
+
 pub(crate) const YEAR_LENGTH: u64 = 31536000;
+
 pub(crate) const LAST_END: i64 = 94607999;
 
 // The first second of the year before the three: an interruption may have begun then.

@@ -14,13 +14,13 @@ ghost use Rattle.filing.specs.Steps.{reachedBy, toldWalk, stopped, advan
 use crate::Reading;
 use book::Book;
 use book::in_range;
+use calls::Answer;
+use calls::Call;
 use calls::FIGURE_PLACES;
 use calls::INDICATORS;
 use calls::INDICES;
-use calls::SETTING_PLACES;
-use calls::Answer;
-use calls::Call;
 use calls::Refusal;
+use calls::SETTING_PLACES;
 use fields::Field;
 use fields::field_at;
 use ledger::apply_in;

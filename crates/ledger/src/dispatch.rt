@@ -9,12 +9,12 @@ use crate::Filed;
 use crate::interruptions;
 use crate::parts;
 use book::Book;
+use calls::Answer;
+use calls::Call;
 use calls::FIGURE_PLACES;
 use calls::INDICATORS;
 use calls::INDICES;
 use calls::SETTING_PLACES;
-use calls::Answer;
-use calls::Call;
 
 // The parts of a book in range. Asks for that and does not test it: `file` has just tested it, and the reader of filings tests a book
 // once and then knows that each call keeps it in range. Nobody can apply a call to a book that would get 5.

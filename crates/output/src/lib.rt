@@ -10,7 +10,7 @@ ghost use Rattle.output.specs.Output.{refusedBy, refusedField, settlemen
 use book::Book;
 use calls::Answer;
 use calls::number_of;
-use filing::read;
+use lent::read_fresh;
 use report::report;
 use text::Filled;
 use text::put_decimal;
@@ -26,7 +26,7 @@ pub fn output(filing: &[u8], out: &mut [u8; 2048]) -> usize
     if LONGEST_FILING < filing.len() {
         return put_word(out, 0, b"too long\n");
     }
-    let reading = read(book::fresh(), filing);
+    let reading = read_fresh(filing);
     let offset = reading.offset;
     let b = reading.book;
     let answer = reading.answer;

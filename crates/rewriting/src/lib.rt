@@ -10,7 +10,7 @@ ghost use Rattle.rewriting.specs.Rewriting.{printoutOf, toldOf};
 use book::Book;
 use calls::Answer;
 use calls::number_of;
-use filing::read;
+use lent::read_fresh;
 use output::LONGEST_FILING;
 use output::put_refused_field;
 use text::Filled;
@@ -41,7 +41,7 @@ pub fn rewritten(filing: &[u8], out: &mut [u8; 7067]) -> Printed
             count,
         };
     }
-    let reading = read(book::fresh(), filing);
+    let reading = read_fresh(filing);
     let offset = reading.offset;
     let b = reading.book;
     let answer = reading.answer;

@@ -6,7 +6,6 @@ use lib.ListN.{length}
 use Rattle.text.specs.Text.{bytesOf}
 use Rattle.text.specs.Buffer.{putInto}
 use Rattle.output.specs.Output.{refusedField, settlementText}
-use Rattle.book.specs.declared.Book.{Book}
 use Rattle.book.specs.Book.{freshBook}
 use Rattle.calls.specs.Answers.{isRefused, said}
 use Rattle.calls.proofs.SaidLaws.{told-accepted}
@@ -31,11 +30,8 @@ returns c =
     let text = output-long (begun .args .filing .now) (omega arith) in
     (front .0 ∙ ap length text, front .1 ∙ ap (putInto _) text)
 
-fresh-requires : tie.Need-fresh-requires
-fresh-requires c κs = search needs
-
-read-requires : tie.Need-read-requires
-read-requires c κs = search needs
+read-fresh-requires : tie.Need-read-fresh-requires
+read-fresh-requires c κs = search needs
 
 enum-known-answer : tie.Need-enum-known-answer
 enum-known-answer c = search needs
@@ -52,26 +48,26 @@ put-settlement-requires c κs = search needs
 -- a field is refused
 returns-2 : tie.Need-returns-2
 returns-2 c =
-    let begun = c .before .before .before .before .before .before .before .before .before .before .before in
+    let begun = c .before .before .before .before .before .before .before .before .before .before in
     let filing = begun .args .filing .now in
-    let reading = c .before .before .before .before .before .before .before .read in
-    let same : told (reading .result) ≡ read freshBook filing = reading .ensures ∙ ap (λ (b : Book). read b filing) (c .before .before .before .before .before .before .before .before .fresh .ensures) in
+    let reading = c .before .before .before .before .before .before .before .read-fresh in
+    let same : told (reading .result) ≡ read freshBook filing = reading .ensures in
     let refused = ap (λ (r : Outcome). r .said) (sym same) ∙ ap said (c .before .before .before .before .answer .given .1) in
     let number = c .before .number-of .ensures in
     let line = c .put-refused-field .ensures in
-    let text = (λ i. refusedField (number i) (same i .offset)) ∙ output-refused filing (omega (arith, c .before .before .before .before .before .before .before .before .before .if1 .left)) _ refused in
+    let text = (λ i. refusedField (number i) (same i .offset)) ∙ output-refused filing (omega (arith, c .before .before .before .before .before .before .before .before .if1 .left)) _ refused in
     (line .0 ∙ ap length text, line .1 ∙ ap (putInto _) text)
 
 -- read to its end
 returns-3 : tie.Need-returns-3
 returns-3 c =
-    let begun = c .before .before .before .before .before .before .before .before in
+    let begun = c .before .before .before .before .before .before .before in
     let filing = begun .args .filing .now in
-    let reading = c .before .before .before .before .read in
-    let same : told (reading .result) ≡ read freshBook filing = reading .ensures ∙ ap (λ (b : Book). read b filing) (c .before .before .before .before .before .fresh .ensures) in
+    let reading = c .before .before .before .before .read-fresh in
+    let same : told (reading .result) ≡ read freshBook filing = reading .ensures in
     let fine = ap (λ (r : Outcome). isRefused (r .said)) (sym same) ∙ told-accepted (reading .result .answer) (c .before .before .match .keys2) in
     let lines = c .put-settlement .ensures in
-    let text = ap (λ (r : Outcome). settlementText (r .book)) same ∙ output-read filing (omega (arith, c .before .before .before .before .before .before .if1 .left)) fine in
+    let text = ap (λ (r : Outcome). settlementText (r .book)) same ∙ output-read filing (omega (arith, c .before .before .before .before .before .if1 .left)) fine in
     (lines .0 ∙ ap length text, lines .1 ∙ ap (putInto _) text)
 
 pub output-spec : {M : Type 1} → statement M
@@ -81,8 +77,7 @@ output-spec =
     slice-aggregate-put-word
     put-word-requires
     returns
-    fresh-requires
-    read-requires
+    read-fresh-requires
     enum-known-answer
     number-of-requires
     put-refused-field-requires

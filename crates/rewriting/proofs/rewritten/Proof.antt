@@ -4,7 +4,6 @@ use mathlib.Core.Path.{_≡_, sym, ap, _∙_}
 use native.Mathlib.Omega.{arith}
 use mathlib.Core.Bool.{true}
 use lib.ListN.{length}
-use Rattle.book.specs.declared.Book.{Book}
 use Rattle.book.specs.Book.{freshBook, inRange}
 use Rattle.calls.specs.Answers.{isRefused, said}
 use Rattle.calls.proofs.SaidLaws.{told-accepted}
@@ -37,11 +36,8 @@ returns c =
     let text = printout-long (begun .args .filing .now) (omega arith) in
     ((λ i. (Error, front .0 i)) ∙ ap toldOf text, front .1 ∙ ap (λ (p : Printout). putInto (begun .args .out .now) (p .text)) text)
 
-fresh-requires : tie.Need-fresh-requires
-fresh-requires c κs = search needs
-
-read-requires : tie.Need-read-requires
-read-requires c κs = search needs
+read-fresh-requires : tie.Need-read-fresh-requires
+read-fresh-requires c κs = search needs
 
 enum-known-answer : tie.Need-enum-known-answer
 enum-known-answer c = search needs
@@ -54,36 +50,36 @@ put-refused-field-requires c κs = search needs
 
 put-book-requires : tie.Need-put-book-requires
 put-book-requires c κs =
-    let begun = c .before .before .before .before .before .before .before in
+    let begun = c .before .before .before .before .before .before in
     let filing = begun .args .filing .now in
-    let reading = c .before .before .before .read in
-    let same : told (reading .result) ≡ read freshBook filing = reading .ensures ∙ ap (λ (b : Book). read b filing) (c .before .before .before .before .fresh .ensures) in
+    let reading = c .before .before .before .read-fresh in
+    let same : told (reading .result) ≡ read freshBook filing = reading .ensures in
     let ranged : inRange (reading .result .book) ≡ true = ap (λ (r : Outcome). inRange (r .book)) same ∙ read-in-range filing in
     (ranged, omega (arith, written-out (reading .result .book) ranged .most))
 
 -- a field is refused
 returns-2 : tie.Need-returns-2
 returns-2 c =
-    let begun = c .before .before .before .before .before .before .before .before .before .before .before in
+    let begun = c .before .before .before .before .before .before .before .before .before .before in
     let filing = begun .args .filing .now in
-    let reading = c .before .before .before .before .before .before .before .read in
-    let same : told (reading .result) ≡ read freshBook filing = reading .ensures ∙ ap (λ (b : Book). read b filing) (c .before .before .before .before .before .before .before .before .fresh .ensures) in
+    let reading = c .before .before .before .before .before .before .before .read-fresh in
+    let same : told (reading .result) ≡ read freshBook filing = reading .ensures in
     let refused = ap (λ (r : Outcome). r .said) (sym same) ∙ ap said (c .before .before .before .before .answer .given .1) in
     let number = c .before .number-of .ensures in
     let line = c .put-refused-field .ensures in
-    let text : onStream Error (refusedField (c .before .number-of .result) (reading .result .offset)) ≡ _ = (λ i. onStream Error (refusedField (number i) (same i .offset))) ∙ printout-refused filing (omega (arith, c .before .before .before .before .before .before .before .before .before .if1 .left)) _ refused in
+    let text : onStream Error (refusedField (c .before .number-of .result) (reading .result .offset)) ≡ _ = (λ i. onStream Error (refusedField (number i) (same i .offset))) ∙ printout-refused filing (omega (arith, c .before .before .before .before .before .before .before .before .if1 .left)) _ refused in
     ((λ i. (Error, line .0 i)) ∙ ap toldOf text, line .1 ∙ ap (λ (p : Printout). putInto (begun .args .out .now) (p .text)) text)
 
 -- read to its end
 returns-3 : tie.Need-returns-3
 returns-3 c =
-    let begun = c .before .before .before .before .before .before .before .before in
+    let begun = c .before .before .before .before .before .before .before in
     let filing = begun .args .filing .now in
-    let reading = c .before .before .before .before .read in
-    let same : told (reading .result) ≡ read freshBook filing = reading .ensures ∙ ap (λ (b : Book). read b filing) (c .before .before .before .before .before .fresh .ensures) in
+    let reading = c .before .before .before .before .read-fresh in
+    let same : told (reading .result) ≡ read freshBook filing = reading .ensures in
     let fine = ap (λ (r : Outcome). isRefused (r .said)) (sym same) ∙ told-accepted (reading .result .answer) (c .before .before .match .keys2) in
     let bytes = c .put-book .ensures in
-    let text = ap (λ (r : Outcome). onStream Output (written (r .book))) same ∙ printout-read filing (omega (arith, c .before .before .before .before .before .before .if1 .left)) fine in
+    let text = ap (λ (r : Outcome). onStream Output (written (r .book))) same ∙ printout-read filing (omega (arith, c .before .before .before .before .before .if1 .left)) fine in
     ((λ i. (Output, bytes .0 i)) ∙ ap toldOf text, bytes .1 ∙ ap (λ (p : Printout). putInto (begun .args .out .now) (p .text)) text)
 
 pub rewritten-spec : {M : Type 1} → statement M
@@ -93,8 +89,7 @@ rewritten-spec =
     slice-aggregate-put-word
     put-word-requires
     returns
-    fresh-requires
-    read-requires
+    read-fresh-requires
     enum-known-answer
     number-of-requires
     put-refused-field-requires

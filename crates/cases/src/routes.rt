@@ -1,0 +1,73 @@
+// A filing call by its own function, by value or with the book lent.
+use book::Book;
+use calls::Call;
+use ledger::Filed;
+use lent::held;
+
+pub(crate) fn by_value(b: Book, filing_call: Call) -> Filed {
+    match filing_call {
+        Call::Join { operator } => ledger::join(b, operator),
+        Call::Setting {
+            operator,
+            which,
+            value,
+        } => ledger::setting(b, operator, which, value),
+        Call::Interruption {
+            operator,
+            sign,
+            level,
+            cause,
+            start,
+            end,
+            weight,
+        } => ledger::interruption(b, operator, sign, level, cause, start, end, weight),
+        Call::Amount {
+            operator,
+            year,
+            figure,
+            sign,
+            value,
+        } => ledger::amount(b, operator, year, figure, sign, value),
+        Call::Mark {
+            operator,
+            indicator,
+            mark,
+        } => ledger::mark(b, operator, indicator, mark),
+        Call::Rates { pot, cap } => ledger::rates(b, pot, cap),
+        Call::Index { number, value } => ledger::index(b, number, value),
+    }
+}
+
+pub(crate) fn lent(b: Book, filing_call: Call) -> Filed {
+    match filing_call {
+        Call::Join { operator } => held::join(b, operator),
+        Call::Setting {
+            operator,
+            which,
+            value,
+        } => held::setting(b, operator, which, value),
+        Call::Interruption {
+            operator,
+            sign,
+            level,
+            cause,
+            start,
+            end,
+            weight,
+        } => held::interruption(b, operator, sign, level, cause, start, end, weight),
+        Call::Amount {
+            operator,
+            year,
+            figure,
+            sign,
+            value,
+        } => held::amount(b, operator, year, figure, sign, value),
+        Call::Mark {
+            operator,
+            indicator,
+            mark,
+        } => held::mark(b, operator, indicator, mark),
+        Call::Rates { pot, cap } => held::rates(b, pot, cap),
+        Call::Index { number, value } => held::index(b, number, value),
+    }
+}

@@ -1,0 +1,77 @@
+// The lent calls for code that holds a book by value: each lends it to the call of the same name and gives it back beside the answer, with the
+// contract of the by-value core.
+ghost use mathlib.Core.Path.{_≡_};
+ghost use Rattle.calls.specs.Answers.{said};
+ghost use Rattle.ledger.specs.Calls.{file as Calls·file};
+ghost use Rattle.filing.specs.Reader.{reading, read as Reader·read};
+use crate::ReadBook;
+use crate::lending;
+use crate::reading;
+use book::Book;
+use calls::Call;
+use ledger::Filed;
+
+pub fn join(mut b: Book, operator: u8) -> Filed
+    ensures { λ r. ⌜ (said (r .answer) ≡ Calls·file b (Call.Join operator) .said) × (r .book ≡ Calls·file b (Call.Join operator) .book) ⌝ }
+{
+    let answer = lending::join(&mut b, operator);
+    Filed { book: b, answer }
+}
+
+pub fn setting(mut b: Book, operator: u8, which: u8, value: u64) -> Filed
+    ensures { λ r. ⌜ (said (r .answer) ≡ Calls·file b (Call.Setting operator which value) .said) × (r .book ≡ Calls·file b (Call.Setting operator which value) .book) ⌝ }
+{
+    let answer = lending::setting(&mut b, operator, which, value);
+    Filed { book: b, answer }
+}
+
+pub fn interruption(
+    mut b: Book,
+    operator: u8,
+    sign: u8,
+    level: u8,
+    cause: u8,
+    start: i64,
+    end: i64,
+    weight: u32,
+) -> Filed
+    ensures { λ r. ⌜ (said (r .answer) ≡ Calls·file b (Call.Interruption operator sign level cause start end weight) .said) × (r .book ≡ Calls·file b (Call.Interruption operator sign level cause start end weight) .book) ⌝ }
+{
+    let answer = lending::interruption(&mut b, operator, sign, level, cause, start, end, weight);
+    Filed { book: b, answer }
+}
+
+pub fn amount(mut b: Book, operator: u8, year: u8, figure: u8, sign: u8, value: u64) -> Filed
+    ensures { λ r. ⌜ (said (r .answer) ≡ Calls·file b (Call.Amount operator year figure sign value) .said) × (r .book ≡ Calls·file b (Call.Amount operator year figure sign value) .book) ⌝ }
+{
+    let answer = lending::amount(&mut b, operator, year, figure, sign, value);
+    Filed { book: b, answer }
+}
+
+pub fn mark(mut b: Book, operator: u8, indicator: u8, mark: u8) -> Filed
+    ensures { λ r. ⌜ (said (r .answer) ≡ Calls·file b (Call.Mark operator indicator mark) .said) × (r .book ≡ Calls·file b (Call.Mark operator indicator mark) .book) ⌝ }
+{
+    let answer = lending::mark(&mut b, operator, indicator, mark);
+    Filed { book: b, answer }
+}
+
+pub fn rates(mut b: Book, pot: u32, cap: u32) -> Filed
+    ensures { λ r. ⌜ (said (r .answer) ≡ Calls·file b (Call.Rates pot cap) .said) × (r .book ≡ Calls·file b (Call.Rates pot cap) .book) ⌝ }
+{
+    let answer = lending::rates(&mut b, pot, cap);
+    Filed { book: b, answer }
+}
+
+pub fn index(mut b: Book, number: u8, value: u32) -> Filed
+    ensures { λ r. ⌜ (said (r .answer) ≡ Calls·file b (Call.Index number value) .said) × (r .book ≡ Calls·file b (Call.Index number value) .book) ⌝ }
+{
+    let answer = lending::index(&mut b, number, value);
+    Filed { book: b, answer }
+}
+
+pub fn read(mut b: Book, bytes: &[u8]) -> ReadBook
+    ensures { λ r. ⌜ reading (r .book) (r .progress .applied) (r .progress .offset) (said (r .progress .answer)) ≡ Reader·read b (now (bytes .entry)) ⌝ }
+{
+    let progress = reading::read(&mut b, bytes);
+    ReadBook { book: b, progress }
+}

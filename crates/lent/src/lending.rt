@@ -1,0 +1,74 @@
+// The filing calls with the book lent. Each is its core of the same name, lent: the core is given a copy of the book, the book that it leaves is
+// stored where the lent one stands, and its answer is the answer.
+ghost use mathlib.Core.Path.{_≡_};
+ghost use Rattle.calls.specs.Answers.{said};
+ghost use Rattle.ledger.specs.Calls.{file as Calls·file};
+use book::Book;
+use calls::Answer;
+use calls::Call;
+
+pub fn join(b: &mut Book, operator: u8) -> Answer
+    ensures { λ r. ⌜ (said r ≡ Calls·file (now (b .entry)) (Call.Join operator) .said) × (now (b .exit) ≡ Calls·file (now (b .entry)) (Call.Join operator) .book) ⌝ }
+{
+    let filed = ledger::join(*b, operator);
+    *b = filed.book;
+    filed.answer
+}
+
+// Cabins, active access points or income of an operator.
+pub fn setting(b: &mut Book, operator: u8, which: u8, value: u64) -> Answer
+    ensures { λ r. ⌜ (said r ≡ Calls·file (now (b .entry)) (Call.Setting operator which value) .said) × (now (b .exit) ≡ Calls·file (now (b .entry)) (Call.Setting operator which value) .book) ⌝ }
+{
+    let filed = ledger::setting(*b, operator, which, value);
+    *b = filed.book;
+    filed.answer
+}
+
+pub fn interruption(
+    b: &mut Book,
+    operator: u8,
+    sign: u8,
+    level: u8,
+    cause: u8,
+    start: i64,
+    end: i64,
+    weight: u32,
+) -> Answer
+    ensures { λ r. ⌜ (said r ≡ Calls·file (now (b .entry)) (Call.Interruption operator sign level cause start end weight) .said) × (now (b .exit) ≡ Calls·file (now (b .entry)) (Call.Interruption operator sign level cause start end weight) .book) ⌝ }
+{
+    let filed = ledger::interruption(*b, operator, sign, level, cause, start, end, weight);
+    *b = filed.book;
+    filed.answer
+}
+
+pub fn amount(b: &mut Book, operator: u8, year: u8, figure: u8, sign: u8, value: u64) -> Answer
+    ensures { λ r. ⌜ (said r ≡ Calls·file (now (b .entry)) (Call.Amount operator year figure sign value) .said) × (now (b .exit) ≡ Calls·file (now (b .entry)) (Call.Amount operator year figure sign value) .book) ⌝ }
+{
+    let filed = ledger::amount(*b, operator, year, figure, sign, value);
+    *b = filed.book;
+    filed.answer
+}
+
+pub fn mark(b: &mut Book, operator: u8, indicator: u8, mark: u8) -> Answer
+    ensures { λ r. ⌜ (said r ≡ Calls·file (now (b .entry)) (Call.Mark operator indicator mark) .said) × (now (b .exit) ≡ Calls·file (now (b .entry)) (Call.Mark operator indicator mark) .book) ⌝ }
+{
+    let filed = ledger::mark(*b, operator, indicator, mark);
+    *b = filed.book;
+    filed.answer
+}
+
+pub fn rates(b: &mut Book, pot: u32, cap: u32) -> Answer
+    ensures { λ r. ⌜ (said r ≡ Calls·file (now (b .entry)) (Call.Rates pot cap) .said) × (now (b .exit) ≡ Calls·file (now (b .entry)) (Call.Rates pot cap) .book) ⌝ }
+{
+    let filed = ledger::rates(*b, pot, cap);
+    *b = filed.book;
+    filed.answer
+}
+
+pub fn index(b: &mut Book, number: u8, value: u32) -> Answer
+    ensures { λ r. ⌜ (said r ≡ Calls·file (now (b .entry)) (Call.Index number value) .said) × (now (b .exit) ≡ Calls·file (now (b .entry)) (Call.Index number value) .book) ⌝ }
+{
+    let filed = ledger::index(*b, number, value);
+    *b = filed.book;
+    filed.answer
+}
