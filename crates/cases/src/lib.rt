@@ -10,7 +10,7 @@ mod stores;
 ghost use Prim.Native.Nat.{_*_, _<_};
 use book::Book;
 use calls::Call;
-use ledger::Filed;
+use ledger::Answered;
 use print::put;
 use print::put_answer;
 use print::put_name;
@@ -57,12 +57,12 @@ fn step(b: Book, lends: bool, i: usize) -> Book
 
 fn file(b: Book, lends: bool, filing_call: Call) -> Book {
     if lends {
-        return answered(routes::lent(b, filing_call));
+        return shown(routes::lent(b, filing_call));
     }
-    answered(routes::by_value(b, filing_call))
+    shown(routes::by_value(b, filing_call))
 }
 
-fn answered(filed: Filed) -> Book {
+fn shown(filed: Answered) -> Book {
     let answer = filed.answer;
     put_answer(answer);
     let b = filed.book;

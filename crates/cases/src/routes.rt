@@ -1,10 +1,10 @@
 // A filing call by its own function, by value or with the book lent.
 use book::Book;
 use calls::Call;
-use ledger::Filed;
+use ledger::Answered;
 use lent::held;
 
-pub(crate) fn by_value(b: Book, filing_call: Call) -> Filed {
+pub(crate) fn by_value(b: Book, filing_call: Call) -> Answered {
     match filing_call {
         Call::Join { operator } => ledger::join(b, operator),
         Call::Setting {
@@ -38,7 +38,7 @@ pub(crate) fn by_value(b: Book, filing_call: Call) -> Filed {
     }
 }
 
-pub(crate) fn lent(b: Book, filing_call: Call) -> Filed {
+pub(crate) fn lent(b: Book, filing_call: Call) -> Answered {
     match filing_call {
         Call::Join { operator } => held::join(b, operator),
         Call::Setting {

@@ -10,7 +10,7 @@ use Rattle.calls.specs.declared.Call.{Call}
 use Rattle.calls.specs.declared.Call.the-variants.{Join, Setting, Interruption, Amount, Mark, Rates, Index}
 use Rattle.calls.specs.Answers.{Said, refused-by, accepted, firstOf, numberOf}
 use Rattle.fields.specs.declared.Field.{Field}
-use Rattle.fields.specs.declared.Field.the-variants.{Filing, End, Refused}
+use Rattle.fields.specs.declared.Field.the-variants.{CallThen, End, Refused}
 
 -- "Numbers are big-endian"
 unfoldable pub bigEndian : List ℕ → ℕ
@@ -80,6 +80,6 @@ fieldAt bytes at = cond (eqb (length bytes - at) 0) (accepted at-end) (firstOf (
 
 -- what the code's answer says
 abbrev pub fieldSaid : Field → Said Found
-fieldSaid (Filing call next) = accepted (call-then call next)
+fieldSaid (CallThen call next) = accepted (call-then call next)
 fieldSaid End = accepted at-end
 fieldSaid (Refused refusal) = refused-by (numberOf refusal)

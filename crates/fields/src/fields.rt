@@ -29,7 +29,7 @@ pub fn field_at(bytes: &[u8], at: usize) -> Field
     if size != content_size(tag) {
         return Field::Refused(Refusal::WrongLength);
     }
-    Field::Filing {
+    Field::CallThen {
         filing_call: call_at(tag, bytes, at + 3),
         next: at + 3 + size,
     }

@@ -10,7 +10,7 @@ pub use fields::field_at;
 // What stands in a filing at an offset.
 pub enum Field {
     // A call, and the offset after it.
-    Filing { filing_call: Call, next: usize },
+    CallThen { filing_call: Call, next: usize },
     End,
     Refused(Refusal),
 }

@@ -104,7 +104,7 @@ fn step(
     ensures { λ r. ⌜ toldWalk (bookWith (now (joined .exit)) (now (marks .exit)) (now (settings .exit)) (now (figures .exit)) (now («pot_rate» .exit)) (now («cap_rate» .exit)) (now (indices .exit))) r ≡ stepped (reachedBy (bookWith (now (joined .entry)) (now (marks .entry)) (now (settings .entry)) (now (figures .entry)) (now («pot_rate» .entry)) (now («cap_rate» .entry)) (now (indices .entry))) reached) (fieldAt (now (bytes .entry)) (reached .offset)) ⌝ }
 {
     match field_at(bytes, reached.offset) {
-        Field::Filing { filing_call, next } => advance(
+        Field::CallThen { filing_call, next } => advance(
             joined,
             marks,
             settings,

@@ -5,9 +5,8 @@ ghost use Rattle.book.specs.Book.{bookWith, inRange};
 ghost use Rattle.calls.specs.Answers.{said};
 ghost use Rattle.ledger.specs.Calls.{apply as Calls·apply};
 ghost use Rattle.ledger.specs.Steps.{Leaves};
-use crate::Filed;
-use crate::interruptions;
-use crate::parts;
+use crate::Answered;
+use crate::in_place;
 use book::Book;
 use calls::Answer;
 use calls::Call;
@@ -32,12 +31,12 @@ pub fn apply_in(
     ensures { λ r. ⌜ Leaves (bookWith (now (joined .entry)) (now (marks .entry)) (now (settings .entry)) (now (figures .entry)) (now («pot_rate» .entry)) (now («cap_rate» .entry)) (now (indices .entry))) «filing_call» r (bookWith (now (joined .exit)) (now (marks .exit)) (now (settings .exit)) (now (figures .exit)) (now («pot_rate» .exit)) (now («cap_rate» .exit)) (now (indices .exit))) ⌝ }
 {
     match filing_call {
-        Call::Join { operator } => parts::join(joined, operator),
+        Call::Join { operator } => in_place::join(joined, operator),
         Call::Setting {
             operator,
             which,
             value,
-        } => parts::setting(*joined, settings, operator, which, value),
+        } => in_place::setting(*joined, settings, operator, which, value),
         Call::Interruption {
             operator,
             sign,
@@ -46,7 +45,7 @@ pub fn apply_in(
             start,
             end,
             weight,
-        } => interruptions::interruption(
+        } => in_place::interruption(
             *joined,
             figures,
             operator,
@@ -63,19 +62,19 @@ pub fn apply_in(
             figure,
             sign,
             value,
-        } => parts::amount(*joined, figures, operator, year, figure, sign, value),
+        } => in_place::amount(*joined, figures, operator, year, figure, sign, value),
         Call::Mark {
             operator,
             indicator,
             mark,
-        } => parts::mark_indicator(*joined, marks, operator, indicator, mark),
-        Call::Rates { pot, cap } => parts::rates(pot_rate, cap_rate, pot, cap),
-        Call::Index { number, value } => parts::index(indices, number, value),
+        } => in_place::mark_indicator(*joined, marks, operator, indicator, mark),
+        Call::Rates { pot, cap } => in_place::rates(pot_rate, cap_rate, pot, cap),
+        Call::Index { number, value } => in_place::index(indices, number, value),
     }
 }
 
 // A book by value: its parts are taken out, lent, and put together again.
-pub fn apply(b: Book, filing_call: Call) -> Filed
+pub fn apply(b: Book, filing_call: Call) -> Answered
     requires { ⌜ inRange b ≡ true ⌝ }
     ensures { λ r. ⌜ (said (r .answer) ≡ Calls·apply b «filing_call» .said) × (r .book ≡ Calls·apply b «filing_call» .book) ⌝ }
 {
@@ -105,5 +104,5 @@ pub fn apply(b: Book, filing_call: Call) -> Filed
         cap_rate,
         indices,
     };
-    Filed { book, answer }
+    Answered { book, answer }
 }

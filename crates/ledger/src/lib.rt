@@ -1,25 +1,24 @@
-// The seven filing calls on a book, by value.
+// The seven filing calls on a book: by value, and on its parts in place.
+mod by_value;
 mod dispatch;
-mod filing;
-mod interruptions;
-mod parts;
+mod in_place;
 
 use book::Book;
+pub use by_value::amount;
+pub use by_value::file;
+pub use by_value::index;
+pub use by_value::interruption;
+pub use by_value::join;
+pub use by_value::mark;
+pub use by_value::rates;
+pub use by_value::setting;
 use calls::Answer;
 use calls::Refusal;
 pub use dispatch::apply;
 pub use dispatch::apply_in;
-pub use filing::amount;
-pub use filing::file;
-pub use filing::index;
-pub use filing::interruption;
-pub use filing::join;
-pub use filing::mark;
-pub use filing::rates;
-pub use filing::setting;
 
 // What a call gives: the book afterwards, and the answer.
-pub struct Filed {
+pub struct Answered {
     pub book: Book,
     pub answer: Answer,
 }

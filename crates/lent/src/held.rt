@@ -9,20 +9,20 @@ use crate::lending;
 use crate::reading;
 use book::Book;
 use calls::Call;
-use ledger::Filed;
+use ledger::Answered;
 
-pub fn join(mut b: Book, operator: u8) -> Filed
+pub fn join(mut b: Book, operator: u8) -> Answered
     ensures { λ r. ⌜ (said (r .answer) ≡ Calls·file b (Call.Join operator) .said) × (r .book ≡ Calls·file b (Call.Join operator) .book) ⌝ }
 {
     let answer = lending::join(&mut b, operator);
-    Filed { book: b, answer }
+    Answered { book: b, answer }
 }
 
-pub fn setting(mut b: Book, operator: u8, which: u8, value: u64) -> Filed
+pub fn setting(mut b: Book, operator: u8, which: u8, value: u64) -> Answered
     ensures { λ r. ⌜ (said (r .answer) ≡ Calls·file b (Call.Setting operator which value) .said) × (r .book ≡ Calls·file b (Call.Setting operator which value) .book) ⌝ }
 {
     let answer = lending::setting(&mut b, operator, which, value);
-    Filed { book: b, answer }
+    Answered { book: b, answer }
 }
 
 pub fn interruption(
@@ -34,39 +34,39 @@ pub fn interruption(
     start: i64,
     end: i64,
     weight: u32,
-) -> Filed
+) -> Answered
     ensures { λ r. ⌜ (said (r .answer) ≡ Calls·file b (Call.Interruption operator sign level cause start end weight) .said) × (r .book ≡ Calls·file b (Call.Interruption operator sign level cause start end weight) .book) ⌝ }
 {
     let answer = lending::interruption(&mut b, operator, sign, level, cause, start, end, weight);
-    Filed { book: b, answer }
+    Answered { book: b, answer }
 }
 
-pub fn amount(mut b: Book, operator: u8, year: u8, figure: u8, sign: u8, value: u64) -> Filed
+pub fn amount(mut b: Book, operator: u8, year: u8, figure: u8, sign: u8, value: u64) -> Answered
     ensures { λ r. ⌜ (said (r .answer) ≡ Calls·file b (Call.Amount operator year figure sign value) .said) × (r .book ≡ Calls·file b (Call.Amount operator year figure sign value) .book) ⌝ }
 {
     let answer = lending::amount(&mut b, operator, year, figure, sign, value);
-    Filed { book: b, answer }
+    Answered { book: b, answer }
 }
 
-pub fn mark(mut b: Book, operator: u8, indicator: u8, mark: u8) -> Filed
+pub fn mark(mut b: Book, operator: u8, indicator: u8, mark: u8) -> Answered
     ensures { λ r. ⌜ (said (r .answer) ≡ Calls·file b (Call.Mark operator indicator mark) .said) × (r .book ≡ Calls·file b (Call.Mark operator indicator mark) .book) ⌝ }
 {
     let answer = lending::mark(&mut b, operator, indicator, mark);
-    Filed { book: b, answer }
+    Answered { book: b, answer }
 }
 
-pub fn rates(mut b: Book, pot: u32, cap: u32) -> Filed
+pub fn rates(mut b: Book, pot: u32, cap: u32) -> Answered
     ensures { λ r. ⌜ (said (r .answer) ≡ Calls·file b (Call.Rates pot cap) .said) × (r .book ≡ Calls·file b (Call.Rates pot cap) .book) ⌝ }
 {
     let answer = lending::rates(&mut b, pot, cap);
-    Filed { book: b, answer }
+    Answered { book: b, answer }
 }
 
-pub fn index(mut b: Book, number: u8, value: u32) -> Filed
+pub fn index(mut b: Book, number: u8, value: u32) -> Answered
     ensures { λ r. ⌜ (said (r .answer) ≡ Calls·file b (Call.Index number value) .said) × (r .book ≡ Calls·file b (Call.Index number value) .book) ⌝ }
 {
     let answer = lending::index(&mut b, number, value);
-    Filed { book: b, answer }
+    Answered { book: b, answer }
 }
 
 pub fn read(mut b: Book, bytes: &[u8]) -> ReadBook

@@ -7,6 +7,7 @@ use book::Book;
 use calls::Answer;
 use calls::Call;
 
+// An operator, 0 to 15, joins.
 pub fn join(b: &mut Book, operator: u8) -> Answer
     ensures { λ r. ⌜ (said r ≡ Calls·file (now (b .entry)) (Call.Join operator) .said) × (now (b .exit) ≡ Calls·file (now (b .entry)) (Call.Join operator) .book) ⌝ }
 {
@@ -15,7 +16,7 @@ pub fn join(b: &mut Book, operator: u8) -> Answer
     filed.answer
 }
 
-// Cabins, active access points or income of an operator.
+// The latest value of an operator's cabins (which 0), active access points (1) or income in cents (2).
 pub fn setting(b: &mut Book, operator: u8, which: u8, value: u64) -> Answer
     ensures { λ r. ⌜ (said r ≡ Calls·file (now (b .entry)) (Call.Setting operator which value) .said) × (now (b .exit) ≡ Calls·file (now (b .entry)) (Call.Setting operator which value) .book) ⌝ }
 {
@@ -24,6 +25,9 @@ pub fn setting(b: &mut Book, operator: u8, which: u8, value: u64) -> Answer
     filed.answer
 }
 
+// An interruption is filed (sign 0) or withdrawn (1), of the medium (level 0) or low voltage network (1). Causes: 0 own network, 1 planned, 2
+// coupled network, 3 exceptional with outside attestation, 4 exceptional without. Times are seconds from the start of 2017; weight is the
+// number of cabins, for low voltage 1.
 pub fn interruption(
     b: &mut Book,
     operator: u8,
@@ -41,6 +45,7 @@ pub fn interruption(
     filed.answer
 }
 
+// An amount is filed to (sign 0) or withdrawn from (1) a figure, 0 to 7, of an operator and year, 0 to 2.
 pub fn amount(b: &mut Book, operator: u8, year: u8, figure: u8, sign: u8, value: u64) -> Answer
     ensures { λ r. ⌜ (said r ≡ Calls·file (now (b .entry)) (Call.Amount operator year figure sign value) .said) × (now (b .exit) ≡ Calls·file (now (b .entry)) (Call.Amount operator year figure sign value) .book) ⌝ }
 {
@@ -49,6 +54,7 @@ pub fn amount(b: &mut Book, operator: u8, year: u8, figure: u8, sign: u8, value:
     filed.answer
 }
 
+// An operator is marked unreliable (mark 1), or not (0), at an indicator, 0 to 5.
 pub fn mark(b: &mut Book, operator: u8, indicator: u8, mark: u8) -> Answer
     ensures { λ r. ⌜ (said r ≡ Calls·file (now (b .entry)) (Call.Mark operator indicator mark) .said) × (now (b .exit) ≡ Calls·file (now (b .entry)) (Call.Mark operator indicator mark) .book) ⌝ }
 {
@@ -57,6 +63,7 @@ pub fn mark(b: &mut Book, operator: u8, indicator: u8, mark: u8) -> Answer
     filed.answer
 }
 
+// Pot rate and cap rate, in millionths.
 pub fn rates(b: &mut Book, pot: u32, cap: u32) -> Answer
     ensures { λ r. ⌜ (said r ≡ Calls·file (now (b .entry)) (Call.Rates pot cap) .said) × (now (b .exit) ≡ Calls·file (now (b .entry)) (Call.Rates pot cap) .book) ⌝ }
 {
@@ -65,6 +72,7 @@ pub fn rates(b: &mut Book, pot: u32, cap: u32) -> Answer
     filed.answer
 }
 
+// An index in hundredths: numbers 0 to 2 for the June before each year, 3 for June 2013.
 pub fn index(b: &mut Book, number: u8, value: u32) -> Answer
     ensures { λ r. ⌜ (said r ≡ Calls·file (now (b .entry)) (Call.Index number value) .said) × (now (b .exit) ≡ Calls·file (now (b .entry)) (Call.Index number value) .book) ⌝ }
 {

@@ -23,7 +23,7 @@ fn offset_past(field: Field, at: usize) -> usize
     ensures { λ r. ⌜ r ≡ past at (fieldSaid field) ⌝ }
 {
     match field {
-        Field::Filing { filing_call, next } => next,
+        Field::CallThen { filing_call, next } => next,
         Field::End => at,
         Field::Refused(refusal) => at,
     }

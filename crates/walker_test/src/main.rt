@@ -34,7 +34,7 @@ fn show(bytes: &[u8]) {
     put_number(walked.offset);
     let field = walked.field;
     match field {
-        Field::Filing { filing_call, next } => put(b" field\n"),
+        Field::CallThen { filing_call, next } => put(b" field\n"),
         Field::End => put(b" end\n"),
         Field::Refused(refusal) => put_refusal(refusal),
     }

@@ -1,4 +1,4 @@
--- `ledger::interruptions::interruption` meets its contract.
+-- `ledger::in_place::interruption` meets its contract.
 -- Assumes nothing.
 use mathlib.Core.Path.{_≡_, refl, sym, ap, _∙_}
 use mathlib.Core.List.{[]}
@@ -15,8 +15,8 @@ use Rattle.calls.proofs.JudgedLaws.{details, left-out-none}
 use Rattle.ledger.proofs.AdmissionLaws.{member-decided}
 use Rattle.ledger.proofs.MoveLaws.{nothing-entered}
 use borrow.Author.Needs.{needs}
-use Rattle.ledger.proofs.interruptions.interruption.Statement.{statement}
-use Rattle.ledger.proofs.interruptions.interruption.Tie as tie
+use Rattle.ledger.proofs.in_place.interruption.Statement.{statement}
+use Rattle.ledger.proofs.in_place.interruption.Tie as tie
 
 interruption-in-range-requires : tie.Need-interruption-in-range-requires
 interruption-in-range-requires c κs = search needs

@@ -1,4 +1,4 @@
--- `ledger::parts::amount` meets its contract.
+-- `ledger::in_place::amount` meets its contract.
 -- Assumes nothing.
 use mathlib.Core.Path.{refl, sym, ap, _∙_}
 use mathlib.Core.List.{[]}
@@ -10,8 +10,8 @@ use Rattle.ledger.specs.Calls.{changed}
 use Rattle.calls.proofs.RangeLaws.{ranges}
 use Rattle.ledger.proofs.AdmissionLaws.{member-decided}
 use borrow.Author.Needs.{needs}
-use Rattle.ledger.proofs.parts.amount.Statement.{statement}
-use Rattle.ledger.proofs.parts.amount.Tie as tie
+use Rattle.ledger.proofs.in_place.amount.Statement.{statement}
+use Rattle.ledger.proofs.in_place.amount.Tie as tie
 
 amount-in-range-requires : tie.Need-amount-in-range-requires
 amount-in-range-requires c κs = search needs

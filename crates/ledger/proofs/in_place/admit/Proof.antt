@@ -1,4 +1,4 @@
--- `ledger::parts::admit` meets its contract.
+-- `ledger::in_place::admit` meets its contract.
 -- Assumes nothing.
 use mathlib.Core.Path.{refl}
 use native.Mathlib.Omega.{arith}
@@ -7,8 +7,8 @@ use Rattle.calls.specs.Answers.{firstOf}
 use Rattle.calls.proofs.Flags.{denied, granted}
 use Rattle.ledger.specs.Steps.{memberLines}
 use borrow.Author.Needs.{needs}
-use Rattle.ledger.proofs.parts.admit.Statement.{statement}
-use Rattle.ledger.proofs.parts.admit.Tie as tie
+use Rattle.ledger.proofs.in_place.admit.Statement.{statement}
+use Rattle.ledger.proofs.in_place.admit.Tie as tie
 
 -- 4
 returns : tie.Need-returns

@@ -1,12 +1,12 @@
--- `ledger::filing::file` meets its contract.
+-- `ledger::by_value::file` meets its contract.
 -- Assumes nothing.
 use mathlib.Core.Path.{refl}
 use Rattle.calls.proofs.Flags.{denied, granted}
 use Rattle.calls.specs.Answers.{onAnswer}
 use Rattle.ledger.specs.Calls.{outcomeOf, file}
 use borrow.Author.Needs.{needs}
-use Rattle.ledger.proofs.filing.file.Statement.{statement}
-use Rattle.ledger.proofs.filing.file.Tie as tie
+use Rattle.ledger.proofs.by_value.file.Statement.{statement}
+use Rattle.ledger.proofs.by_value.file.Tie as tie
 
 in-range-requires : tie.Need-in-range-requires
 in-range-requires c κs = search needs

@@ -1,4 +1,4 @@
--- `ledger::parts::join` meets its contract.
+-- `ledger::in_place::join` meets its contract.
 -- Assumes nothing.
 use mathlib.Core.Path.{_≡_, refl, sym, _∙_}
 use mathlib.Core.Bool.{false}
@@ -12,8 +12,8 @@ use Rattle.ledger.specs.Table.{some}
 use Rattle.ledger.specs.Calls.{changed}
 use Rattle.ledger.proofs.AdmissionLaws.{unknown-operator, already-joined, done}
 use borrow.Author.Needs.{needs}
-use Rattle.ledger.proofs.parts.join.Statement.{statement}
-use Rattle.ledger.proofs.parts.join.Tie as tie
+use Rattle.ledger.proofs.in_place.join.Statement.{statement}
+use Rattle.ledger.proofs.in_place.join.Tie as tie
 
 -- 4
 returns : tie.Need-returns

@@ -1,4 +1,4 @@
--- `ledger::parts::index` meets its contract.
+-- `ledger::in_place::index` meets its contract.
 -- Assumes nothing.
 use mathlib.Core.Path.{refl}
 use Rattle.calls.specs.declared.Call.the-variants.{Index}
@@ -10,8 +10,8 @@ use Rattle.calls.proofs.Flags.{denied, granted}
 use Rattle.calls.proofs.RangeLaws.{ranges}
 use Rattle.ledger.proofs.AdmissionLaws.{out-of-range, done}
 use borrow.Author.Needs.{needs}
-use Rattle.ledger.proofs.parts.index.Statement.{statement}
-use Rattle.ledger.proofs.parts.index.Tie as tie
+use Rattle.ledger.proofs.in_place.index.Statement.{statement}
+use Rattle.ledger.proofs.in_place.index.Tie as tie
 
 index-in-range-requires : tie.Need-index-in-range-requires
 index-in-range-requires c κs = search needs

@@ -1,4 +1,4 @@
--- `ledger::parts::mark_indicator` meets its contract.
+-- `ledger::in_place::mark_indicator` meets its contract.
 -- Assumes nothing.
 use mathlib.Core.Path.{refl, sym, ap, _∙_}
 use native.Mathlib.Omega.{arith}
@@ -11,8 +11,8 @@ use Rattle.calls.proofs.RangeLaws.{ranges}
 use Rattle.ledger.proofs.AdmissionLaws.{member-decided}
 use mathlib.Core.List.{[]}
 use borrow.Author.Needs.{needs}
-use Rattle.ledger.proofs.parts.mark_indicator.Statement.{statement}
-use Rattle.ledger.proofs.parts.mark_indicator.Tie as tie
+use Rattle.ledger.proofs.in_place.mark_indicator.Statement.{statement}
+use Rattle.ledger.proofs.in_place.mark_indicator.Tie as tie
 
 mark-in-range-requires : tie.Need-mark-in-range-requires
 mark-in-range-requires c κs = search needs

@@ -1,4 +1,4 @@
--- `ledger::interruptions::enter_counted` meets its contract.
+-- `ledger::in_place::enter_counted` meets its contract.
 -- Assumes nothing.
 use Prim.Native.Nat.{_+_, _*_}
 use mathlib.Core.Path.{refl, sym, _∙_}
@@ -9,8 +9,8 @@ use Rattle.calls.specs.Answers.{counted-in}
 use Rattle.calls.specs.Call.{entry, interruptionEntries}
 use Rattle.ledger.proofs.MoveLaws.{moved-as, both-moved, first-above, first-below, second-above, second-below, slots-apart}
 use borrow.Author.Needs.{needs}
-use Rattle.ledger.proofs.interruptions.enter_counted.Statement.{statement}
-use Rattle.ledger.proofs.interruptions.enter_counted.Tie as tie
+use Rattle.ledger.proofs.in_place.enter_counted.Statement.{statement}
+use Rattle.ledger.proofs.in_place.enter_counted.Tie as tie
 
 mul-figure-slot : tie.Need-mul-figure-slot
 mul-figure-slot c = search needs

@@ -1,4 +1,4 @@
--- `ledger::parts::rates` meets its contract.
+-- `ledger::in_place::rates` meets its contract.
 -- Assumes nothing.
 use mathlib.Core.Path.{refl}
 use Rattle.calls.specs.declared.Call.the-variants.{Rates}
@@ -10,8 +10,8 @@ use Rattle.calls.proofs.Flags.{denied, granted}
 use Rattle.calls.proofs.RangeLaws.{ranges}
 use Rattle.ledger.proofs.AdmissionLaws.{out-of-range, done}
 use borrow.Author.Needs.{needs}
-use Rattle.ledger.proofs.parts.rates.Statement.{statement}
-use Rattle.ledger.proofs.parts.rates.Tie as tie
+use Rattle.ledger.proofs.in_place.rates.Statement.{statement}
+use Rattle.ledger.proofs.in_place.rates.Tie as tie
 
 rates-in-range-requires : tie.Need-rates-in-range-requires
 rates-in-range-requires c κs = search needs

@@ -1,4 +1,4 @@
--- `ledger::parts::setting` meets its contract.
+-- `ledger::in_place::setting` meets its contract.
 -- Assumes nothing.
 use mathlib.Core.Path.{refl, sym, ap, _∙_}
 use mathlib.Core.List.{[]}
@@ -10,8 +10,8 @@ use Rattle.ledger.specs.Calls.{changed}
 use Rattle.calls.proofs.RangeLaws.{ranges}
 use Rattle.ledger.proofs.AdmissionLaws.{member-decided}
 use borrow.Author.Needs.{needs}
-use Rattle.ledger.proofs.parts.setting.Statement.{statement}
-use Rattle.ledger.proofs.parts.setting.Tie as tie
+use Rattle.ledger.proofs.in_place.setting.Statement.{statement}
+use Rattle.ledger.proofs.in_place.setting.Tie as tie
 
 setting-in-range-requires : tie.Need-setting-in-range-requires
 setting-in-range-requires c κs = search needs

@@ -2,7 +2,7 @@
 ghost use mathlib.Core.Path.{_≡_};
 ghost use Rattle.calls.specs.Answers.{said};
 ghost use Rattle.ledger.specs.Calls.{file as Calls·file};
-use crate::Filed;
+use crate::Answered;
 use crate::dispatch::apply;
 use book::Book;
 use book::in_range;
@@ -11,11 +11,11 @@ use calls::Call;
 use calls::Refusal;
 
 // A call that is at hand as a value.
-pub fn file(b: Book, filing_call: Call) -> Filed
+pub fn file(b: Book, filing_call: Call) -> Answered
     ensures { λ r. ⌜ (said (r .answer) ≡ Calls·file b «filing_call» .said) × (r .book ≡ Calls·file b «filing_call» .book) ⌝ }
 {
     if !in_range(b) {
-        return Filed {
+        return Answered {
             book: b,
             answer: Answer::Refused(Refusal::OutOfRange),
         };
@@ -23,14 +23,15 @@ pub fn file(b: Book, filing_call: Call) -> Filed
     apply(b, filing_call)
 }
 
-pub fn join(b: Book, operator: u8) -> Filed
+// An operator, 0 to 15, joins.
+pub fn join(b: Book, operator: u8) -> Answered
     ensures { λ r. ⌜ (said (r .answer) ≡ Calls·file b (Call.Join operator) .said) × (r .book ≡ Calls·file b (Call.Join operator) .book) ⌝ }
 {
     file(b, Call::Join { operator })
 }
 
-// Cabins, active access points or income of an operator.
-pub fn setting(b: Book, operator: u8, which: u8, value: u64) -> Filed
+// The latest value of an operator's cabins (which 0), active access points (1) or income in cents (2).
+pub fn setting(b: Book, operator: u8, which: u8, value: u64) -> Answered
     ensures { λ r. ⌜ (said (r .answer) ≡ Calls·file b (Call.Setting operator which value) .said) × (r .book ≡ Calls·file b (Call.Setting operator which value) .book) ⌝ }
 {
     file(
@@ -43,6 +44,9 @@ pub fn setting(b: Book, operator: u8, which: u8, value: u64) -> Filed
     )
 }
 
+// An interruption is filed (sign 0) or withdrawn (1), of the medium (level 0) or low voltage network (1). Causes: 0 own network, 1 planned, 2
+// coupled network, 3 exceptional with outside attestation, 4 exceptional without. Times are seconds from the start of 2017; weight is the
+// number of cabins, for low voltage 1.
 pub fn interruption(
     b: Book,
     operator: u8,
@@ -52,7 +56,7 @@ pub fn interruption(
     start: i64,
     end: i64,
     weight: u32,
-) -> Filed
+) -> Answered
     ensures { λ r. ⌜ (said (r .answer) ≡ Calls·file b (Call.Interruption operator sign level cause start end weight) .said) × (r .book ≡ Calls·file b (Call.Interruption operator sign level cause start end weight) .book) ⌝ }
 {
     file(
@@ -69,7 +73,8 @@ pub fn interruption(
     )
 }
 
-pub fn amount(b: Book, operator: u8, year: u8, figure: u8, sign: u8, value: u64) -> Filed
+// An amount is filed to (sign 0) or withdrawn from (1) a figure, 0 to 7, of an operator and year, 0 to 2.
+pub fn amount(b: Book, operator: u8, year: u8, figure: u8, sign: u8, value: u64) -> Answered
     ensures { λ r. ⌜ (said (r .answer) ≡ Calls·file b (Call.Amount operator year figure sign value) .said) × (r .book ≡ Calls·file b (Call.Amount operator year figure sign value) .book) ⌝ }
 {
     file(
@@ -84,7 +89,8 @@ pub fn amount(b: Book, operator: u8, year: u8, figure: u8, sign: u8, value: u64)
     )
 }
 
-pub fn mark(b: Book, operator: u8, indicator: u8, mark: u8) -> Filed
+// An operator is marked unreliable (mark 1), or not (0), at an indicator, 0 to 5.
+pub fn mark(b: Book, operator: u8, indicator: u8, mark: u8) -> Answered
     ensures { λ r. ⌜ (said (r .answer) ≡ Calls·file b (Call.Mark operator indicator mark) .said) × (r .book ≡ Calls·file b (Call.Mark operator indicator mark) .book) ⌝ }
 {
     file(
@@ -97,13 +103,15 @@ pub fn mark(b: Book, operator: u8, indicator: u8, mark: u8) -> Filed
     )
 }
 
-pub fn rates(b: Book, pot: u32, cap: u32) -> Filed
+// Pot rate and cap rate, in millionths.
+pub fn rates(b: Book, pot: u32, cap: u32) -> Answered
     ensures { λ r. ⌜ (said (r .answer) ≡ Calls·file b (Call.Rates pot cap) .said) × (r .book ≡ Calls·file b (Call.Rates pot cap) .book) ⌝ }
 {
     file(b, Call::Rates { pot, cap })
 }
 
-pub fn index(b: Book, number: u8, value: u32) -> Filed
+// An index in hundredths: numbers 0 to 2 for the June before each year, 3 for June 2013.
+pub fn index(b: Book, number: u8, value: u32) -> Answered
     ensures { λ r. ⌜ (said (r .answer) ≡ Calls·file b (Call.Index number value) .said) × (r .book ≡ Calls·file b (Call.Index number value) .book) ⌝ }
 {
     file(b, Call::Index { number, value })

@@ -1,4 +1,4 @@
--- `ledger::parts::enter_amount` meets its contract.
+-- `ledger::in_place::enter_amount` meets its contract.
 -- Assumes nothing.
 use mathlib.Core.Path.{refl, sym, _∙_}
 use Rattle.calls.specs.Answers.{yes-said}
@@ -6,8 +6,8 @@ use Rattle.calls.specs.Call.{entry}
 use Rattle.book.specs.Book.{bookWith, figureOf}
 use Rattle.ledger.proofs.MoveLaws.{moved-as, one-moved, one-above, one-below}
 use borrow.Author.Needs.{needs}
-use Rattle.ledger.proofs.parts.enter_amount.Statement.{statement}
-use Rattle.ledger.proofs.parts.enter_amount.Tie as tie
+use Rattle.ledger.proofs.in_place.enter_amount.Statement.{statement}
+use Rattle.ledger.proofs.in_place.enter_amount.Tie as tie
 
 figure-slot-requires : tie.Need-figure-slot-requires
 figure-slot-requires c κs = search needs

@@ -1,10 +1,10 @@
--- `ledger::filing::interruption` meets its contract.
+-- `ledger::by_value::interruption` meets its contract.
 -- Assumes nothing.
 use Rattle.ledger.specs.Calls.{file}
 use Rattle.calls.proofs.Times.{back}
 use borrow.Author.Needs.{needs}
-use Rattle.ledger.proofs.filing.interruption.Statement.{statement}
-use Rattle.ledger.proofs.filing.interruption.Tie as tie
+use Rattle.ledger.proofs.by_value.interruption.Statement.{statement}
+use Rattle.ledger.proofs.by_value.interruption.Tie as tie
 
 file-requires : tie.Need-file-requires
 file-requires c κs = search needs
