@@ -1,7 +1,10 @@
-// Quotient and remainder of a product that passes 64 bits, in steps of 64 bits (01: "Some products pass 64 bits; the
-// answer is exact all the same").
+// Quotient and remainder of a product, at once where it fits 64 bits and in steps of 64 bits where it passes them (01: "Some
+// products pass 64 bits; the answer is exact all the same").
 ghost use mathlib.Core.Path.{_≡_};
 ghost use Prim.Native.Nat.{_+_, _*_, _/_, _%_, _^_, _<_, _≤_};
+ghost use lib.Dec.{ltb};
+
+const LARGEST: u64 = 18446744073709551615;
 
 // What a whole division gives.
 pub struct Division {
@@ -12,6 +15,31 @@ pub struct Division {
 // t * w divided by s, exact over the whole numbers. In each wide product here w is a part of a sum s, or s is the largest of some w,
 // so w ≤ s.
 pub fn divide_product(t: u64, w: u64, s: u64) -> Division
+    requires { ⌜ (0 < s) × (w ≤ s) × (s < 2 ^ 62) × (t < 2 ^ 62) ⌝ }
+    ensures { λ r. ⌜ (r .quotient ≡ t * w / s) × (r .remainder ≡ t * w % s) ⌝ }
+{
+    if product_fits(t, w) {
+        let product = t * w;
+        return Division {
+            quotient: product / s,
+            remainder: product % s,
+        };
+    }
+    divide_by_bits(t, w, s)
+}
+
+// Whether t * w fits 64 bits.
+fn product_fits(t: u64, w: u64) -> bool
+    ensures { λ r. ⌜ r ≡ ltb (t * w) (2 ^ 64) ⌝ }
+{
+    if w == 0 {
+        return true;
+    }
+    t <= LARGEST / w
+}
+
+// The same division, t taken bit by bit from the top.
+fn divide_by_bits(t: u64, w: u64, s: u64) -> Division
     requires { ⌜ (0 < s) × (w ≤ s) × (s < 2 ^ 62) × (t < 2 ^ 62) ⌝ }
     ensures { λ r. ⌜ (r .quotient ≡ t * w / s) × (r .remainder ≡ t * w % s) ⌝ }
 {
