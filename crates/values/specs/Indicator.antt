@@ -49,6 +49,10 @@ yearlyValue b (duration seconds weight) operator year = over (1000 * figureOf b 
 yearlyValue b (fee fees connections) operator year =
     over (10 * figureOf b operator year fees * indexOf b 3) (figureOf b operator year connections * indexOf b year)
 
+-- the yearly values of a measure, by operator
+abbrev pub yearlyValues : Book → Measure → ℕ → List ℕ
+yearlyValues b measure year = each (λ (operator : ℕ). yearlyValue b measure operator year)
+
 -- "An operator's s is the sum of its three yearly values"
 unfoldable pub threeYears : Book → Measure → ℕ → ℕ
 threeYears b measure operator = yearlyValue b measure operator 0 + yearlyValue b measure operator 1 + yearlyValue b measure operator 2

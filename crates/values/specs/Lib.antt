@@ -1,3 +1,5 @@
 -- The definitions of `values`.
 pub mod Operators
 pub mod Indicator
+pub mod Parts
+pub mod Bounds

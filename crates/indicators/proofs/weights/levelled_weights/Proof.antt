@@ -13,6 +13,8 @@ use Rattle.indicators.proofs.Weighting.{together-same, levelled-same}
 use Rattle.values.proofs.Tables.{Filling, filling-none, filling-more, filling-each, each-at}
 use Rattle.apportion.proofs.Sums.{sum-bound}
 use mathlib.Core.List.{List}
+use Rattle.exponent.specs.Weight.{firstWeight}
+use Rattle.values.specs.Bounds.{scoreMost}
 use Rattle.exponent.proofs.Laws.{weight-most}
 use Rattle.values.proofs.Tables.{each-le}
 use Rattle.indicators.proofs.weights.levelled_weights.Statement.{statement}
@@ -29,9 +31,9 @@ abbrev μ-loop : tie.MeasureT-loop
 μ-loop mask scores own sum g together weights₀ i₀ weights i = 16 - i
 
 -- no weight of the table passes its first
-own-most : (scores own : List ℕ) → own ≡ each (exponentWeight scores) → (k : ℕ) → getD own k 0 ≤ 1000000000
+own-most : (scores own : List ℕ) → own ≡ each (exponentWeight scores) → (k : ℕ) → getD own k 0 ≤ firstWeight
 unfolding exponentWeight
-own-most scores own e k = rw e (each-le (exponentWeight scores) 1000000000 (λ j lt. weight-most _) k)
+own-most scores own e k = rw e (each-le (exponentWeight scores) firstWeight (λ j lt. weight-most _) k)
 
 exponent-weights-requires : tie.Need-exponent-weights-requires Inv-loop μ-loop
 exponent-weights-requires c κs = c .pre
@@ -40,7 +42,7 @@ total-requires : tie.Need-total-requires Inv-loop μ-loop
 total-requires c κs =
     let scores = c .before .args .t2 in
     let long : length scores ≡ 16 = search needs in
-    omega (arith, rw long at (sum-bound scores 300000000000000000 (λ k lt. c .before .pre k)))
+    omega (arith, rw long at (sum-bound scores scoreMost (λ k lt. c .before .pre k)))
 
 count-better-requires : tie.Need-count-better-requires Inv-loop μ-loop
 count-better-requires c κs = (c .before .before .pre, c .total .ensures)

@@ -8,6 +8,7 @@ use mathlib.Core.Bool.{cond}
 use Rattle.apportion.specs.Sum.{sum}
 use Rattle.indicators.specs.Points.{isBetter}
 use Rattle.values.proofs.Tables.{Filling, filling-none, filling-more, filling-each, sum-each-le}
+use Rattle.exponent.specs.Weight.{firstWeight}
 use Rattle.values.proofs.CountLaws.{cond-le}
 use mathlib.Core.List.{List}
 use Rattle.indicators.proofs.weights.weigh_better.Statement.{statement}
@@ -71,7 +72,7 @@ total-requires c κs =
     let here = c .before .loop in
     let f = counted (start .args .mask) (start .args .t2) (start .args .t4) in
     rw (filling-each (here .inv) (omega arith))
-    (omega (arith, sum-each-le f 1000000000 (λ k lt. cond-le (isBetter (start .args .mask) (start .args .t2) k) (start .pre .2 k) zero-le)))
+    (omega (arith, sum-each-le f firstWeight (λ k lt. cond-le (isBetter (start .args .mask) (start .args .t2) k) (start .pre .2 k) zero-le)))
 
 returns : tie.Need-returns Inv-loop μ-loop
 returns c =
