@@ -2,6 +2,7 @@
 ghost use mathlib.Core.Path.{_≡_};
 ghost use Prim.Native.Nat.{_+_, _^_, _<_};
 ghost use Rattle.apportion.specs.Sum.{sum};
+ghost use Rattle.apportion.specs.Steps.{DividingEach};
 ghost use Rattle.apportion.specs.Share.{floors, remainders, precedes as Share·precedes, foremost, award, share as Share·share};
 
 // The floors and the remainders of all places.
@@ -40,7 +41,7 @@ pub fn total(numbers: [u64; 16]) -> u64
 
 // t * weight / s at each place.
 fn divide_each(t: u64, weights: [u64; 16], s: u64) -> Divisions
-    requires { ⌜ (t < 2 ^ 62) × (s ≡ sum weights) × (0 < s) × (s < 2 ^ 62) ⌝ }
+    requires { ⌜ DividingEach t weights s ⌝ }
     ensures { λ r. ⌜ (r .floors ≡ floors t weights) × (r .remainders ≡ remainders t weights) ⌝ }
 {
     let mut whole = [0u64; 16];

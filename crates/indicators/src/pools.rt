@@ -1,16 +1,16 @@
 // The pool of an indicator, and its points: the pool shared by the weights.
 ghost use mathlib.Core.Path.{_≡_};
-ghost use Prim.Native.Nat.{ℕ, _≤_, _<_};
-ghost use lib.ListN.{getD};
+ghost use Prim.Native.Nat.{_≤_, _<_};
 ghost use Rattle.book.specs.declared.Book.{Book};
-ghost use Rattle.values.specs.Bounds.{scoreMost, pointsMost, poolMost};
+ghost use Rattle.values.specs.Bounds.{pointsMost, poolMost};
 ghost use Rattle.values.specs.Indicator.{pool, numbered};
 ghost use Rattle.values.specs.Parts.{Marked, Measured, Within};
+ghost use Rattle.indicators.specs.Steps.{ScoresWithin};
 ghost use Rattle.indicators.specs.Points.{weights, points};
 use crate::weights::levelled_weights;
 use crate::weights::linear_weights;
 use crate::weights::ones_of;
-use values::divide;
+use exact::divide;
 use values::reliable_mask;
 use values::scores_of;
 
@@ -35,7 +35,7 @@ pub fn points_of(
 }
 
 fn weights_of(mask: u16, scores: [u64; 16], number: u8) -> [u64; 16]
-    requires { ⌜ ((place : ℕ) → getD scores place 0 ≤ scoreMost) × (number < 6) ⌝ }
+    requires { ⌜ ScoresWithin scores × (number < 6) ⌝ }
     ensures { λ r. ⌜ r ≡ weights (numbered number .measure) mask scores ⌝ }
 {
     if number < 4 {

@@ -8,16 +8,17 @@ ghost use lib.ListN.{getD};
 ghost use Rattle.calls.specs.Limits.{operators};
 ghost use Rattle.calls.specs.Masks.{has};
 ghost use Rattle.apportion.specs.Sum.{sum as Sum·sum};
-ghost use Rattle.exponent.specs.Weight.{firstWeight};
 ghost use Rattle.values.specs.Bounds.{scoreMost};
 ghost use Rattle.values.specs.Operators.{each, count};
-ghost use Rattle.values.specs.Indicator.{Measure, over};
+ghost use Rattle.exact.specs.Division.{over};
+ghost use Rattle.values.specs.Indicator.{Measure};
+ghost use Rattle.indicators.specs.Steps.{ScoresWithin, NormalisingAsked, WeighingAsked, LevellingAsked};
 ghost use Rattle.indicators.specs.Points.{largest, exponentWeight, isBetter, isLevelled, weights};
 use calls::has_bit;
 
 // A indicators: better operators share alike.
 pub(crate) fn levelled_weights(mask: u16, scores: [u64; 16]) -> [u64; 16]
-    requires { ⌜ ((place : ℕ) → getD scores place 0 ≤ scoreMost) ⌝ }
+    requires { ⌜ ScoresWithin scores ⌝ }
     ensures { λ r. ⌜ ((measure : Measure) → isLevelled measure ≡ true → r ≡ weights measure mask scores) ⌝ }
 {
     let own = exponent_weights(scores);
@@ -35,7 +36,7 @@ pub(crate) fn levelled_weights(mask: u16, scores: [u64; 16]) -> [u64; 16]
 
 // D indicators.
 pub(crate) fn linear_weights(mask: u16, scores: [u64; 16]) -> [u64; 16]
-    requires { ⌜ ((place : ℕ) → getD scores place 0 ≤ scoreMost) ⌝ }
+    requires { ⌜ ScoresWithin scores ⌝ }
     ensures { λ r. ⌜ ((measure : Measure) → isLevelled measure ≡ false → r ≡ weights measure mask scores) ⌝ }
 {
     let top = largest_of(scores);
@@ -50,7 +51,7 @@ pub(crate) fn linear_weights(mask: u16, scores: [u64; 16]) -> [u64; 16]
 
 // The table's weight of each score's thousandths of the largest.
 fn exponent_weights(scores: [u64; 16]) -> [u64; 16]
-    requires { ⌜ ((place : ℕ) → getD scores place 0 ≤ scoreMost) ⌝ }
+    requires { ⌜ ScoresWithin scores ⌝ }
     ensures { λ r. ⌜ r ≡ each (exponentWeight scores) ⌝ }
 {
     let top = largest_of(scores);
@@ -66,7 +67,7 @@ fn exponent_weights(scores: [u64; 16]) -> [u64; 16]
 
 // A score as so many parts of the largest.
 fn normalise(parts: u64, score: u64, top: u64) -> u64
-    requires { ⌜ (parts < 2 ^ 62) × (score ≤ top) × (top ≤ scoreMost) ⌝ }
+    requires { ⌜ NormalisingAsked parts score top ⌝ }
     ensures { λ r. ⌜ (r ≡ over (parts * score) top) × (r ≤ parts) ⌝ }
 {
     if top == 0 {
@@ -116,7 +117,7 @@ pub(crate) fn ones_of(mask: u16) -> u64
 }
 
 fn count_better(mask: u16, scores: [u64; 16], sum: u64) -> u64
-    requires { ⌜ ((place : ℕ) → getD scores place 0 ≤ scoreMost) × (sum ≡ Sum·sum scores) ⌝ }
+    requires { ⌜ ScoresWithin scores × (sum ≡ Sum·sum scores) ⌝ }
     ensures { λ r. ⌜ (r ≡ count operators (isBetter mask scores)) × (r ≤ 16) ⌝ }
 {
     let mut g = 0;
@@ -132,7 +133,7 @@ fn count_better(mask: u16, scores: [u64; 16], sum: u64) -> u64
 
 // The better operators' weights together.
 fn weigh_better(mask: u16, scores: [u64; 16], sum: u64, own: [u64; 16]) -> u64
-    requires { ⌜ ((place : ℕ) → getD scores place 0 ≤ scoreMost) × (sum ≡ Sum·sum scores) × ((k : ℕ) → getD own k 0 ≤ firstWeight) ⌝ }
+    requires { ⌜ WeighingAsked scores own sum ⌝ }
     ensures { λ r. ⌜ r ≡ Sum·sum (each (λ (operator : ℕ). cond (isBetter mask scores operator) (getD own operator 0) 0)) ⌝ }
 {
     let mut counted = [0u64; 16];
@@ -164,7 +165,7 @@ fn levelled_weight(
     together: u64,
     own: u64,
 ) -> u64
-    requires { ⌜ (score ≤ scoreMost) × (g ≤ 16) × (own ≤ firstWeight) ⌝ }
+    requires { ⌜ LevellingAsked score g own ⌝ }
     ensures { λ r. ⌜ r ≡ cond (has mask operator) (cond (eqb g 0) own (cond (has mask operator && ltb (ones mask * score) sum) together (g * own))) 0 ⌝ }
 {
     if !has_bit(mask, operator) {

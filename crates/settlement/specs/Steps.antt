@@ -1,18 +1,25 @@
 -- What inner functions give, and what they are given: the points of one indicator more, and of all; columns of money and rates.
 -- Assumes nothing.
-use Prim.Native.Nat.{ℕ, _+_, _*_, _≤_}
+use Prim.Native.Nat.{ℕ, _+_, _*_, _≤_, _<_}
 use mathlib.Core.Path.{_≡_}
 use mathlib.Core.List.{List, map}
 use lib.ListN.{getD, set}
 use lib.Seq.{paste}
-use Rattle.calls.specs.Limits.{operators, rateLimit}
+use Rattle.calls.specs.Limits.{operators, indicatorCount, rateLimit}
 use Rattle.book.specs.declared.Book.{Book}
 use Rattle.values.specs.Bounds.{accessLimit, incomeLimit, totalMost}
+use Rattle.values.specs.Parts.{Within}
 use Rattle.values.specs.Operators.{each, settingsOf}
 use Rattle.values.specs.Indicator.{electricity, numbered, pool}
 use Rattle.indicators.specs.Points.{points, allPoints}
 use Rattle.settlement.specs.declared.gather.Gathered.{Gathered}
 use Rattle.settlement.specs.Settlement.{pointsOfAll}
+
+-- what putting in one indicator more asks for
+pub record GatheringAsked (settings figures indices totals : List ℕ) (number : ℕ) : Type 0 where
+  pub within : Within settings figures indices
+  pub number-there : number < indicatorCount
+  pub totals-most : (k : ℕ) → getD totals k 0 ≤ totalMost
 
 -- g with the indicator of a number put in
 pub record OneGathered (b : Book) (number : ℕ) (g more : Gathered) : Type 0 where

@@ -8,7 +8,7 @@ ghost use Rattle.values.specs.Bounds.{poolMost, totalMost};
 ghost use Rattle.values.specs.Operators.{each};
 ghost use Rattle.values.specs.Indicator.{numbered};
 ghost use Rattle.values.specs.Parts.{Marked, Measured, Within};
-ghost use Rattle.settlement.specs.Steps.{AllGathered, OneGathered};
+ghost use Rattle.settlement.specs.Steps.{GatheringAsked, OneGathered, AllGathered};
 use indicators::points_of;
 use indicators::pool_of;
 
@@ -50,7 +50,7 @@ fn gather_one(
     indices: &[u32; 4],
     number: u8,
 ) -> Gathered
-    requires { ⌜ Within (now settings) (now figures) (now indices) × (number < 6) × ((k : ℕ) → getD (g .totals) k 0 ≤ totalMost) ⌝ }
+    requires { ⌜ GatheringAsked (now settings) (now figures) (now indices) (g .totals) number ⌝ }
     ensures { λ r. ⌜ ((b : Book) → Marked b joined (now (marks .entry)) → Measured b (now (settings .entry)) (now (figures .entry)) (now (indices .entry)) → OneGathered b number g r) ⌝ }
 {
     let shares = points_of(joined, marks, settings, figures, indices, number);

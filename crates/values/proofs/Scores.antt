@@ -7,7 +7,8 @@ use lib.Dec.{eqb}
 use lib.ListN.{getD}
 use Rattle.calls.specs.Masks.{has}
 use Rattle.book.specs.declared.Book.{Book}
-use Rattle.values.specs.Indicator.{frequency, duration, fee, electricity, numbered, over, yearlyValue, yearlyValues, threeYears, reliableMask, scores}
+use Rattle.exact.specs.Division.{over}
+use Rattle.values.specs.Indicator.{frequency, duration, fee, electricity, numbered, yearlyValue, yearlyValues, threeYears, reliableMask, scores}
 use Rattle.values.proofs.CountLaws.{cond-le}
 use Rattle.values.proofs.Tables.{each-le}
 use Rattle.values.specs.Bounds.{yearlyMost, scoreMost}

@@ -3,3 +3,4 @@ pub mod Operators
 pub mod Indicator
 pub mod Parts
 pub mod Bounds
+pub mod Steps

@@ -1,16 +1,22 @@
 // Yearly values of an indicator by operator, their sums over three years, and the operators that take part. Parts of a book are lent,
 // since a book by value is copied at each call; each function speaks of every book that the parts belong to.
+mod columns;
+
 ghost use mathlib.Core.Path.{_≡_};
 ghost use mathlib.Core.Bool.{cond};
 ghost use Prim.Native.Nat.{ℕ, _+_, _*_, _-_, _^_, _≤_, _<_};
 ghost use lib.ListN.{getD};
 ghost use Rattle.calls.specs.Masks.{has};
+ghost use Rattle.exact.specs.Division.{over};
 ghost use Rattle.book.specs.declared.Book.{Book};
-ghost use Rattle.values.specs.Bounds.{yearlyMost};
-ghost use Rattle.values.specs.Operators.{each, settingsOf, figuresOf};
-ghost use Rattle.values.specs.Indicator.{frequency, duration, fee, over, yearlyValues, reliableMask, scores, numbered};
-ghost use Rattle.values.specs.Parts.{Marked, Measured, SettingsWithin, FiguresWithin, IndicesWithin, Within};
+ghost use Rattle.values.specs.Operators.{each};
+ghost use Rattle.values.specs.Indicator.{frequency, duration, fee, yearlyValues, reliableMask, scores, numbered};
+ghost use Rattle.values.specs.Parts.{Marked, Measured, Within};
+ghost use Rattle.values.specs.Steps.{YearsAsked, ValuesAsked, FrequencyAsked, DurationAsked, FeeAsked};
 use calls::has_bit;
+use columns::figures_of;
+pub use columns::settings_of;
+use exact::divide;
 
 // The scores of the operators that take part in an indicator; 0 for the others.
 pub fn scores_of(
@@ -37,7 +43,7 @@ pub fn scores_of(
 
 // The three years of one that takes part.
 fn score(mask: u16, operator: u8, first: u64, second: u64, third: u64) -> u64
-    requires { ⌜ (first ≤ yearlyMost) × (second ≤ yearlyMost) × (third ≤ yearlyMost) ⌝ }
+    requires { ⌜ YearsAsked first second third ⌝ }
     ensures { λ r. ⌜ r ≡ cond (has mask operator) (first + second + third) 0 ⌝ }
 {
     if has_bit(mask, operator) {
@@ -70,7 +76,7 @@ fn yearly_values(
     number: u8,
     year: u8,
 ) -> [u64; 16]
-    requires { ⌜ Within (now settings) (now figures) (now indices) × (number < 6) × (year < 3) ⌝ }
+    requires { ⌜ ValuesAsked (now settings) (now figures) (now indices) number year ⌝ }
     ensures { λ r. ⌜ ((b : Book) → Measured b (now (settings .entry)) (now (figures .entry)) (now (indices .entry)) → r ≡ yearlyValues b (numbered number .measure) year) ⌝ }
 {
     match number {
@@ -90,7 +96,7 @@ fn frequencies(
     figure: u8,
     which: u8,
 ) -> [u64; 16]
-    requires { ⌜ SettingsWithin (now settings) × FiguresWithin (now figures) × (year < 3) × (figure < 8) × (which < 3) ⌝ }
+    requires { ⌜ FrequencyAsked (now settings) (now figures) year figure which ⌝ }
     ensures { λ r. ⌜ ((b : Book) → b .settings ≡ now (settings .entry) → b .figures ≡ now (figures .entry) → r ≡ yearlyValues b (frequency figure which) year) ⌝ }
 {
     quotients(
@@ -102,7 +108,7 @@ fn frequencies(
 }
 
 fn durations(figures: &[u64; 384], year: u8, seconds: u8, weight: u8) -> [u64; 16]
-    requires { ⌜ FiguresWithin (now figures) × (year < 3) × (seconds < 8) × (weight < 8) ⌝ }
+    requires { ⌜ DurationAsked (now figures) year seconds weight ⌝ }
     ensures { λ r. ⌜ ((b : Book) → b .figures ≡ now (figures .entry) → r ≡ yearlyValues b (duration seconds weight) year) ⌝ }
 {
     quotients(
@@ -115,7 +121,7 @@ fn durations(figures: &[u64; 384], year: u8, seconds: u8, weight: u8) -> [u64; 1
 
 // Fees per connection, in the money of June 2013.
 fn fees(figures: &[u64; 384], indices: &[u32; 4], year: u8, paid: u8, connections: u8) -> [u64; 16]
-    requires { ⌜ FiguresWithin (now figures) × IndicesWithin (now indices) × (year < 3) × (paid < 8) × (connections < 8) ⌝ }
+    requires { ⌜ FeeAsked (now figures) (now indices) year paid connections ⌝ }
     ensures { λ r. ⌜ ((b : Book) → b .figures ≡ now (figures .entry) → b .indices ≡ now (indices .entry) → r ≡ yearlyValues b (fee paid connections) year) ⌝ }
 {
     let base = widened(indices[3]);
@@ -126,34 +132,6 @@ fn fees(figures: &[u64; 384], indices: &[u32; 4], year: u8, paid: u8, connection
         index,
         figures_of(figures, year, connections),
     )
-}
-
-// One figure of each operator in a year.
-fn figures_of(figures: &[u64; 384], year: u8, figure: u8) -> [u64; 16]
-    requires { ⌜ (year < 3) × (figure < 8) ⌝ }
-    ensures { λ r. ⌜ ((b : Book) → b .figures ≡ now (figures .entry) → r ≡ figuresOf b year figure) ⌝ }
-{
-    let mut list = [0u64; 16];
-    let mut operator = 0;
-    while operator < 16 {
-        list[operator] = figures[(operator * 3 + year as usize) * 8 + figure as usize];
-        operator += 1;
-    }
-    list
-}
-
-// One setting of each operator.
-pub fn settings_of(settings: &[u64; 48], which: u8) -> [u64; 16]
-    requires { ⌜ which < 3 ⌝ }
-    ensures { λ r. ⌜ ((b : Book) → b .settings ≡ now (settings .entry) → r ≡ settingsOf b which) ⌝ }
-{
-    let mut list = [0u64; 16];
-    let mut operator = 0;
-    while operator < 16 {
-        list[operator] = settings[operator * 3 + which as usize];
-        operator += 1;
-    }
-    list
 }
 
 fn quotients(factor: u64, dividends: [u64; 16], scale: u64, divisors: [u64; 16]) -> [u64; 16]
@@ -173,14 +151,4 @@ fn widened(x: u32) -> u64
     ensures { λ r. ⌜ r ≡ x ⌝ }
 {
     x as u64
-}
-
-// Rounded down; a zero divisor gives 0.
-pub fn divide(dividend: u64, divisor: u64) -> u64
-    ensures { λ r. ⌜ (r ≡ over dividend divisor) × (r ≤ dividend) ⌝ }
-{
-    if divisor == 0 {
-        return 0;
-    }
-    dividend / divisor
 }

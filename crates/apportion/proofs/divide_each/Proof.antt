@@ -61,9 +61,9 @@ loop-again c =
       length-set (here .whole) (here .i) _ ∙ here .inv .1,
       length-set (here .rest) (here .i) _ ∙ here .inv .2,
       fill-more (here .whole) (floors (start .args .t) weights) (here .i) _ (omega arith) (omega (arith, length-floors (start .args .t) weights)) (here .inv .3)
-          (divided .0 ∙ rw (start .pre .1) (sym (floor-at (start .args .t) weights (here .i) at-i))),
+          (divided .0 ∙ rw (start .pre .divisor-is) (sym (floor-at (start .args .t) weights (here .i) at-i))),
       fill-more (here .rest) (remainders (start .args .t) weights) (here .i) _ (omega arith) (omega (arith, length-remainders (start .args .t) weights)) (here .inv .4)
-          (divided .1 ∙ rw (start .pre .1) (sym (remainder-at (start .args .t) weights (here .i) at-i))),
+          (divided .1 ∙ rw (start .pre .divisor-is) (sym (remainder-at (start .args .t) weights (here .i) at-i))),
     )
 
 returns : tie.Need-returns Inv-loop μ-loop

@@ -22,7 +22,7 @@ sub-k c = leading-le 64 (c .args .t)
 loop-holds : tie.Need-loop-holds Inv-loop μ-loop
 loop-holds c =
     let none = no-bits (c .args .t) (omega arith) in
-    (omega arith, c .pre .0, omega arith, omega (arith, ap (λ (z : ℕ). z * c .args .w) none))
+    (omega arith, c .pre .divisor-positive, omega arith, omega (arith, ap (λ (z : ℕ). z * c .args .w) none))
 
 sub-k-2 : tie.Need-sub-k-2 Inv-loop μ-loop
 sub-k-2 c = omega arith
@@ -47,12 +47,12 @@ loop-again c =
     let product =
     appended (start .args .t) (start .args .w) (start .args .s) (here .k) _ _ _ _
     (omega arith) (here .inv .3) (next .ensures .1) in
-    (omega arith, next .ensures .0, quotient-le _ _ _ _ _ (start .pre .0) (start .pre .1) product, product)
+    (omega arith, next .ensures .0, quotient-le _ _ _ _ _ (start .pre .divisor-positive) (start .pre .part) product, product)
 
 returns : tie.Need-returns Inv-loop μ-loop
 returns c =
     let last : c .before .loop .k ≡ 0 = omega arith in
-    divided _ _ _ _ (c .before .before .pre .0) (c .before .loop .inv .1) (rw (last, div-one) at (c .before .loop .inv .3))
+    divided _ _ _ _ (c .before .before .pre .divisor-positive) (c .before .loop .inv .1) (rw (last, div-one) at (c .before .loop .inv .3))
 
 pub divide-by-bits-spec : {M : Type 1} → statement M
 divide-by-bits-spec =

@@ -19,8 +19,8 @@ quotients-requires : tie.Need-quotients-requires
 quotients-requires c κs =
     let start = c .before .before in
     let b = holding [] (start .args .figures .now) [] in (
-      λ k. rw (c .before .figures-of .ensures b refl) (omega (arith, figures-most b (start .pre .0) _ _ (start .pre .1) (start .pre .2) k)),
-      λ k. rw (c .figures-of2 .ensures b refl) (omega (arith, figures-most b (start .pre .0) _ _ (start .pre .1) (start .pre .3) k)),
+      λ k. rw (c .before .figures-of .ensures b refl) (omega (arith, figures-most b (start .pre .figures-within) _ _ (start .pre .year-there) (start .pre .seconds-there) k)),
+      λ k. rw (c .figures-of2 .ensures b refl) (omega (arith, figures-most b (start .pre .figures-within) _ _ (start .pre .year-there) (start .pre .weight-there) k)),
     )
 
 returns : tie.Need-returns

@@ -33,7 +33,7 @@ unfolding indexOf
 mul-quotients c =
     let start = c .before .before .before .before in
     let b = holding [] (start .args .figures .now) (start .args .indices .now) in
-    let base : c .before .before .widened .result ≤ indexMost = rw (c .before .before .widened .ensures) (index-most b (start .pre .1) 3 (omega arith)) in
+    let base : c .before .before .widened .result ≤ indexMost = rw (c .before .before .widened .ensures) (index-most b (start .pre .indices-within) 3 (omega arith)) in
     omega arith
 
 figures-of-requires : tie.Need-figures-of-requires
@@ -49,10 +49,10 @@ quotients-requires c κs =
     let widened = c .before .before .before .before .widened in
     let widened2 = c .before .before .widened2 in
     let b = holding [] (start .args .figures .now) (start .args .indices .now) in
-    let base : widened .result ≤ indexMost = rw (widened .ensures) (index-most b (start .pre .1) 3 (omega arith)) in
-    let index : widened2 .result ≤ indexMost = rw (widened2 .ensures) (index-most b (start .pre .1) (start .args .year) (omega arith)) in (
-      λ k. rw (c .before .figures-of .ensures b refl) (omega (arith, mul-le-mul base (figures-most b (start .pre .0) _ _ (start .pre .2) (start .pre .3) k))),
-      λ k. rw (c .figures-of2 .ensures b refl) (omega (arith, mul-le-mul index (figures-most b (start .pre .0) _ _ (start .pre .2) (start .pre .4) k))),
+    let base : widened .result ≤ indexMost = rw (widened .ensures) (index-most b (start .pre .indices-within) 3 (omega arith)) in
+    let index : widened2 .result ≤ indexMost = rw (widened2 .ensures) (index-most b (start .pre .indices-within) (start .args .year) (omega arith)) in (
+      λ k. rw (c .before .figures-of .ensures b refl) (omega (arith, mul-le-mul base (figures-most b (start .pre .figures-within) _ _ (start .pre .year-there) (start .pre .paid-there) k))),
+      λ k. rw (c .figures-of2 .ensures b refl) (omega (arith, mul-le-mul index (figures-most b (start .pre .figures-within) _ _ (start .pre .year-there) (start .pre .connections-there) k))),
     )
 
 returns : tie.Need-returns

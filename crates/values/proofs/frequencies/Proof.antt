@@ -19,8 +19,8 @@ quotients-requires : tie.Need-quotients-requires
 quotients-requires c κs =
     let start = c .before .before in
     let b = holding (start .args .settings .now) (start .args .figures .now) [] in (
-      λ k. rw (c .before .figures-of .ensures b refl) (omega (arith, figures-most b (start .pre .1) _ _ (start .pre .2) (start .pre .3) k)),
-      λ k. rw (c .settings-of .ensures b refl) (omega (arith, settings-most b (start .pre .0) _ (start .pre .4) k)),
+      λ k. rw (c .before .figures-of .ensures b refl) (omega (arith, figures-most b (start .pre .figures-within) _ _ (start .pre .year-there) (start .pre .figure-there) k)),
+      λ k. rw (c .settings-of .ensures b refl) (omega (arith, settings-most b (start .pre .settings-within) _ (start .pre .setting-there) k)),
     )
 
 returns : tie.Need-returns

@@ -6,7 +6,7 @@ use Rattle.values.proofs.Tables.{Filling, filling-none, filling-more, f
 use mathlib.Core.Path.{refl}
 use Prim.Native.Nat.{ℕ, _*_, _-_}
 use lib.ListN.{getD}
-use Rattle.values.specs.Indicator.{over}
+use Rattle.exact.specs.Division.{over}
 use Rattle.values.proofs.quotients.Statement.{statement}
 use Rattle.values.proofs.quotients.Tie as tie
 

@@ -60,11 +60,12 @@ score-requires c κs =
     let b = holding (start .args .settings .now) (start .args .figures .now) (start .args .indices .now) in
     let measured = lending-measured 0 [] (b .settings) (b .figures) (b .indices) in
     let small = yearlies-le b (start .pre .0) (start .args .number) (start .pre .1) in
-    let i = c .before .loop .i in (
-      rw (c .before .before .before .before .yearly-values .ensures b measured) (small 0 (omega arith) i),
-      rw (c .before .before .before .yearly-values2 .ensures b measured) (small 1 (omega arith) i),
-      rw (c .before .before .yearly-values3 .ensures b measured) (small 2 (omega arith) i),
-    )
+    let i = c .before .loop .i in
+    record {
+      first-most = rw (c .before .before .before .before .yearly-values .ensures b measured) (small 0 (omega arith) i);
+      second-most = rw (c .before .before .before .yearly-values2 .ensures b measured) (small 1 (omega arith) i);
+      third-most = rw (c .before .before .yearly-values3 .ensures b measured) (small 2 (omega arith) i);
+    }
 
 mul-list : tie.Need-mul-list Inv-loop μ-loop
 mul-list c = omega arith

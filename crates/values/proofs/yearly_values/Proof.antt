@@ -25,27 +25,32 @@ fees-requires c κs = search needs
 fees-requires-2 : tie.Need-fees-requires-2
 fees-requires-2 c κs = search needs
 
--- A1 to A4, D1 and D2
+-- A1
 returns : tie.Need-returns
 unfolding numbered electricity
 returns c = λ b measured. rw (c .before .match .keys1) (c .frequencies .ensures b (measured .settings-are) (measured .figures-are))
 
+-- A2
 returns-2 : tie.Need-returns-2
 unfolding numbered electricity
 returns-2 c = λ b measured. rw (c .before .match .keys2) (c .durations .ensures b (measured .figures-are))
 
+-- A3
 returns-3 : tie.Need-returns-3
 unfolding numbered electricity
 returns-3 c = λ b measured. rw (c .before .match .keys3) (c .frequencies2 .ensures b (measured .settings-are) (measured .figures-are))
 
+-- A4
 returns-4 : tie.Need-returns-4
 unfolding numbered electricity
 returns-4 c = λ b measured. rw (c .before .match .keys4) (c .durations2 .ensures b (measured .figures-are))
 
+-- D1
 returns-5 : tie.Need-returns-5
 unfolding numbered electricity
 returns-5 c = λ b measured. rw (c .before .match .keys5) (c .fees .ensures b (measured .figures-are) (measured .indices-are))
 
+-- D2
 returns-6 : tie.Need-returns-6
 unfolding numbered electricity
 returns-6 c =

@@ -48,7 +48,12 @@ count-better-requires : tie.Need-count-better-requires Inv-loop μ-loop
 count-better-requires c κs = (c .before .before .pre, c .total .ensures)
 
 weigh-better-requires : tie.Need-weigh-better-requires Inv-loop μ-loop
-weigh-better-requires c κs = (c .before .before .before .pre, c .before .total .ensures, own-most (c .before .before .before .args .t2) _ (c .before .before .exponent-weights .ensures))
+weigh-better-requires c κs =
+    record {
+      scores-within = c .before .before .before .pre;
+      total-is = c .before .total .ensures;
+      own-most = own-most (c .before .before .before .args .t2) _ (c .before .before .exponent-weights .ensures);
+    }
 
 loop-holds : tie.Need-loop-holds Inv-loop μ-loop
 loop-holds c = filling-none _ _ refl
@@ -71,11 +76,12 @@ array-read-levelled-weight-2 c = omega arith
 levelled-weight-requires : tie.Need-levelled-weight-requires Inv-loop μ-loop
 levelled-weight-requires c κs =
     let begun = c .before .before .before .before .before .before in
-    let i = c .before .loop .i in (
-      begun .pre i,
-      c .before .before .before .count-better .ensures .1,
-      own-most (begun .args .t2) _ (c .before .before .before .before .before .exponent-weights .ensures) i,
-    )
+    let i = c .before .loop .i in
+    record {
+      score-most = begun .pre i;
+      better-few = c .before .before .before .count-better .ensures .1;
+      own-most = own-most (begun .args .t2) _ (c .before .before .before .before .before .exponent-weights .ensures) i;
+    }
 
 mul-weights : tie.Need-mul-weights Inv-loop μ-loop
 mul-weights c = omega arith

@@ -32,7 +32,7 @@ gather-one-requires c κs =
     let so-far =
     here .inv .1 (lending joined marks settings figures indices) (lending-marked joined marks settings figures indices)
     (lending-measured joined marks settings figures indices) in
-    (begun .pre, omega arith, λ k. omega (arith, so-far .totals-most k))
+    record { within = begun .pre; number-there = omega arith; totals-most = λ k. omega (arith, so-far .totals-most k) }
 
 add-number : tie.Need-add-number Inv-loop μ-loop
 add-number c = omega arith

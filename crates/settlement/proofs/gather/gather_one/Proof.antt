@@ -37,8 +37,8 @@ add-requires c κs =
     let b = lending joined marks settings figures indices in
     let shares =
     c .before .before .before .before .before .points-of .ensures b (lending-marked joined marks settings figures indices) (lending-measured joined marks settings figures indices) in (
-      begun .pre .2,
-      λ k. rw shares (point-le b (begun .args .number) (begun .pre .1) k),
+      begun .pre .totals-most,
+      λ k. rw shares (point-le b (begun .args .number) (begun .pre .number-there) k),
     )
 
 returns : tie.Need-returns

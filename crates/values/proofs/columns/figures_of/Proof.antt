@@ -1,4 +1,4 @@
--- `values::figures_of` meets its contract. The loop's invariant: the places passed hold their operator's value.
+-- `values::columns::figures_of` meets its contract. The loop's invariant: the places passed hold their operator's value.
 -- Assumes nothing.
 use native.Mathlib.Omega.{arith}
 use Rattle.values.proofs.Tables.{Filling, filling-none, filling-more, filling-each}
@@ -6,8 +6,8 @@ use mathlib.Core.Path.{refl}
 use Prim.Native.Nat.{ℕ, _-_}
 use lib.ListN.{getD}
 use Rattle.book.specs.Book.{figureOf, figureSlot}
-use Rattle.values.proofs.figures_of.Statement.{statement}
-use Rattle.values.proofs.figures_of.Tie as tie
+use Rattle.values.proofs.columns.figures_of.Statement.{statement}
+use Rattle.values.proofs.columns.figures_of.Tie as tie
 
 abbrev Inv-loop : tie.InvT-loop
 Inv-loop figures year figure list₀ operator₀ list operator = Filling (λ (k : ℕ). getD figures (figureSlot k year figure) 0) operator list

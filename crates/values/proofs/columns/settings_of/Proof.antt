@@ -1,4 +1,4 @@
--- `values::settings_of` meets its contract. The loop's invariant: the places passed hold their operator's value.
+-- `values::columns::settings_of` meets its contract. The loop's invariant: the places passed hold their operator's value.
 -- Assumes nothing.
 use native.Mathlib.Omega.{arith}
 use Rattle.values.proofs.Tables.{Filling, filling-none, filling-more, filling-each}
@@ -6,8 +6,8 @@ use mathlib.Core.Path.{refl}
 use Prim.Native.Nat.{ℕ, _-_}
 use lib.ListN.{getD}
 use Rattle.book.specs.Book.{settingOf, settingSlot}
-use Rattle.values.proofs.settings_of.Statement.{statement}
-use Rattle.values.proofs.settings_of.Tie as tie
+use Rattle.values.proofs.columns.settings_of.Statement.{statement}
+use Rattle.values.proofs.columns.settings_of.Tie as tie
 
 abbrev Inv-loop : tie.InvT-loop
 Inv-loop settings which list₀ operator₀ list operator = Filling (λ (k : ℕ). getD settings (settingSlot k which) 0) operator list
