@@ -167,3 +167,10 @@ pub award-step : (units n place : ℕ) (remaining shares : List ℕ) → 0 < uni
 unfolding award
 award-step zero n place remaining shares pos long e = absurd (omega arith)
 award-step (suc units) n place remaining shares pos long e = rw (sub-one (suc units), e, ← long) refl
+
+-- handing out what is left now ends as handing out all units at the start, over n places
+pub record HandingOut (n units : ℕ) (remaining₀ shares₀ : List ℕ) (left : ℕ) (remaining shares : List ℕ) : Type 0 where
+  pub shares-long : length shares ≡ n
+  pub remaining-long : length remaining ≡ n
+  pub units-kept : sum shares + left ≡ sum shares₀ + units
+  pub ends-alike : award left remaining shares ≡ award units remaining₀ shares₀

@@ -104,6 +104,12 @@ unfolding foremost earlier First
 foremost-first remaining zero j lt ne = absurd (omega arith)
 foremost-first remaining (suc n) j lt ne = first-step remaining n (foremost remaining n) j _ refl (foremost-first remaining n j) lt ne
 
+-- best is the foremost of the first i places, of n
+pub record ForemostOf (n : ℕ) (remaining : List ℕ) (i best : ℕ) : Type 0 where
+  pub within : i ≤ n
+  pub passed : best < i
+  pub foremost-is : best ≡ foremost remaining i
+
 -- what a search in the order of the places keeps
 pub foremost-one : (remaining : List ℕ) → foremost remaining 1 ≡ 0
 unfolding foremost earlier

@@ -21,6 +21,13 @@ quotient-le q s r t w pos le e =
     let below : q * s ≤ t * s = omega (arith, e, wide) in
     le-of-mul-le-mul-right below pos
 
+-- the division of t times w by s, t cut off at bit k
+pub record CutOff (t w s k quotient remainder : ℕ) : Type 0 where
+  pub bits : k ≤ 64
+  pub reduced : remainder < s
+  pub quotient-most : quotient ≤ t / 2 ^ k
+  pub product : quotient * s + remainder ≡ t / 2 ^ k * w
+
 -- before its first bit a number counts as 0
 pub no-bits : (t : ℕ) → t < 2 ^ 64 → t / 2 ^ (64 - leadingZeros 64 t) ≡ 0
 no-bits t h =

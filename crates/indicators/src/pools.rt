@@ -4,7 +4,7 @@ ghost use Prim.Native.Nat.{_≤_, _<_};
 ghost use Rattle.book.specs.declared.Book.{Book};
 ghost use Rattle.values.specs.Bounds.{pointsMost, poolMost};
 ghost use Rattle.values.specs.Indicator.{pool, numbered};
-ghost use Rattle.values.specs.Parts.{Marked, Measured, Within};
+ghost use Rattle.values.specs.Parts.{HasMarks, HasMeasures, Within};
 ghost use Rattle.indicators.specs.Steps.{ScoresWithin};
 ghost use Rattle.indicators.specs.Points.{weights, points};
 use crate::weights::levelled_weights;
@@ -24,7 +24,7 @@ pub fn points_of(
     number: u8,
 ) -> [u64; 16]
     requires { ⌜ Within (now settings) (now figures) (now indices) × (number < 6) ⌝ }
-    ensures { λ r. ⌜ ((b : Book) → Marked b joined (now (marks .entry)) → Measured b (now (settings .entry)) (now (figures .entry)) (now (indices .entry)) → r ≡ points b (numbered number)) ⌝ }
+    ensures { λ r. ⌜ ((b : Book) → HasMarks b joined (now (marks .entry)) → HasMeasures b (now (settings .entry)) (now (figures .entry)) (now (indices .entry)) → r ≡ points b (numbered number)) ⌝ }
 {
     let mask = reliable_mask(joined, marks, number);
     let scores = scores_of(mask, settings, figures, indices, number);
@@ -47,7 +47,7 @@ fn weights_of(mask: u16, scores: [u64; 16], number: u8) -> [u64; 16]
 // In hundredths.
 pub fn pool_of(joined: u16, marks: &[u16; 6], number: u8) -> u64
     requires { ⌜ number < 6 ⌝ }
-    ensures { λ r. ⌜ ((b : Book) → Marked b joined (now (marks .entry)) → r ≡ pool b (numbered number)) × (r ≤ poolMost) ⌝ }
+    ensures { λ r. ⌜ ((b : Book) → HasMarks b joined (now (marks .entry)) → r ≡ pool b (numbered number)) × (r ≤ poolMost) ⌝ }
 {
     divide(
         300 * points_a_year(number) * ones_of(reliable_mask(joined, marks, number)),

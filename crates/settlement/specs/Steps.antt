@@ -34,7 +34,7 @@ pub record AllGathered (b : Book) (g : Gathered) : Type 0 where
   pub totals-most : (k : ℕ) → getD (g .totals) k 0 ≤ totalMost
 
 -- a book has these access points, incomes and rates
-pub record Charged (b : Book) (access incomes : List ℕ) (pot cap : ℕ) : Type 0 where
+pub record HasCharges (b : Book) (access incomes : List ℕ) (pot cap : ℕ) : Type 0 where
   pub access-are : access ≡ settingsOf b 1
   pub incomes-are : incomes ≡ settingsOf b 2
   pub pot-is : pot ≡ b .«pot_rate»

@@ -7,7 +7,7 @@ ghost use Rattle.book.specs.declared.Book.{Book};
 ghost use Rattle.values.specs.Bounds.{poolMost, totalMost};
 ghost use Rattle.values.specs.Operators.{each};
 ghost use Rattle.values.specs.Indicator.{numbered};
-ghost use Rattle.values.specs.Parts.{Marked, Measured, Within};
+ghost use Rattle.values.specs.Parts.{HasMarks, HasMeasures, Within};
 ghost use Rattle.settlement.specs.Steps.{GatheringAsked, OneGathered, AllGathered};
 use indicators::points_of;
 use indicators::pool_of;
@@ -26,7 +26,7 @@ pub(crate) fn gather(
     indices: &[u32; 4],
 ) -> Gathered
     requires { ⌜ Within (now settings) (now figures) (now indices) ⌝ }
-    ensures { λ r. ⌜ ((b : Book) → Marked b joined (now (marks .entry)) → Measured b (now (settings .entry)) (now (figures .entry)) (now (indices .entry)) → AllGathered b r) ⌝ }
+    ensures { λ r. ⌜ ((b : Book) → HasMarks b joined (now (marks .entry)) → HasMeasures b (now (settings .entry)) (now (figures .entry)) (now (indices .entry)) → AllGathered b r) ⌝ }
 {
     let mut g = Gathered {
         pools: [0u64; 6],
@@ -51,7 +51,7 @@ fn gather_one(
     number: u8,
 ) -> Gathered
     requires { ⌜ GatheringAsked (now settings) (now figures) (now indices) (g .totals) number ⌝ }
-    ensures { λ r. ⌜ ((b : Book) → Marked b joined (now (marks .entry)) → Measured b (now (settings .entry)) (now (figures .entry)) (now (indices .entry)) → OneGathered b number g r) ⌝ }
+    ensures { λ r. ⌜ ((b : Book) → HasMarks b joined (now (marks .entry)) → HasMeasures b (now (settings .entry)) (now (figures .entry)) (now (indices .entry)) → OneGathered b number g r) ⌝ }
 {
     let shares = points_of(joined, marks, settings, figures, indices, number);
     let mut pools = g.pools;

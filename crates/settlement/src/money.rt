@@ -5,7 +5,7 @@ ghost use lib.IntN.{subℕ};
 ghost use lib.ListN.{getD};
 ghost use Rattle.calls.specs.Limits.{operators, rateLimit};
 ghost use Rattle.apportion.specs.Sum.{sum};
-ghost use Rattle.values.specs.Bounds.{accessLimit, incomeLimit, totalMost, potMost};
+ghost use Rattle.values.specs.Bounds.{accessLimit, incomeLimit, totalMost, potMost, limitMost};
 ghost use Rattle.values.specs.Operators.{table, each};
 ghost use Rattle.settlement.specs.Money.{capped, balanced};
 use apportion::share;
@@ -24,7 +24,7 @@ pub(crate) fn pot_of(rate: u32, incomes: [u64; 16]) -> u64
 // A rate of each income.
 pub(crate) fn limits_of(rate: u32, incomes: [u64; 16]) -> [u64; 16]
     requires { ⌜ (rate ≤ rateLimit) × ((k : ℕ) → getD incomes k 0 ≤ incomeLimit) ⌝ }
-    ensures { λ r. ⌜ r ≡ each (λ (operator : ℕ). rate * getD incomes operator 0 / 1000000) ⌝ }
+    ensures { λ r. ⌜ (r ≡ each (λ (operator : ℕ). rate * getD incomes operator 0 / 1000000)) × ((k : ℕ) → getD r k 0 ≤ limitMost) ⌝ }
 {
     let cap = rate as u64;
     let mut out = [0u64; 16];
@@ -39,7 +39,7 @@ pub(crate) fn limits_of(rate: u32, incomes: [u64; 16]) -> [u64; 16]
 // Access points times the points of all indicators.
 pub(crate) fn return_weights(access: [u64; 16], totals: [u64; 16]) -> [u64; 16]
     requires { ⌜ ((k : ℕ) → k < 16 → getD access k 0 ≤ accessLimit) × ((k : ℕ) → k < 16 → getD totals k 0 ≤ totalMost) ⌝ }
-    ensures { λ r. ⌜ r ≡ each (λ (operator : ℕ). getD access operator 0 * getD totals operator 0) ⌝ }
+    ensures { λ r. ⌜ (r ≡ each (λ (operator : ℕ). getD access operator 0 * getD totals operator 0)) × (sum r ≤ operators * (accessLimit * totalMost)) ⌝ }
 {
     let mut out = [0u64; 16];
     let mut operator = 0;

@@ -9,10 +9,10 @@ ghost use Rattle.calls.specs.Masks.{has};
 ghost use Rattle.book.specs.Book.{inRange};
 ghost use Rattle.values.specs.Bounds.{limitMost};
 ghost use Rattle.values.specs.Operators.{settingsOf};
-ghost use Rattle.values.specs.Parts.{Marked};
+ghost use Rattle.values.specs.Parts.{HasMarks};
 ghost use Rattle.values.specs.Indicator.{electricity};
 ghost use Rattle.settlement.specs.Money.{adjustedBy};
-ghost use Rattle.settlement.specs.Steps.{AllGathered, Charged, Payable};
+ghost use Rattle.settlement.specs.Steps.{AllGathered, HasCharges, Payable};
 ghost use Rattle.settlement.specs.Settlement.{networkMissing, allMarked, settlementBy, nothing, settled};
 use crate::Settled;
 use crate::Settlement;
@@ -104,7 +104,7 @@ fn lacks_network(joined: u16, operator: u8, cabins: u64, access: u64) -> bool
 
 // Whether nobody takes part at any indicator.
 fn all_marked(joined: u16, marks: &[u16; 6]) -> bool
-    ensures { λ r. ⌜ ((b : Book) → inRange b ≡ true → Marked b joined (now (marks .entry)) → r ≡ allMarked b electricity) ⌝ }
+    ensures { λ r. ⌜ ((b : Book) → inRange b ≡ true → HasMarks b joined (now (marks .entry)) → r ≡ allMarked b electricity) ⌝ }
 {
     let mut number = 0;
     while number < 6 {
@@ -140,7 +140,7 @@ fn settle_points(
     cap_rate: u32,
 ) -> Settlement
     requires { ⌜ Payable (g .totals) access incomes «pot_rate» «cap_rate» ⌝ }
-    ensures { λ r. ⌜ ((b : Book) → AllGathered b g → Charged b access incomes «pot_rate» «cap_rate» → r ≡ settlementBy b electricity) ⌝ }
+    ensures { λ r. ⌜ ((b : Book) → AllGathered b g → HasCharges b access incomes «pot_rate» «cap_rate» → r ≡ settlementBy b electricity) ⌝ }
 {
     let totals = g.totals;
     let pot = pot_of(pot_rate, incomes);

@@ -14,7 +14,7 @@ use Rattle.book.specs.Book.{bookWith, isJoined, settingOf, figureOf, indexOf, m
 use Rattle.book.proofs.Bounds.{bounded}
 use Rattle.values.specs.Bounds.{accessLimit, incomeLimit}
 use Rattle.values.specs.Operators.{settingsOf, figuresOf}
-use Rattle.values.specs.Parts.{Marked, Measured, SettingsWithin, FiguresWithin, IndicesWithin, Within}
+use Rattle.values.specs.Parts.{HasMarks, HasMeasures, SettingsWithin, FiguresWithin, IndicesWithin, Within}
 use Rattle.values.proofs.Tables.{each-le}
 
 -- at most the limit, joined or not
@@ -66,10 +66,10 @@ module _ (joined : ℕ) (marks settings figures indices : List ℕ) where
   abbrev pub lending : Book
   lending = bookWith joined marks settings figures 0 0 indices
 
-  pub lending-marked : Marked lending joined marks
+  pub lending-marked : HasMarks lending joined marks
   lending-marked = record { joined-are = refl; marks-are = refl }
 
-  pub lending-measured : Measured lending settings figures indices
+  pub lending-measured : HasMeasures lending settings figures indices
   lending-measured = record { settings-are = refl; figures-are = refl; indices-are = refl }
 
 abbrev pub holding : List ℕ → List ℕ → List ℕ → Book

@@ -9,12 +9,12 @@ use Rattle.book.specs.declared.Book.{Book}
 use Rattle.book.specs.Book.{settingSlot, figureSlot}
 
 -- a book has these operators and marks
-pub record Marked (b : Book) (joined : ℕ) (marks : List ℕ) : Type 0 where
+pub record HasMarks (b : Book) (joined : ℕ) (marks : List ℕ) : Type 0 where
   pub joined-are : b .joined ≡ joined
   pub marks-are : b .marks ≡ marks
 
 -- a book has these settings, figures and indices, by which operators are measured
-pub record Measured (b : Book) (settings figures indices : List ℕ) : Type 0 where
+pub record HasMeasures (b : Book) (settings figures indices : List ℕ) : Type 0 where
   pub settings-are : b .settings ≡ settings
   pub figures-are : b .figures ≡ figures
   pub indices-are : b .indices ≡ indices

@@ -11,7 +11,7 @@ ghost use Rattle.exact.specs.Division.{over};
 ghost use Rattle.book.specs.declared.Book.{Book};
 ghost use Rattle.values.specs.Operators.{each};
 ghost use Rattle.values.specs.Indicator.{frequency, duration, fee, yearlyValues, reliableMask, scores, numbered};
-ghost use Rattle.values.specs.Parts.{Marked, Measured, Within};
+ghost use Rattle.values.specs.Parts.{HasMarks, HasMeasures, Within};
 ghost use Rattle.values.specs.Steps.{YearsAsked, ValuesAsked, FrequencyAsked, DurationAsked, FeeAsked};
 use calls::has_bit;
 use columns::figures_of;
@@ -27,7 +27,7 @@ pub fn scores_of(
     number: u8,
 ) -> [u64; 16]
     requires { ⌜ Within (now settings) (now figures) (now indices) × (number < 6) ⌝ }
-    ensures { λ r. ⌜ ((b : Book) → Measured b (now (settings .entry)) (now (figures .entry)) (now (indices .entry)) → mask ≡ reliableMask b (numbered number) → r ≡ scores b (numbered number)) ⌝ }
+    ensures { λ r. ⌜ ((b : Book) → HasMeasures b (now (settings .entry)) (now (figures .entry)) (now (indices .entry)) → mask ≡ reliableMask b (numbered number) → r ≡ scores b (numbered number)) ⌝ }
 {
     let first = yearly_values(settings, figures, indices, number, 0);
     let second = yearly_values(settings, figures, indices, number, 1);
@@ -55,7 +55,7 @@ fn score(mask: u16, operator: u8, first: u64, second: u64, third: u64) -> u64
 // Joined and without a mark: a mask of both.
 pub fn reliable_mask(joined: u16, marks: &[u16; 6], number: u8) -> u16
     requires { ⌜ number < 6 ⌝ }
-    ensures { λ r. ⌜ ((b : Book) → Marked b joined (now (marks .entry)) → r ≡ reliableMask b (numbered number)) ⌝ }
+    ensures { λ r. ⌜ ((b : Book) → HasMarks b joined (now (marks .entry)) → r ≡ reliableMask b (numbered number)) ⌝ }
 {
     let unmarked = others(marks[number as usize]);
     joined & unmarked
@@ -77,7 +77,7 @@ fn yearly_values(
     year: u8,
 ) -> [u64; 16]
     requires { ⌜ ValuesAsked (now settings) (now figures) (now indices) number year ⌝ }
-    ensures { λ r. ⌜ ((b : Book) → Measured b (now (settings .entry)) (now (figures .entry)) (now (indices .entry)) → r ≡ yearlyValues b (numbered number .measure) year) ⌝ }
+    ensures { λ r. ⌜ ((b : Book) → HasMeasures b (now (settings .entry)) (now (figures .entry)) (now (indices .entry)) → r ≡ yearlyValues b (numbered number .measure) year) ⌝ }
 {
     match number {
         0 => frequencies(settings, figures, year, 0, 0),

@@ -3,21 +3,20 @@
 use mathlib.Core.Path.{_≡_, sym, _∙_}
 use mathlib.Core.Logic.{⊎-elim}
 use mathlib.Core.Bool.{true, false}
-use Prim.Native.Nat.{_-_, _<_, _≤_}
+use Prim.Native.Nat.{_-_}
 use native.Mathlib.Omega.{arith}
-use Rattle.apportion.specs.Share.{foremost}
-use Rattle.apportion.proofs.Order.{foremost-one, foremost-more}
+use Rattle.apportion.proofs.Order.{ForemostOf, foremost-one, foremost-more}
 use Rattle.apportion.proofs.foremost_place.Statement.{statement}
 use Rattle.apportion.proofs.foremost_place.Tie as tie
 
 abbrev Inv-loop : tie.InvT-loop
-Inv-loop remaining best₀ i₀ best i = (i ≤ 16) × (best < i) × (best ≡ foremost remaining i)
+Inv-loop remaining best₀ i₀ best i = ForemostOf 16 remaining i best
 
 abbrev μ-loop : tie.MeasureT-loop
 μ-loop remaining best₀ i₀ best i = 16 - i
 
 loop-holds : tie.Need-loop-holds Inv-loop μ-loop
-loop-holds c = (omega arith, omega arith, sym (foremost-one (c .args .t1)))
+loop-holds c = record { within = omega arith; passed = omega arith; foremost-is = sym (foremost-one (c .args .t1)) }
 
 mul-precedes : tie.Need-mul-precedes Inv-loop μ-loop
 mul-precedes c = omega arith
@@ -45,15 +44,16 @@ loop-again c =
     let here = c .before .before .before .loop in
     let tested = c .before .precedes .ensures in
     let remaining = c .before .before .before .before .args .t1 in
+    let next = foremost-more remaining (here .best) (here .i) in
     ⊎-elim
-    (λ w. (omega arith, omega (arith, w .1), w .1 ∙ sym (foremost-more remaining (here .best) (here .i) true (here .inv .2) (sym tested ∙ w .0 .taken))))
-    (λ w. (omega arith, omega (arith, w .1), w .1 ∙ sym (foremost-more remaining (here .best) (here .i) false (here .inv .2) (sym tested ∙ w .0 .left))))
+    (λ w. record { within = omega arith; passed = omega (arith, w .1); foremost-is = w .1 ∙ sym (next true (here .inv .foremost-is) (sym tested ∙ w .0 .taken)) })
+    (λ w. record { within = omega arith; passed = omega (arith, w .1); foremost-is = w .1 ∙ sym (next false (here .inv .foremost-is) (sym tested ∙ w .0 .left)) })
     (c .if1 .came)
 
 returns : tie.Need-returns Inv-loop μ-loop
 returns c =
     let last : c .before .loop .i ≡ 16 = omega arith in
-    (rw last at (c .before .loop .inv .2), omega arith)
+    (rw last at (c .before .loop .inv .foremost-is), omega arith)
 
 pub foremost-place-spec : {M : Type 1} → statement M
 foremost-place-spec =

@@ -6,12 +6,12 @@ use native.Mathlib.Nat.{div-one}
 use native.Mathlib.Omega.{arith}
 use lib.Count.{leading-le}
 use lib.Pow.{shr-le}
-use Rattle.exact.proofs.Product.{no-bits, appended, quotient-le, divided}
+use Rattle.exact.proofs.Product.{CutOff, no-bits, appended, quotient-le, divided}
 use Rattle.exact.proofs.divide_by_bits.Statement.{statement}
 use Rattle.exact.proofs.divide_by_bits.Tie as tie
 
 abbrev Inv-loop : tie.InvT-loop
-Inv-loop t w s k₀ d₀ k d = (k ≤ 64) × (d .remainder < s) × (d .quotient ≤ t / 2 ^ k) × (d .quotient * s + d .remainder ≡ t / 2 ^ k * w)
+Inv-loop t w s k₀ d₀ k d = CutOff t w s k (d .quotient) (d .remainder)
 
 abbrev μ-loop : tie.MeasureT-loop
 μ-loop t w s k₀ d₀ k d = k
@@ -22,7 +22,12 @@ sub-k c = leading-le 64 (c .args .t)
 loop-holds : tie.Need-loop-holds Inv-loop μ-loop
 loop-holds c =
     let none = no-bits (c .args .t) (omega arith) in
-    (omega arith, c .pre .divisor-positive, omega arith, omega (arith, ap (λ (z : ℕ). z * c .args .w) none))
+    record {
+      bits = omega arith;
+      reduced = c .pre .divisor-positive;
+      quotient-most = omega arith;
+      product = omega (arith, ap (λ (z : ℕ). z * c .args .w) none);
+    }
 
 sub-k-2 : tie.Need-sub-k-2 Inv-loop μ-loop
 sub-k-2 c = omega arith
@@ -46,13 +51,18 @@ loop-again c =
     let next = c .append-bit in
     let product =
     appended (start .args .t) (start .args .w) (start .args .s) (here .k) _ _ _ _
-    (omega arith) (here .inv .3) (next .ensures .1) in
-    (omega arith, next .ensures .0, quotient-le _ _ _ _ _ (start .pre .divisor-positive) (start .pre .part) product, product)
+    (omega arith) (here .inv .product) (next .ensures .1) in
+    record {
+      bits = omega arith;
+      reduced = next .ensures .0;
+      quotient-most = quotient-le _ _ _ _ _ (start .pre .divisor-positive) (start .pre .part) product;
+      product = product;
+    }
 
 returns : tie.Need-returns Inv-loop μ-loop
 returns c =
     let last : c .before .loop .k ≡ 0 = omega arith in
-    divided _ _ _ _ (c .before .before .pre .divisor-positive) (c .before .loop .inv .1) (rw (last, div-one) at (c .before .loop .inv .3))
+    divided _ _ _ _ (c .before .before .pre .divisor-positive) (c .before .loop .inv .reduced) (rw (last, div-one) at (c .before .loop .inv .product))
 
 pub divide-by-bits-spec : {M : Type 1} → statement M
 divide-by-bits-spec =

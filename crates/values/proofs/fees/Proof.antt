@@ -52,7 +52,9 @@ quotients-requires c κs =
     let base : widened .result ≤ indexMost = rw (widened .ensures) (index-most b (start .pre .indices-within) 3 (omega arith)) in
     let index : widened2 .result ≤ indexMost = rw (widened2 .ensures) (index-most b (start .pre .indices-within) (start .args .year) (omega arith)) in (
       λ k. rw (c .before .figures-of .ensures b refl) (omega (arith, mul-le-mul base (figures-most b (start .pre .figures-within) _ _ (start .pre .year-there) (start .pre .paid-there) k))),
-      λ k. rw (c .figures-of2 .ensures b refl) (omega (arith, mul-le-mul index (figures-most b (start .pre .figures-within) _ _ (start .pre .year-there) (start .pre .connections-there) k))),
+      λ k.
+          let most = figures-most b (start .pre .figures-within) (start .args .year) (start .args .connections) (start .pre .year-there) (start .pre .connections-there) k in
+          rw (c .figures-of2 .ensures b refl) (omega (arith, mul-le-mul index most, mul-le-mul base most)),
     )
 
 returns : tie.Need-returns

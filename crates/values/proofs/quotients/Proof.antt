@@ -27,7 +27,7 @@ array-read-divide c = omega arith
 
 mul-divide-2 : tie.Need-mul-divide-2 Inv-loop μ-loop
 mul-divide-2 c =
-    record { fits = c .before .before .pre .0 (c .before .loop .i) }
+    record { fits = omega (arith, c .before .before .pre .0 (c .before .loop .i)) }
 
 mul-divide-3 : tie.Need-mul-divide-3 Inv-loop μ-loop
 mul-divide-3 c = omega arith
@@ -37,7 +37,7 @@ array-read-divide-2 c = omega arith
 
 mul-divide-4 : tie.Need-mul-divide-4 Inv-loop μ-loop
 mul-divide-4 c =
-    record { fits = c .before .before .pre .1 (c .before .loop .i) }
+    record { fits = omega (arith, c .before .before .pre .1 (c .before .loop .i)) }
 
 divide-requires : tie.Need-divide-requires Inv-loop μ-loop
 divide-requires c κs = search needs

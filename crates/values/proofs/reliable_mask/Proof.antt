@@ -1,6 +1,7 @@
 -- `values::reliable_mask` meets its contract.
 -- Assumes nothing.
-use mathlib.Core.Path.{refl}
+use mathlib.Core.Path.{refl, ap, _∙_}
+use lib.Bits.{bitAnd}
 use Rattle.values.specs.Indicator.{reliableMask}
 use Rattle.values.proofs.Numbered.{number-of}
 use borrow.Author.Needs.{needs}
@@ -20,7 +21,9 @@ returns : tie.Need-returns
 unfolding reliableMask
 returns c =
     let start = c .before .before in
-    λ b marked. rw (number-of (start .args .number) (start .pre), marked .joined-are, marked .marks-are, c .others .ensures) refl
+    λ b marked.
+    ap (bitAnd (start .args .joined)) (c .others .ensures)
+    ∙ rw (number-of (start .args .number) (start .pre), marked .joined-are, marked .marks-are) refl
 
 pub reliable-mask-spec : {M : Type 1} → statement M
 reliable-mask-spec = tie.close (tie.spec mul-others element-copy-out-others others-requires returns)

@@ -4,7 +4,7 @@ use mathlib.Core.Path.{_≡_}
 use Prim.Native.Nat.{_-_, _≤_}
 use native.Mathlib.Omega.{arith}
 use Rattle.book.specs.declared.Book.{Book}
-use Rattle.values.specs.Parts.{Marked, Measured}
+use Rattle.values.specs.Parts.{HasMarks, HasMeasures}
 use Rattle.values.proofs.InRange.{lending, lending-marked, lending-measured}
 use Rattle.settlement.proofs.Gathering.{Gathers, gathers-none, gathers-more, gathers-all}
 use Rattle.settlement.proofs.gather.gather.Statement.{statement}
@@ -12,7 +12,7 @@ use Rattle.settlement.proofs.gather.gather.Tie as tie
 
 abbrev Inv-loop : tie.InvT-loop
 Inv-loop joined marks settings figures indices g₀ number₀ g number =
-    (number ≤ 6) × ((b : Book) → Marked b joined marks → Measured b settings figures indices → Gathers b number g)
+    (number ≤ 6) × ((b : Book) → HasMarks b joined marks → HasMeasures b settings figures indices → Gathers b number g)
 
 abbrev μ-loop : tie.MeasureT-loop
 μ-loop joined marks settings figures indices g₀ number₀ g number = 6 - number

@@ -5,8 +5,9 @@ use mathlib.Core.Path.{refl}
 use Prim.Native.Nat.{ℕ, _*_, _/_, _-_}
 use native.Mathlib.Omega.{arith}
 use lib.ListN.{getD}
-use Rattle.settlement.proofs.InRange.{limit-product-le}
-use Rattle.values.proofs.Tables.{Filling, filling-none, filling-more, filling-each}
+use Rattle.settlement.proofs.InRange.{limit-product-le, limit-le}
+use Rattle.values.specs.Bounds.{limitMost}
+use Rattle.values.proofs.Tables.{Filling, filling-none, filling-more, filling-each, each-le}
 use Rattle.settlement.proofs.money.limits_of.Statement.{statement}
 use Rattle.settlement.proofs.money.limits_of.Tie as tie
 
@@ -47,7 +48,10 @@ loop-again : tie.Need-loop-again Inv-loop μ-loop
 loop-again c = filling-more _ _ (c .before .loop .inv) (omega arith) refl
 
 returns : tie.Need-returns Inv-loop μ-loop
-returns c = filling-each (c .before .loop .inv) (omega arith)
+returns c =
+    let begun = c .before .before in
+    let filled = filling-each (c .before .loop .inv) (omega arith) in
+    (filled, λ k. rw filled (each-le _ limitMost (λ j lt. limit-le (begun .args .rate) (begun .args .t2) (begun .pre .0) (begun .pre .1) j) k))
 
 pub limits-of-spec : {M : Type 1} → statement M
 limits-of-spec =

@@ -9,7 +9,7 @@ use lib.Dec.{eqb}
 use Rattle.book.specs.declared.Book.{Book}
 use Rattle.book.specs.Book.{inRange}
 use Rattle.settlement.specs.Settlement.{allMarked}
-use Rattle.values.specs.Parts.{Marked}
+use Rattle.values.specs.Parts.{HasMarks}
 use Rattle.settlement.proofs.MarkLaws.{marked-none, marked-more}
 use lib.ListN.{drop}
 use mathlib.Core.List.{_∷_}
@@ -21,7 +21,7 @@ use Rattle.settlement.proofs.settling.all_marked.Tie as tie
 
 abbrev Inv-loop : tie.InvT-loop
 Inv-loop joined marks number₀ number =
-    (number ≤ 6) × ((b : Book) → inRange b ≡ true → Marked b joined marks → allMarked b (drop number electricity) ≡ allMarked b electricity)
+    (number ≤ 6) × ((b : Book) → inRange b ≡ true → HasMarks b joined marks → allMarked b (drop number electricity) ≡ allMarked b electricity)
 
 abbrev μ-loop : tie.MeasureT-loop
 μ-loop joined marks number₀ number = 6 - number

@@ -1,18 +1,15 @@
 -- `settlement::settling::settle_points` meets its contract.
 -- Assumes nothing.
 use mathlib.Core.Path.{_≡_, refl, sym, _∙_}
-use Prim.Native.Nat.{ℕ, _*_, _/_, _≤_}
 use native.Mathlib.Omega.{arith}
-use lib.ListN.{length, getD}
-use Rattle.calls.specs.Limits.{operators}
-use Rattle.apportion.specs.Sum.{sum}
-use Rattle.values.specs.Bounds.{accessLimit, totalMost, limitMost}
+use lib.ListN.{length}
+use Rattle.values.specs.Bounds.{accessLimit}
 use Rattle.values.specs.Indicator.{electricity}
-use Rattle.values.proofs.Tables.{each-le, each-same}
+use Rattle.values.proofs.Tables.{each-same}
 use Rattle.settlement.specs.Settlement.{settlementBy}
 use Rattle.settlement.specs.Money.{pot, limits, contributions, returns as Money·returns, adjustments}
-use Rattle.settlement.proofs.InRange.{income-at, limit-le}
-use Rattle.settlement.proofs.Amounts.{sixteen-le, weights-same, weights-sum}
+use Rattle.settlement.proofs.InRange.{income-at}
+use Rattle.settlement.proofs.Amounts.{sixteen-le, weights-same}
 use borrow.Author.Needs.{needs}
 use Rattle.settlement.proofs.settling.settle_points.Statement.{statement}
 use Rattle.settlement.proofs.settling.settle_points.Tie as tie
@@ -29,35 +26,25 @@ share-requires c κs =
 return-weights-requires : tie.Need-return-weights-requires
 return-weights-requires c κs =
     let start = c .before .before .before in
-    (λ k lt. start .pre .access-most k, λ k lt. start .pre .totals-most k)
+    (λ k lt. start .pre .access-most k, λ k lt. omega (arith, start .pre .totals-most k, start .pre .access-most k))
 
 share-requires-2 : tie.Need-share-requires-2
-share-requires-2 c κs =
-    let start = c .before .before .before .before in
-    let few : sum (c .return-weights .result) ≤ operators * (accessLimit * totalMost) =
-    rw (c .return-weights .ensures) (weights-sum (start .args .access) (start .args .g .totals) (λ k lt. start .pre .access-most k) (λ k lt. start .pre .totals-most k)) in
-    omega (arith, c .before .before .pot-of .ensures .1, few)
+share-requires-2 c κs = omega (arith, c .before .before .pot-of .ensures .1, c .return-weights .ensures .1)
 
 limits-of-requires : tie.Need-limits-of-requires
 limits-of-requires c κs = search needs
 
 adjust-requires : tie.Need-adjust-requires
-adjust-requires c κs =
-    let start = c .before .before .before .before .before .before in
-    let rate = start .args .cap-rate in
-    let incomes = start .args .incomes in
-    λ k lt.
-    rw (c .limits-of .ensures)
-    (each-le (λ (operator : ℕ). rate * getD incomes operator 0 / 1000000) limitMost (λ j lj. limit-le rate incomes (start .pre .cap-most) (start .pre .incomes-most) j) k)
+adjust-requires c κs = λ k lt. c .limits-of .ensures .1 k
 
 returns : tie.Need-returns
 unfolding settlementBy pot limits contributions Money·returns adjustments
 returns c =
     let pooled = c .before .before .before .before .before .before .before .pot-of .ensures in
     let shared = c .before .before .before .before .before .before .share .ensures in
-    let weighed = c .before .before .before .before .before .return-weights .ensures in
+    let weighed = c .before .before .before .before .before .return-weights .ensures .0 in
     let shared-2 = c .before .before .before .before .share2 .ensures in
-    let capped = c .before .before .before .limits-of .ensures in
+    let capped = c .before .before .before .limits-of .ensures .0 in
     λ b gathered charged.
     let pot-is : c .before .before .before .before .before .before .before .pot-of .result ≡ pot b = pooled .0 ∙ rw (charged .pot-is, charged .incomes-are) refl in
     let paid : c .before .before .before .before .before .before .share .result ≡ contributions b = shared ∙ rw (pot-is, charged .access-are) refl in
