@@ -1,7 +1,7 @@
 // Weights of an indicator from the scores of those that take part: normalised, weighed and, for A indicators, levelled.
 ghost use mathlib.Core.Path.{_≡_};
 ghost use mathlib.Core.Bool.{true, false, cond, _&&_};
-ghost use Prim.Native.Nat.{ℕ, _-_, _*_, _^_, _≤_, _<_, max};
+ghost use Prim.Native.Nat.{ℕ, _-_, _*_, _≤_, _<_, max};
 ghost use lib.Count.{ones};
 ghost use lib.Dec.{ltb, eqb};
 ghost use lib.ListN.{getD};

@@ -9,8 +9,8 @@ use native.Mathlib.Omega.{arith}
 use native.Mathlib.Decide.{decLt}
 use lib.Bits.{bitAnd, and-le-r}
 use lib.Count.{ones-le}
-use lib.ListN.{length, getD, set, take, length-set, List·getD-eq-default, replicate}
-use lib.Seq.{paste, take-suc, take-suc-set, take-paste, length-paste, take-all}
+use lib.ListN.{length, getD, take, length-set, List·getD-eq-default, replicate}
+use lib.Seq.{take-suc, take-suc-set, take-paste, length-paste, take-all}
 use Rattle.book.specs.declared.Book.{Book}
 use Rattle.apportion.specs.Sum.{sum}
 use Rattle.apportion.specs.Share.{share}

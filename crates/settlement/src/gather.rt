@@ -6,7 +6,6 @@ ghost use lib.Seq.{paste};
 ghost use Rattle.book.specs.declared.Book.{Book};
 ghost use Rattle.values.specs.Bounds.{poolMost, totalMost};
 ghost use Rattle.values.specs.Operators.{each};
-ghost use Rattle.values.specs.Indicator.{numbered};
 ghost use Rattle.values.specs.Parts.{HasMarks, HasMeasures, Within};
 ghost use Rattle.settlement.specs.Steps.{GatheringAsked, OneGathered, AllGathered};
 use indicators::points_of;

@@ -9,7 +9,7 @@ use Rattle.book.specs.declared.Book.{Book}
 use Rattle.book.specs.Book.{settingOf, figureOf, indexOf}
 use Rattle.values.specs.Operators.{each, settingsOf, figuresOf}
 use Rattle.exact.specs.Division.{over}
-use Rattle.values.specs.Indicator.{frequency, duration, fee, electricity, Measure, numbered, yearlyValue, yearlyValues}
+use Rattle.values.specs.Indicator.{frequency, duration, fee, electricity, numbered, yearlyValue, yearlyValues}
 use Rattle.values.proofs.Tables.{each-at, each-same}
 
 pub number-of : (number : ℕ) → number < 6 → numbered number .number ≡ number

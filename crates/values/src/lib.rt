@@ -4,7 +4,7 @@ mod columns;
 
 ghost use mathlib.Core.Path.{_≡_};
 ghost use mathlib.Core.Bool.{cond};
-ghost use Prim.Native.Nat.{ℕ, _+_, _*_, _-_, _^_, _≤_, _<_};
+ghost use Prim.Native.Nat.{ℕ, _+_, _*_, _-_, _^_, _<_};
 ghost use lib.ListN.{getD};
 ghost use Rattle.calls.specs.Masks.{has};
 ghost use Rattle.exact.specs.Division.{over};

@@ -5,7 +5,6 @@ use mathlib.Core.Path.{_≡_, refl, _∙_}
 use Prim.Native.Nat.{_+_}
 use native.Mathlib.Omega.{arith}
 use lib.ListN.{getD, length-set}
-use Rattle.apportion.specs.Sum.{sum}
 use Rattle.apportion.specs.Share.{award}
 use Rattle.apportion.proofs.Sums.{element-le, sum-set}
 use Rattle.apportion.proofs.Awarded.{HandingOut, award-step}

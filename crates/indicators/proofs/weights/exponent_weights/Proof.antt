@@ -1,7 +1,7 @@
 -- `indicators::weights::exponent_weights` meets its contract: the operators passed have their weights.
 -- Assumes nothing.
 use borrow.Author.Needs.{needs}
-use mathlib.Core.Path.{_≡_, refl, _∙_, ap}
+use mathlib.Core.Path.{refl, _∙_, ap}
 use Prim.Native.Nat.{_-_}
 use native.Mathlib.Omega.{arith}
 use Rattle.indicators.specs.Points.{normalised, exponentWeight}

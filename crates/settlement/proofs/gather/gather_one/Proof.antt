@@ -1,7 +1,6 @@
 -- `settlement::gather::gather_one` meets its contract.
 -- Assumes nothing.
 use mathlib.Core.Path.{refl, _∙_}
-use native.Mathlib.Omega.{arith}
 use Rattle.values.proofs.InRange.{lending, lending-marked, lending-measured}
 use Rattle.settlement.proofs.Gathering.{point-le}
 use borrow.Author.Needs.{needs}

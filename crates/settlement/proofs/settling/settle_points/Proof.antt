@@ -1,8 +1,10 @@
 -- `settlement::settling::settle_points` meets its contract.
 -- Assumes nothing.
-use mathlib.Core.Path.{_≡_, refl, sym, _∙_}
+use mathlib.Core.Path.{_≡_, refl, _∙_}
 use native.Mathlib.Omega.{arith}
-use lib.ListN.{length}
+use Prim.Native.Nat.{ℕ, _*_, _/_}
+use lib.ListN.{length, getD}
+use Rattle.values.specs.Operators.{each}
 use Rattle.values.specs.Bounds.{accessLimit}
 use Rattle.values.specs.Indicator.{electricity}
 use Rattle.values.proofs.Tables.{each-same}
@@ -51,7 +53,8 @@ returns c =
     let weights = weighed ∙ weights-same b electricity _ _ (charged .access-are) (gathered .totals-are) in
     let received : c .before .before .before .before .share2 .result ≡ Money·returns b electricity = shared-2 ∙ rw (pot-is, weights) refl in
     let limits-are : c .before .before .before .limits-of .result ≡ limits b =
-    capped ∙ rw (charged .cap-is, charged .incomes-are) (each-same _ _ (λ k lt. rw (income-at b k lt) refl)) in
+    capped
+    ∙ ((λ i. each (λ (k : ℕ). charged .cap-is i * getD (charged .incomes-are i) k 0 / 1000000)) ∙ each-same _ _ (λ k lt. rw (income-at b k lt) refl)) in
     rw (gathered .pools-are, gathered .points-are, pot-is, paid, received, limits-are, c .before .before .adjust .ensures, paid, received, limits-are) refl
 
 pub settle-points-spec : {M : Type 1} → statement M
