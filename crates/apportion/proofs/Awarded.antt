@@ -13,7 +13,7 @@ use lib.Seq.{getD-set-same, getD-set-other}
 use Rattle.apportion.specs.Sum.{sum}
 use Rattle.apportion.specs.Share.{foremost, award}
 use Rattle.apportion.proofs.Sums.{sum-set, sum-bound}
-use Rattle.apportion.proofs.Order.{Before, no-less, foremost-lt, foremost-first}
+use Rattle.apportion.proofs.Order.{Precedes, no-less, foremost-lt, foremost-first}
 
 -- who is served next
 abbrev pub next : List ℕ → ℕ
@@ -75,7 +75,7 @@ module _ (s : ℕ) (start base : List ℕ) where
     pub enough : units * s ≤ sum remaining
     pub each : (i : ℕ) → i < length start → Waits remaining shares i ⊎ Served remaining shares i
     pub order : (i j : ℕ) → i < length start → j < length start → getD shares i 0 ≡ getD base i 0 + 1 → getD shares j 0 ≡ getD base j 0
-        → Before (getD start i 0) i (getD start j 0) j
+        → Precedes (getD start i 0) i (getD start j 0) j
 
   -- one unit is handed out
   module _ (units : ℕ) (remaining shares : List ℕ) (pos : 0 < s) (now : Serving (suc units) remaining shares) where
@@ -116,7 +116,7 @@ module _ (s : ℕ) (start base : List ℕ) where
     small-next i lt (no other) = rw (getD-set-other remaining (next remaining) i 0 0 other) (now .small i lt)
 
     order-next : (i j : ℕ) → i < length start → j < length start → Dec (i ≡ next remaining) → Dec (j ≡ next remaining)
-        → getD more i 0 ≡ getD base i 0 + 1 → getD more j 0 ≡ getD base j 0 → Before (getD start i 0) i (getD start j 0) j
+        → getD more i 0 ≡ getD base i 0 + 1 → getD more j 0 ≡ getD base j 0 → Precedes (getD start i 0) i (getD start j 0) j
     order-next i j li lj di (yes same) ei ej =
         let one-more = incremented-same shares (next remaining) place-lt in
         absurd (omega (arith, one-more, p-waits .0, rw same at ej))
@@ -167,3 +167,10 @@ pub award-step : (units n place : ℕ) (remaining shares : List ℕ) → 0 < uni
 unfolding award
 award-step zero n place remaining shares pos long e = absurd (omega arith)
 award-step (suc units) n place remaining shares pos long e = rw (sub-one (suc units), e, ← long) refl
+
+-- handing out what is left now ends as handing out all units at the start, over n places
+pub record HandingOut (n units : ℕ) (remaining₀ shares₀ : List ℕ) (left : ℕ) (remaining shares : List ℕ) : Type 0 where
+  pub shares-long : length shares ≡ n
+  pub remaining-long : length remaining ≡ n
+  pub units-kept : sum shares + left ≡ sum shares₀ + units
+  pub ends-alike : award left remaining shares ≡ award units remaining₀ shares₀

@@ -14,7 +14,7 @@ use Rattle.apportion.specs.Sum.{sum}
 use Rattle.apportion.specs.Share.{floors, remainders, award, share}
 use Rattle.apportion.specs.Laws.{Shared}
 use Rattle.apportion.proofs.Sums.{map-at, divisions}
-use Rattle.apportion.proofs.Order.{Before}
+use Rattle.apportion.proofs.Order.{Precedes}
 use Rattle.apportion.proofs.Awarded.{Serving, awarded, award-sum}
 
 module _ (T : ℕ) (weights : List ℕ) where
@@ -96,7 +96,7 @@ module _ (T : ℕ) (weights : List ℕ) where
     served i lt = ⊎-elim (λ w. inl (w .0)) (λ v. inr (v .0, v .2)) (ended .1 .each i (rw length-remainders lt))
 
     ahead : (i j : ℕ) → i < length weights → j < length weights → getD out i 0 ≡ floorAt T weights i + 1 → getD out j 0 ≡ floorAt T weights j
-        → Before (remainderAt T weights i) i (remainderAt T weights j) j
+        → Precedes (remainderAt T weights i) i (remainderAt T weights j) j
     ahead i j li lj = ended .1 .order i j (rw length-remainders li) (rw length-remainders lj)
 
     -- T × weight, divided and put together again

@@ -3,10 +3,11 @@
 use Prim.Native.Nat.{ℕ, _+_, _≤_, _<_}
 use mathlib.Core.Path.{_≡_}
 use mathlib.Core.Logic.{_⊎_}
+use mathlib.Core.Bool.{true}
 use mathlib.Core.List.{List}
 use lib.ListN.{length, getD}
 use Rattle.apportion.specs.Sum.{sum}
-use Rattle.apportion.specs.Share.{floors, remainders, share}
+use Rattle.apportion.specs.Share.{floors, remainders, precedes, share}
 
 pub record Shared (T : ℕ) (weights : List ℕ) : Type 0 where
   -- as many shares as weights
@@ -16,10 +17,10 @@ pub record Shared (T : ℕ) (weights : List ℕ) : Type 0 where
   -- each share is the floor or one more
   pub floor-or-next : (i : ℕ) → i < length weights
       → (getD (share T weights) i 0 ≡ getD (floors T weights) i 0) ⊎ (getD (share T weights) i 0 ≡ getD (floors T weights) i 0 + 1)
-  -- whoever got a spare unit has a larger remainder than everyone who did not, or the same one and a lower place
+  -- whoever got a spare unit is served before everyone who did not
   pub order : (i j : ℕ) → i < length weights → j < length weights
       → getD (share T weights) i 0 ≡ getD (floors T weights) i 0 + 1 → getD (share T weights) j 0 ≡ getD (floors T weights) j 0
-      → (getD (remainders T weights) j 0 < getD (remainders T weights) i 0) ⊎ ((getD (remainders T weights) i 0 ≡ getD (remainders T weights) j 0) × (i < j))
+      → precedes (getD (remainders T weights) i 0) i (getD (remainders T weights) j 0) j ≡ true
   -- a place of weight 0 gets 0
   pub none : (i : ℕ) → i < length weights → getD weights i 0 ≡ 0 → getD (share T weights) i 0 ≡ 0
   -- if T is at most the sum of weights, no share passes its weight

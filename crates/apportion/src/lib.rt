@@ -2,7 +2,8 @@
 ghost use mathlib.Core.Path.{_≡_};
 ghost use Prim.Native.Nat.{_+_, _^_, _<_};
 ghost use Rattle.apportion.specs.Sum.{sum};
-ghost use Rattle.apportion.specs.Share.{floors, remainders, foremost, award, share as Share·share};
+ghost use Rattle.apportion.specs.Steps.{DividingEach};
+ghost use Rattle.apportion.specs.Share.{floors, remainders, precedes as Share·precedes, foremost, award, share as Share·share};
 
 // The floors and the remainders of all places.
 struct Divisions {
@@ -40,7 +41,7 @@ pub fn total(numbers: [u64; 16]) -> u64
 
 // t * weight / s at each place.
 fn divide_each(t: u64, weights: [u64; 16], s: u64) -> Divisions
-    requires { ⌜ (t < 2 ^ 62) × (s ≡ sum weights) × (0 < s) × (s < 2 ^ 62) ⌝ }
+    requires { ⌜ DividingEach t weights s ⌝ }
     ensures { λ r. ⌜ (r .floors ≡ floors t weights) × (r .remainders ≡ remainders t weights) ⌝ }
 {
     let mut whole = [0u64; 16];
@@ -75,17 +76,30 @@ fn award_units(units: u64, d: Divisions) -> [u64; 16]
     shares
 }
 
-// The place that is served first: the largest remainder, at a tie the lower place.
+// The place that is served first.
 fn foremost_place(remaining: [u64; 16]) -> usize
     ensures { λ r. ⌜ (r ≡ foremost remaining 16) × (r < 16) ⌝ }
 {
     let mut best = 0;
     let mut i = 1;
     while i < 16 {
-        if remaining[best] < remaining[i] {
+        if precedes(remaining[i], i, remaining[best], best) {
             best = i;
         }
         i += 1;
     }
     best
+}
+
+// Whether place i with remainder r is served before place j with remainder q: the larger remainder, at a tie the lower place.
+fn precedes(r: u64, i: usize, q: u64, j: usize) -> bool
+    ensures { λ result. ⌜ result ≡ Share·precedes r i q j ⌝ }
+{
+    if q < r {
+        return true;
+    }
+    if r < q {
+        return false;
+    }
+    i < j
 }

@@ -1,7 +1,11 @@
-// Quotient and remainder of a product that passes 64 bits, in steps of 64 bits (01: "Some products pass 64 bits; the
-// answer is exact all the same").
+// Division, rounded down; and quotient and remainder of a product, at once where it fits 64 bits and in steps of 64 bits where it passes
+// them (01: "Some products pass 64 bits; the answer is exact all the same").
 ghost use mathlib.Core.Path.{_≡_};
 ghost use Prim.Native.Nat.{_+_, _*_, _/_, _%_, _^_, _<_, _≤_};
+ghost use lib.Dec.{ltb};
+ghost use Rattle.exact.specs.Division.{over, Dividing, Appending};
+
+const LARGEST: u64 = 18446744073709551615;
 
 // What a whole division gives.
 pub struct Division {
@@ -9,10 +13,45 @@ pub struct Division {
     pub remainder: u64,
 }
 
+// Rounded down; a zero divisor gives 0.
+pub fn divide(dividend: u64, divisor: u64) -> u64
+    ensures { λ r. ⌜ (r ≡ over dividend divisor) × (r ≤ dividend) ⌝ }
+{
+    if divisor == 0 {
+        return 0;
+    }
+    dividend / divisor
+}
+
 // t * w divided by s, exact over the whole numbers. In each wide product here w is a part of a sum s, or s is the largest of some w,
 // so w ≤ s.
 pub fn divide_product(t: u64, w: u64, s: u64) -> Division
-    requires { ⌜ (0 < s) × (w ≤ s) × (s < 2 ^ 62) × (t < 2 ^ 62) ⌝ }
+    requires { ⌜ Dividing t w s ⌝ }
+    ensures { λ r. ⌜ (r .quotient ≡ t * w / s) × (r .remainder ≡ t * w % s) ⌝ }
+{
+    if product_fits(t, w) {
+        let product = t * w;
+        return Division {
+            quotient: product / s,
+            remainder: product % s,
+        };
+    }
+    divide_by_bits(t, w, s)
+}
+
+// Whether t * w fits 64 bits.
+fn product_fits(t: u64, w: u64) -> bool
+    ensures { λ r. ⌜ r ≡ ltb (t * w) (2 ^ 64) ⌝ }
+{
+    if w == 0 {
+        return true;
+    }
+    t <= LARGEST / w
+}
+
+// The same division, t taken bit by bit from the top.
+fn divide_by_bits(t: u64, w: u64, s: u64) -> Division
+    requires { ⌜ Dividing t w s ⌝ }
     ensures { λ r. ⌜ (r .quotient ≡ t * w / s) × (r .remainder ≡ t * w % s) ⌝ }
 {
     let mut k = 64 - u64::leading_zeros(t);
@@ -29,7 +68,7 @@ pub fn divide_product(t: u64, w: u64, s: u64) -> Division
 
 // The division of a product whose factor t is one bit longer: t doubled, and the bit added.
 fn append_bit(d: Division, bit: u64, w: u64, s: u64) -> Division
-    requires { ⌜ (bit < 2) × (w ≤ s) × (s < 2 ^ 62) × (d .remainder < s) × (d .quotient < 2 ^ 62) ⌝ }
+    requires { ⌜ Appending (d .quotient) (d .remainder) bit w s ⌝ }
     ensures { λ r. ⌜ (r .remainder < s) × (r .quotient * s + r .remainder ≡ 2 * (d .quotient * s + d .remainder) + bit * w) ⌝ }
 {
     let quotient = 2 * d.quotient;

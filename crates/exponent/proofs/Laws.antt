@@ -5,7 +5,7 @@ use mathlib.Core.Logic.{⊎-elim}
 use native.Mathlib.Nat.{eq-or-lt-of-le, lt-of-lt-of-le}
 use lib.Dec.{lit<}
 use native.Mathlib.Omega.{arith}
-use Rattle.exponent.specs.Weight.{weightOf, WeightsFall}
+use Rattle.exponent.specs.Weight.{firstWeight, weightOf, WeightsFall}
 use Rattle.exponent.proofs.Entries.{next}
 
 next-le : (weight : ℕ) → next weight ≤ weight
@@ -25,7 +25,7 @@ weight-mono j zero le = go j le
     go (suc j) le = absurd (omega arith)
 weight-mono j (suc k) le = ⊎-elim (λ e. rw e (omega arith)) (λ lt. omega (arith, next-le (weightOf k), weight-mono j k (omega arith))) (eq-or-lt-of-le le)
 
-pub weight-most : (k : ℕ) → weightOf k ≤ 1000000000
+pub weight-most : (k : ℕ) → weightOf k ≤ firstWeight
 unfolding weightOf
 weight-most k = weight-mono 0 k (omega arith)
 

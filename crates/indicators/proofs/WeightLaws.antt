@@ -10,15 +10,22 @@ use lib.ListN.{length, getD}
 use lib.Dec.{eqb}
 use borrow.Author.Tests.{eqb-false, ne-eqb}
 use Rattle.apportion.specs.Sum.{sum}
+use Rattle.calls.specs.Limits.{operators}
+use Rattle.exponent.specs.Weight.{firstWeight}
 use Rattle.exponent.proofs.Laws.{weight-positive, weight-most}
 use Rattle.calls.specs.Masks.{has}
 use Rattle.calls.proofs.Flags.{and-left}
 use Rattle.values.specs.Operators.{each, count}
-use Rattle.values.specs.Indicator.{Measure, over}
+use Rattle.exact.specs.Division.{over}
+use Rattle.values.specs.Indicator.{Measure}
 use Rattle.indicators.specs.Points.{largest, normalised, exponentWeight, isBetter, levelled, isLevelled, weightOfOne, weights}
 use Rattle.values.proofs.Tables.{length-each, each-at, each-le-sum, sum-each-le}
 use Rattle.values.proofs.CountLaws.{cond-le, count-le, count-positive}
 use Rattle.indicators.proofs.Largest.{largest-ge}
+
+-- all weights of the table together, the most that levelling makes of one
+abbrev pub levelledMost : ℕ
+levelledMost = operators * firstWeight
 
 -- D: "the weight is 1,000,000 - 6 × e"
 abbrev pub linearWeight : List ℕ → ℕ → ℕ
@@ -44,7 +51,7 @@ module _ (list : List ℕ) (operator : ℕ) where
   unfolding exponentWeight
   exponent-positive = weight-positive _ (normalised-most 1000)
 
-  pub exponent-most : exponentWeight list operator ≤ 1000000000
+  pub exponent-most : exponentWeight list operator ≤ firstWeight
   unfolding exponentWeight
   exponent-most = weight-most _
 
@@ -106,10 +113,10 @@ module _ (measure : Measure) (mask : ℕ) (scores : List ℕ) where
   unfolding weightOfOne
   one-better levels operator lt better = rw levels (levelled-better _ _ operator lt better)
 
-  one-most : (operator : ℕ) → weightOfOne measure mask scores operator ≤ 16000000000
+  one-most : (operator : ℕ) → weightOfOne measure mask scores operator ≤ levelledMost
   unfolding weightOfOne
   one-most operator =
-      cond-le (isLevelled measure) (levelled-most _ _ 1000000000 (exponent-most scores) operator) (omega (arith, linear-most scores operator))
+      cond-le (isLevelled measure) (levelled-most _ _ firstWeight (exponent-most scores) operator) (omega (arith, linear-most scores operator))
 
   -- the list of weights
   pub weights-length : length (weights measure mask scores) ≡ 16
@@ -132,6 +139,6 @@ module _ (measure : Measure) (mask : ℕ) (scores : List ℕ) where
   pub weight-better : (operator : ℕ) → operator < 16 → has mask operator ≡ true → 0 < getD (weights measure mask scores) operator 0
   weight-better operator lt reliable = rw (weight-reliable operator lt reliable) (one-positive operator lt)
 
-  pub weights-sum-most : sum (weights measure mask scores) ≤ 256000000000
+  pub weights-sum-most : sum (weights measure mask scores) ≤ operators * levelledMost
   unfolding weights
-  weights-sum-most = sum-each-le _ 16000000000 (λ k lt. cond-le (has mask k) (one-most k) zero-le)
+  weights-sum-most = sum-each-le _ levelledMost (λ k lt. cond-le (has mask k) (one-most k) zero-le)

@@ -1,3 +1,4 @@
 -- The definitions of `indicators`.
 pub mod Points
 pub mod Laws
+pub mod Steps

@@ -11,9 +11,10 @@ use Rattle.calls.specs.Masks.{has}
 use Rattle.book.specs.declared.Book.{Book}
 use Rattle.apportion.specs.Sum.{sum}
 use Rattle.apportion.specs.Share.{share}
+use Rattle.exact.specs.Division.{over}
 use Rattle.exponent.specs.Weight.{weightOf}
 use Rattle.values.specs.Operators.{each, count}
-use Rattle.values.specs.Indicator.{Measure, frequency, duration, fee, Indicator, over, reliableMask, pool, scores}
+use Rattle.values.specs.Indicator.{Measure, frequency, duration, fee, Indicator, reliableMask, pool, scores}
 
 -- the largest of a list
 unfoldable pub largest : List ℕ → ℕ

@@ -1,32 +1,43 @@
 // The pool of an indicator, and its points: the pool shared by the weights.
 ghost use mathlib.Core.Path.{_≡_};
-ghost use mathlib.Core.Bool.{true};
 ghost use Prim.Native.Nat.{_≤_, _<_};
-ghost use Rattle.book.specs.Book.{inRange};
-ghost use Rattle.values.specs.Indicator.{reliableMask, scores, pool, numbered};
+ghost use Rattle.book.specs.declared.Book.{Book};
+ghost use Rattle.values.specs.Bounds.{pointsMost, poolMost};
+ghost use Rattle.values.specs.Indicator.{pool, numbered};
+ghost use Rattle.values.specs.Parts.{HasMarks, HasMeasures, Within};
+ghost use Rattle.indicators.specs.Steps.{ScoresWithin};
 ghost use Rattle.indicators.specs.Points.{weights, points};
 use crate::weights::levelled_weights;
 use crate::weights::linear_weights;
 use crate::weights::ones_of;
-use book::Book;
-use values::divide;
+use exact::divide;
 use values::reliable_mask;
 use values::scores_of;
 
 // In hundredths, by operator.
-pub fn points_of(b: Book, number: u8) -> [u64; 16]
-    requires { ⌜ (inRange b ≡ true) × (number < 6) ⌝ }
-    ensures { λ r. ⌜ r ≡ points b (numbered number) ⌝ }
+pub fn points_of(
+    joined: u16,
+    marks: &[u16; 6],
+    settings: &[u64; 48],
+    figures: &[u64; 384],
+    indices: &[u32; 4],
+    number: u8,
+) -> [u64; 16]
+    requires { ⌜ Within (now settings) (now figures) (now indices) × (number < 6) ⌝ }
+    ensures { λ r. ⌜ ((b : Book) → HasMarks b joined (now (marks .entry)) → HasMeasures b (now (settings .entry)) (now (figures .entry)) (now (indices .entry)) → r ≡ points b (numbered number)) ⌝ }
 {
-    apportion::share(pool_of(b, number), weights_of(b, number))
+    let mask = reliable_mask(joined, marks, number);
+    let scores = scores_of(mask, settings, figures, indices, number);
+    apportion::share(
+        pool_of(joined, marks, number),
+        weights_of(mask, scores, number),
+    )
 }
 
-fn weights_of(b: Book, number: u8) -> [u64; 16]
-    requires { ⌜ (inRange b ≡ true) × (number < 6) ⌝ }
-    ensures { λ r. ⌜ r ≡ weights (numbered number .measure) (reliableMask b (numbered number)) (scores b (numbered number)) ⌝ }
+fn weights_of(mask: u16, scores: [u64; 16], number: u8) -> [u64; 16]
+    requires { ⌜ ScoresWithin scores × (number < 6) ⌝ }
+    ensures { λ r. ⌜ r ≡ weights (numbered number .measure) mask scores ⌝ }
 {
-    let mask = reliable_mask(b, number);
-    let scores = scores_of(b, number);
     if number < 4 {
         return levelled_weights(mask, scores);
     }
@@ -34,19 +45,19 @@ fn weights_of(b: Book, number: u8) -> [u64; 16]
 }
 
 // In hundredths.
-pub fn pool_of(b: Book, number: u8) -> u64
+pub fn pool_of(joined: u16, marks: &[u16; 6], number: u8) -> u64
     requires { ⌜ number < 6 ⌝ }
-    ensures { λ r. ⌜ (r ≡ pool b (numbered number)) × (r ≤ 739200) ⌝ }
+    ensures { λ r. ⌜ ((b : Book) → HasMarks b joined (now (marks .entry)) → r ≡ pool b (numbered number)) × (r ≤ poolMost) ⌝ }
 {
     divide(
-        300 * points_a_year(number) * ones_of(reliable_mask(b, number)),
-        ones_of(b.joined),
+        300 * points_a_year(number) * ones_of(reliable_mask(joined, marks, number)),
+        ones_of(joined),
     )
 }
 
 fn points_a_year(number: u8) -> u64
     requires { ⌜ number < 6 ⌝ }
-    ensures { λ r. ⌜ (r ≡ numbered number .points) × (r ≤ 154) ⌝ }
+    ensures { λ r. ⌜ (r ≡ numbered number .points) × (r ≤ pointsMost) ⌝ }
 {
     match number {
         0 => 154,

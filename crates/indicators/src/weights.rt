@@ -1,21 +1,24 @@
 // Weights of an indicator from the scores of those that take part: normalised, weighed and, for A indicators, levelled.
 ghost use mathlib.Core.Path.{_≡_};
 ghost use mathlib.Core.Bool.{true, false, cond, _&&_};
-ghost use Prim.Native.Nat.{ℕ, _-_, _*_, _≤_, max};
+ghost use Prim.Native.Nat.{ℕ, _-_, _*_, _≤_, _<_, max};
 ghost use lib.Count.{ones};
 ghost use lib.Dec.{ltb, eqb};
 ghost use lib.ListN.{getD};
 ghost use Rattle.calls.specs.Limits.{operators};
 ghost use Rattle.calls.specs.Masks.{has};
 ghost use Rattle.apportion.specs.Sum.{sum as Sum·sum};
+ghost use Rattle.values.specs.Bounds.{scoreMost};
 ghost use Rattle.values.specs.Operators.{each, count};
-ghost use Rattle.values.specs.Indicator.{Measure, over};
+ghost use Rattle.exact.specs.Division.{over};
+ghost use Rattle.values.specs.Indicator.{Measure};
+ghost use Rattle.indicators.specs.Steps.{ScoresWithin, NormalisingAsked, WeighingAsked, LevellingAsked};
 ghost use Rattle.indicators.specs.Points.{largest, exponentWeight, isBetter, isLevelled, weights};
 use calls::has_bit;
 
 // A indicators: better operators share alike.
 pub(crate) fn levelled_weights(mask: u16, scores: [u64; 16]) -> [u64; 16]
-    requires { ⌜ ((place : ℕ) → getD scores place 0 ≤ 300000000000000000) ⌝ }
+    requires { ⌜ ScoresWithin scores ⌝ }
     ensures { λ r. ⌜ ((measure : Measure) → isLevelled measure ≡ true → r ≡ weights measure mask scores) ⌝ }
 {
     let own = exponent_weights(scores);
@@ -33,7 +36,7 @@ pub(crate) fn levelled_weights(mask: u16, scores: [u64; 16]) -> [u64; 16]
 
 // D indicators.
 pub(crate) fn linear_weights(mask: u16, scores: [u64; 16]) -> [u64; 16]
-    requires { ⌜ ((place : ℕ) → getD scores place 0 ≤ 300000000000000000) ⌝ }
+    requires { ⌜ ScoresWithin scores ⌝ }
     ensures { λ r. ⌜ ((measure : Measure) → isLevelled measure ≡ false → r ≡ weights measure mask scores) ⌝ }
 {
     let top = largest_of(scores);
@@ -48,14 +51,15 @@ pub(crate) fn linear_weights(mask: u16, scores: [u64; 16]) -> [u64; 16]
 
 // The table's weight of each score's thousandths of the largest.
 fn exponent_weights(scores: [u64; 16]) -> [u64; 16]
-    requires { ⌜ ((place : ℕ) → getD scores place 0 ≤ 300000000000000000) ⌝ }
+    requires { ⌜ ScoresWithin scores ⌝ }
     ensures { λ r. ⌜ r ≡ each (exponentWeight scores) ⌝ }
 {
     let top = largest_of(scores);
+    let table = exponent::all_weights();
     let mut weights = [0u64; 16];
     let mut i = 0;
     while i < 16 {
-        weights[i] = exponent::weight(normalise(1000, scores[i], top) as usize);
+        weights[i] = table[normalise(1000, scores[i], top) as usize];
         i += 1;
     }
     weights
@@ -63,7 +67,7 @@ fn exponent_weights(scores: [u64; 16]) -> [u64; 16]
 
 // A score as so many parts of the largest.
 fn normalise(parts: u64, score: u64, top: u64) -> u64
-    requires { ⌜ (parts ≤ 100000) × (score ≤ top) × (top ≤ 300000000000000000) ⌝ }
+    requires { ⌜ NormalisingAsked parts score top ⌝ }
     ensures { λ r. ⌜ (r ≡ over (parts * score) top) × (r ≤ parts) ⌝ }
 {
     if top == 0 {
@@ -96,7 +100,7 @@ fn larger(a: u64, b: u64) -> u64
 
 // Better than the mean of those that take part.
 fn is_better(mask: u16, score: u64, sum: u64, operator: u8) -> bool
-    requires { ⌜ score ≤ 300000000000000000 ⌝ }
+    requires { ⌜ score ≤ scoreMost ⌝ }
     ensures { λ r. ⌜ r ≡ has mask operator && ltb (ones mask * score) sum ⌝ }
 {
     if !has_bit(mask, operator) {
@@ -113,7 +117,7 @@ pub(crate) fn ones_of(mask: u16) -> u64
 }
 
 fn count_better(mask: u16, scores: [u64; 16], sum: u64) -> u64
-    requires { ⌜ ((place : ℕ) → getD scores place 0 ≤ 300000000000000000) × (sum ≡ Sum·sum scores) ⌝ }
+    requires { ⌜ ScoresWithin scores × (sum ≡ Sum·sum scores) ⌝ }
     ensures { λ r. ⌜ (r ≡ count operators (isBetter mask scores)) × (r ≤ 16) ⌝ }
 {
     let mut g = 0;
@@ -129,7 +133,7 @@ fn count_better(mask: u16, scores: [u64; 16], sum: u64) -> u64
 
 // The better operators' weights together.
 fn weigh_better(mask: u16, scores: [u64; 16], sum: u64, own: [u64; 16]) -> u64
-    requires { ⌜ ((place : ℕ) → getD scores place 0 ≤ 300000000000000000) × (sum ≡ Sum·sum scores) × ((k : ℕ) → getD own k 0 ≤ 1000000000) ⌝ }
+    requires { ⌜ WeighingAsked scores own sum ⌝ }
     ensures { λ r. ⌜ r ≡ Sum·sum (each (λ (operator : ℕ). cond (isBetter mask scores operator) (getD own operator 0) 0)) ⌝ }
 {
     let mut counted = [0u64; 16];
@@ -142,7 +146,7 @@ fn weigh_better(mask: u16, scores: [u64; 16], sum: u64, own: [u64; 16]) -> u64
 }
 
 fn weight_if_better(mask: u16, score: u64, sum: u64, operator: u8, own: u64) -> u64
-    requires { ⌜ score ≤ 300000000000000000 ⌝ }
+    requires { ⌜ score ≤ scoreMost ⌝ }
     ensures { λ r. ⌜ r ≡ cond (has mask operator && ltb (ones mask * score) sum) own 0 ⌝ }
 {
     if is_better(mask, score, sum, operator) {
@@ -161,7 +165,7 @@ fn levelled_weight(
     together: u64,
     own: u64,
 ) -> u64
-    requires { ⌜ (score ≤ 300000000000000000) × (g ≤ 16) × (own ≤ 1000000000) ⌝ }
+    requires { ⌜ LevellingAsked score g own ⌝ }
     ensures { λ r. ⌜ r ≡ cond (has mask operator) (cond (eqb g 0) own (cond (has mask operator && ltb (ones mask * score) sum) together (g * own))) 0 ⌝ }
 {
     if !has_bit(mask, operator) {
@@ -177,7 +181,7 @@ fn levelled_weight(
 }
 
 fn linear_weight(mask: u16, score: u64, top: u64, operator: u8) -> u64
-    requires { ⌜ (score ≤ top) × (top ≤ 300000000000000000) ⌝ }
+    requires { ⌜ (score ≤ top) × (top ≤ scoreMost) ⌝ }
     ensures { λ r. ⌜ r ≡ cond (has mask operator) (1000000 - 6 * over (100000 * score) top) 0 ⌝ }
 {
     if !has_bit(mask, operator) {

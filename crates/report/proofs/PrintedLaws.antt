@@ -21,8 +21,9 @@ use Rattle.indicators.proofs.WeightLaws.{weights-length}
 use Rattle.settlement.specs.declared.Settlement.{Settlement}
 use Rattle.settlement.specs.Settlement.{pointsOfAll, settlementBy, settled}
 use Rattle.settlement.specs.Laws.{Settles, Balanced}
-use Rattle.settlement.proofs.InRange.{pot-le}
-use Rattle.settlement.proofs.Amounts.{limit-most}
+use Rattle.calls.specs.Limits.{operators}
+use Rattle.values.specs.Bounds.{poolMost}
+use Rattle.settlement.proofs.Amounts.{pot-most, limit-most}
 use Rattle.settlement.proofs.Gathering.{share-le, pool-le}
 use Rattle.settlement.proofs.SettledLaws.{worth-electricity, settles-exactly, settles-ranged, settled-so, balanced-if-settles}
 use Rattle.text.specs.Text.{bytesOf, decimal}
@@ -100,9 +101,9 @@ module _ (b : Book) where
   -- indicators whose pools stay below a bound
   Modest : List Indicator → Type 0
   Modest [] = Unit {0}
-  Modest (indicator ∷ rest) = (pool b indicator ≤ 739200) × Modest rest
+  Modest (indicator ∷ rest) = (pool b indicator ≤ poolMost) × Modest rest
 
-  all-points-le : (indicators : List Indicator) → Modest indicators → sum (pointsOfAll b indicators) ≤ length indicators * 11827200
+  all-points-le : (indicators : List Indicator) → Modest indicators → sum (pointsOfAll b indicators) ≤ length indicators * (operators * poolMost)
   unfolding Modest pointsOfAll points sum
   all-points-le [] modest = omega arith
   all-points-le (indicator ∷ rest) modest =
@@ -135,8 +136,8 @@ module _ (b : Book) where
     settlement-printable =
         record {
           points-few = omega (arith, rw six-indicators at (all-points-le electricity modest-electricity));
-          contributions-few = omega (arith, balanced .contributions-whole, pot-le b ranged);
-          returns-few = omega (arith, balanced .returns-whole, pot-le b ranged);
+          contributions-few = omega (arith, balanced .contributions-whole, pot-most b ranged);
+          returns-few = omega (arith, balanced .returns-whole, pot-most b ranged);
           adjustments-small = λ operator lt. omega (arith, balanced .within-limits operator lt, limit-most b ranged operator lt);
           adjustments-cancel = balanced .adjustments-cancel;
         }

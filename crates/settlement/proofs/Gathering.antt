@@ -9,8 +9,8 @@ use native.Mathlib.Omega.{arith}
 use native.Mathlib.Decide.{decLt}
 use lib.Bits.{bitAnd, and-le-r}
 use lib.Count.{ones-le}
-use lib.ListN.{length, getD, set, take, length-set, List·getD-eq-default, replicate}
-use lib.Seq.{paste, take-suc, take-suc-set, take-paste, length-paste, take-all}
+use lib.ListN.{length, getD, take, length-set, List·getD-eq-default, replicate}
+use lib.Seq.{take-suc, take-suc-set, take-paste, length-paste, take-all}
 use Rattle.book.specs.declared.Book.{Book}
 use Rattle.apportion.specs.Sum.{sum}
 use Rattle.apportion.specs.Share.{share}
@@ -23,6 +23,8 @@ use Rattle.values.proofs.Scores.{over-le}
 use Rattle.indicators.proofs.PointLaws.{points-length}
 use Rattle.settlement.specs.declared.gather.Gathered.{Gathered}
 use Rattle.settlement.specs.Settlement.{pointsOfAll}
+use Rattle.settlement.specs.Steps.{OneGathered, AllGathered}
+use Rattle.values.specs.Bounds.{pointsMost, poolMost}
 use Rattle.values.proofs.Tables.{length-each, each-at, each-same}
 
 -- no share passes the total
@@ -37,7 +39,7 @@ share-le T list place = go (decLt 0 (sum list)) (decLt place (length list))
         let past : length (share T list) ≤ place = omega (arith, shared T list .long, outside) in
         rw (List·getD-eq-default (share T list) 0 past) (omega arith)
 
-points-most : (number : ℕ) → number < 6 → numbered number .points ≤ 154
+points-most : (number : ℕ) → number < 6 → numbered number .points ≤ pointsMost
 unfolding numbered electricity
 points-most zero lt = omega arith
 points-most (suc zero) lt = omega arith
@@ -47,7 +49,7 @@ points-most (suc (suc (suc (suc zero)))) lt = omega arith
 points-most (suc (suc (suc (suc (suc zero))))) lt = omega arith
 points-most (suc (suc (suc (suc (suc (suc n)))))) lt = absurd (omega arith)
 
-pub pool-le : (b : Book) (number : ℕ) → number < 6 → pool b (numbered number) ≤ 739200
+pub pool-le : (b : Book) (number : ℕ) → number < 6 → pool b (numbered number) ≤ poolMost
 unfolding pool reliableMask
 pool-le b number lt =
     let mask : ℕ = bitAnd (b .joined) (65535 - getD (b .marks) (numbered number .number) 0) in
@@ -55,7 +57,7 @@ pool-le b number lt =
     let product = mul-le-mul (points-most number lt) (ones-le 16 mask small) in
     le-trans (over-le _ _) (omega (arith, product))
 
-pub point-le : (b : Book) (number : ℕ) → number < 6 → (operator : ℕ) → getD (points b (numbered number)) operator 0 ≤ 739200
+pub point-le : (b : Book) (number : ℕ) → number < 6 → (operator : ℕ) → getD (points b (numbered number)) operator 0 ≤ poolMost
 unfolding points
 point-le b number lt operator = le-trans (share-le _ _ operator) (pool-le b number lt)
 
@@ -90,7 +92,7 @@ pub record Gathers (b : Book) (n : ℕ) (g : Gathered) : Type 0 where
   pub points-long : length (g .points) ≡ 96
   pub points-so-far : take (16 * n) (g .points) ≡ pointsOfAll b (firsts n)
   pub totals-are : g .totals ≡ each (allPoints b (firsts n))
-  pub totals-most : (k : ℕ) → getD (g .totals) k 0 ≤ n * 739200
+  pub totals-most : (k : ℕ) → getD (g .totals) k 0 ≤ n * poolMost
 
 -- two lists added, operator by operator
 abbrev added : List ℕ → List ℕ → List ℕ
@@ -111,31 +113,30 @@ totals-more b n g lt so-far =
     (λ k lk. rw (one-more n lt, totals-snoc b (firsts n) (numbered n) k, so-far .totals-are, each-at (allPoints b (firsts n)) k lk) refl)
 
 module _ (b : Book) (n : ℕ) (g more : Gathered) (lt : n < 6) (so-far : Gathers b n g) where
-  pub gathers-more : more .pools ≡ set (g .pools) n (pool b (numbered n)) → more .points ≡ paste (g .points) (16 * n) (points b (numbered n)) 16
-      → more .totals ≡ added (g .totals) (points b (numbered n)) → Gathers b (n + 1) more
-  gathers-more pools-are points-are totals-are =
+  pub gathers-more : OneGathered b n g more → Gathers b (n + 1) more
+  gathers-more one =
       let sixteen : length (points b (numbered n)) ≡ 16 = points-length b (numbered n) in
       let room : 16 * n + 16 ≤ length (g .points) = omega (arith, so-far .points-long) in
       record {
-        pools-long = ap length pools-are ∙ length-set (g .pools) n _ ∙ so-far .pools-long;
+        pools-long = ap length (one .pools-are) ∙ length-set (g .pools) n _ ∙ so-far .pools-long;
         pools-so-far =
-            ap (take (n + 1)) pools-are
+            ap (take (n + 1)) (one .pools-are)
             ∙ (rw add-one (take-suc-set (g .pools) n _ (omega (arith, so-far .pools-long))))
             ∙ ap (λ (l : List ℕ). l ++ (pool b (numbered n) ∷ [])) (so-far .pools-so-far)
             ∙ sym (ap (map (pool b)) (one-more n lt) ∙ pools-snoc b (firsts n) (numbered n));
         points-long =
-            ap length points-are
+            ap length (one .points-are)
             ∙ length-paste (g .points) (16 * n) (points b (numbered n)) 16 room (omega (arith, sixteen))
             ∙ so-far .points-long;
         points-so-far =
             let shifted : 16 * (n + 1) ≡ 16 * n + 16 = omega arith in
-            rw (shifted, points-are)
+            rw (shifted, one .points-are)
             (take-paste (g .points) (16 * n) (points b (numbered n)) 16 (omega (arith, room)) (omega (arith, sixteen))
             ∙ (rw (take-all 16 (points b (numbered n)) (omega (arith, sixteen)), so-far .points-so-far)
             (sym (ap (pointsOfAll b) (one-more n lt) ∙ points-snoc b (firsts n) (numbered n)))));
-        totals-are = totals-are ∙ totals-more b n g lt so-far;
+        totals-are = one .totals-are ∙ totals-more b n g lt so-far;
         totals-most = λ k.
-            rw totals-are (omega (arith, added-le (g .totals) (points b (numbered n)) (n * 739200) 739200 (so-far .totals-most) (point-le b n lt) k));
+            rw (one .totals-are) (omega (arith, added-le (g .totals) (points b (numbered n)) (n * poolMost) poolMost (so-far .totals-most) (point-le b n lt) k));
       }
 
 zeros : (n k : ℕ) → getD (replicate n 0) k 0 ≤ 0
@@ -155,12 +156,12 @@ gathers-none b =
       totals-most = λ k. zeros 16 k;
     }
 
-pub gathers-all : (b : Book) (g : Gathered) → Gathers b 6 g
-    → (g .pools ≡ map (pool b) electricity) × (g .points ≡ pointsOfAll b electricity) × (g .totals ≡ each (allPoints b electricity)) × ((k : ℕ) → getD (g .totals) k 0 ≤ 5000000)
+pub gathers-all : (b : Book) (g : Gathered) → Gathers b 6 g → AllGathered b g
 unfolding electricity
-gathers-all b g so-far = (
-  sym (take-all 6 (g .pools) (omega (arith, so-far .pools-long))) ∙ so-far .pools-so-far,
-  sym (take-all 96 (g .points) (omega (arith, so-far .points-long))) ∙ so-far .points-so-far,
-  so-far .totals-are,
-  λ k. omega (arith, so-far .totals-most k),
-)
+gathers-all b g so-far =
+    record {
+      pools-are = sym (take-all 6 (g .pools) (omega (arith, so-far .pools-long))) ∙ so-far .pools-so-far;
+      points-are = sym (take-all 96 (g .points) (omega (arith, so-far .points-long))) ∙ so-far .points-so-far;
+      totals-are = so-far .totals-are;
+      totals-most = λ k. omega (arith, so-far .totals-most k);
+    }

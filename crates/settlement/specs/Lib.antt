@@ -2,3 +2,4 @@
 pub mod Money
 pub mod Settlement
 pub mod Laws
+pub mod Steps

@@ -1,16 +1,13 @@
 // The points of all indicators, each worked out once: pools, points one after the other, and each operator's total.
 ghost use mathlib.Core.Path.{_≡_};
-ghost use mathlib.Core.Bool.{true};
-ghost use mathlib.Core.List.{map};
 ghost use Prim.Native.Nat.{ℕ, _+_, _*_, _≤_, _<_};
-ghost use lib.ListN.{getD, set};
+ghost use lib.ListN.{getD};
 ghost use lib.Seq.{paste};
-ghost use Rattle.book.specs.Book.{inRange};
+ghost use Rattle.book.specs.declared.Book.{Book};
+ghost use Rattle.values.specs.Bounds.{poolMost, totalMost};
 ghost use Rattle.values.specs.Operators.{each};
-ghost use Rattle.values.specs.Indicator.{electricity, numbered, pool};
-ghost use Rattle.indicators.specs.Points.{points, allPoints};
-ghost use Rattle.settlement.specs.Settlement.{pointsOfAll};
-use book::Book;
+ghost use Rattle.values.specs.Parts.{HasMarks, HasMeasures, Within};
+ghost use Rattle.settlement.specs.Steps.{GatheringAsked, OneGathered, AllGathered};
 use indicators::points_of;
 use indicators::pool_of;
 
@@ -20,9 +17,15 @@ pub(crate) struct Gathered {
     pub totals: [u64; 16],
 }
 
-pub(crate) fn gather(b: Book) -> Gathered
-    requires { ⌜ inRange b ≡ true ⌝ }
-    ensures { λ r. ⌜ (r .pools ≡ map (pool b) electricity) × (r .points ≡ pointsOfAll b electricity) × (r .totals ≡ each (allPoints b electricity)) × ((k : ℕ) → getD (r .totals) k 0 ≤ 5000000) ⌝ }
+pub(crate) fn gather(
+    joined: u16,
+    marks: &[u16; 6],
+    settings: &[u64; 48],
+    figures: &[u64; 384],
+    indices: &[u32; 4],
+) -> Gathered
+    requires { ⌜ Within (now settings) (now figures) (now indices) ⌝ }
+    ensures { λ r. ⌜ ((b : Book) → HasMarks b joined (now (marks .entry)) → HasMeasures b (now (settings .entry)) (now (figures .entry)) (now (indices .entry)) → AllGathered b r) ⌝ }
 {
     let mut g = Gathered {
         pools: [0u64; 6],
@@ -31,19 +34,27 @@ pub(crate) fn gather(b: Book) -> Gathered
     };
     let mut number = 0;
     while number < 6 {
-        g = gather_one(g, b, number);
+        g = gather_one(g, joined, marks, settings, figures, indices, number);
         number += 1;
     }
     g
 }
 
-fn gather_one(g: Gathered, b: Book, number: u8) -> Gathered
-    requires { ⌜ (inRange b ≡ true) × (number < 6) × ((k : ℕ) → getD (g .totals) k 0 ≤ 4000000) ⌝ }
-    ensures { λ r. ⌜ (r .pools ≡ set (g .pools) number (pool b (numbered number))) × (r .points ≡ paste (g .points) (16 * number) (points b (numbered number)) 16) × (r .totals ≡ each (λ (k : ℕ). getD (g .totals) k 0 + getD (points b (numbered number)) k 0)) ⌝ }
+fn gather_one(
+    g: Gathered,
+    joined: u16,
+    marks: &[u16; 6],
+    settings: &[u64; 48],
+    figures: &[u64; 384],
+    indices: &[u32; 4],
+    number: u8,
+) -> Gathered
+    requires { ⌜ GatheringAsked (now settings) (now figures) (now indices) (g .totals) number ⌝ }
+    ensures { λ r. ⌜ ((b : Book) → HasMarks b joined (now (marks .entry)) → HasMeasures b (now (settings .entry)) (now (figures .entry)) (now (indices .entry)) → OneGathered b number g r) ⌝ }
 {
-    let shares = points_of(b, number);
+    let shares = points_of(joined, marks, settings, figures, indices, number);
     let mut pools = g.pools;
-    pools[number as usize] = pool_of(b, number);
+    pools[number as usize] = pool_of(joined, marks, number);
     let list = g.points;
     let points = place(list, 16 * number as usize, shares);
     let sums = g.totals;
@@ -70,7 +81,7 @@ fn place(list: [u64; 96], at: usize, shares: [u64; 16]) -> [u64; 96]
 }
 
 fn add(list: [u64; 16], other: [u64; 16]) -> [u64; 16]
-    requires { ⌜ ((k : ℕ) → getD list k 0 ≤ 5000000) × ((k : ℕ) → getD other k 0 ≤ 5000000) ⌝ }
+    requires { ⌜ ((k : ℕ) → getD list k 0 ≤ totalMost) × ((k : ℕ) → getD other k 0 ≤ poolMost) ⌝ }
     ensures { λ r. ⌜ r ≡ each (λ (k : ℕ). getD list k 0 + getD other k 0) ⌝ }
 {
     let mut out = [0u64; 16];

@@ -1,46 +1,32 @@
-// Money by operator: settings, the pot, limits, the weights of returns, and what cut and balanced sides come to.
+// Money by operator: the pot, limits, the weights of returns, and what cut and balanced sides come to.
 ghost use mathlib.Core.Path.{_≡_};
-ghost use mathlib.Core.Bool.{true};
-ghost use Prim.Native.Nat.{ℕ, _*_, _-_, _^_, _≤_, _<_, min};
+ghost use Prim.Native.Nat.{ℕ, _*_, _/_, _-_, _^_, _≤_, _<_, min};
 ghost use lib.IntN.{subℕ};
 ghost use lib.ListN.{getD};
-ghost use Rattle.calls.specs.Limits.{operators};
+ghost use Rattle.calls.specs.Limits.{operators, rateLimit};
 ghost use Rattle.apportion.specs.Sum.{sum};
-ghost use Rattle.book.specs.Book.{inRange};
-ghost use Rattle.values.specs.Operators.{table, each, settingsOf};
-ghost use Rattle.settlement.specs.Money.{pot, limits, capped, balanced};
+ghost use Rattle.values.specs.Bounds.{accessLimit, incomeLimit, totalMost, potMost, limitMost};
+ghost use Rattle.values.specs.Operators.{table, each};
+ghost use Rattle.settlement.specs.Money.{capped, balanced};
 use apportion::share;
 use apportion::total;
-use book::Book;
-use values::settings_of;
 
 const MILLION: u64 = 1000000;
 
-pub(crate) fn access_points_of(b: Book) -> [u64; 16]
-    ensures { λ r. ⌜ r ≡ settingsOf b 1 ⌝ }
+// A rate of all incomes.
+pub(crate) fn pot_of(rate: u32, incomes: [u64; 16]) -> u64
+    requires { ⌜ (rate ≤ rateLimit) × ((k : ℕ) → getD incomes k 0 ≤ incomeLimit) ⌝ }
+    ensures { λ r. ⌜ (r ≡ rate * sum incomes / 1000000) × (r ≤ potMost) ⌝ }
 {
-    settings_of(b, 1)
+    rate as u64 * total(incomes) / MILLION
 }
 
-pub(crate) fn incomes_of(b: Book) -> [u64; 16]
-    ensures { λ r. ⌜ r ≡ settingsOf b 2 ⌝ }
+// A rate of each income.
+pub(crate) fn limits_of(rate: u32, incomes: [u64; 16]) -> [u64; 16]
+    requires { ⌜ (rate ≤ rateLimit) × ((k : ℕ) → getD incomes k 0 ≤ incomeLimit) ⌝ }
+    ensures { λ r. ⌜ (r ≡ each (λ (operator : ℕ). rate * getD incomes operator 0 / 1000000)) × ((k : ℕ) → getD r k 0 ≤ limitMost) ⌝ }
 {
-    settings_of(b, 2)
-}
-
-pub(crate) fn pot_of(b: Book) -> u64
-    requires { ⌜ inRange b ≡ true ⌝ }
-    ensures { λ r. ⌜ (r ≡ pot b) × (r ≤ 32000000000) ⌝ }
-{
-    b.pot_rate as u64 * total(incomes_of(b)) / MILLION
-}
-
-pub(crate) fn limits_of(b: Book) -> [u64; 16]
-    requires { ⌜ inRange b ≡ true ⌝ }
-    ensures { λ r. ⌜ r ≡ limits b ⌝ }
-{
-    let incomes = incomes_of(b);
-    let cap = b.cap_rate as u64;
+    let cap = rate as u64;
     let mut out = [0u64; 16];
     let mut operator = 0;
     while operator < 16 {
@@ -52,8 +38,8 @@ pub(crate) fn limits_of(b: Book) -> [u64; 16]
 
 // Access points times the points of all indicators.
 pub(crate) fn return_weights(access: [u64; 16], totals: [u64; 16]) -> [u64; 16]
-    requires { ⌜ ((k : ℕ) → k < 16 → getD access k 0 ≤ 4000000) × ((k : ℕ) → k < 16 → getD totals k 0 ≤ 5000000) ⌝ }
-    ensures { λ r. ⌜ r ≡ each (λ (operator : ℕ). getD access operator 0 * getD totals operator 0) ⌝ }
+    requires { ⌜ ((k : ℕ) → k < 16 → getD access k 0 ≤ accessLimit) × ((k : ℕ) → k < 16 → getD totals k 0 ≤ totalMost) ⌝ }
+    ensures { λ r. ⌜ (r ≡ each (λ (operator : ℕ). getD access operator 0 * getD totals operator 0)) × (sum r ≤ operators * (accessLimit * totalMost)) ⌝ }
 {
     let mut out = [0u64; 16];
     let mut operator = 0;

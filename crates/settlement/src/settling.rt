@@ -5,14 +5,19 @@ ghost use lib.Dec.{eqb};
 ghost use Prim.Native.Nat.{ℕ, _≤_, _<_};
 ghost use lib.ListN.{getD};
 ghost use Rattle.calls.specs.Answers.{refused-by, numberOf, said};
-ghost use Rattle.book.specs.Book.{isJoined, settingOf, inRange};
+ghost use Rattle.calls.specs.Masks.{has};
+ghost use Rattle.book.specs.Book.{inRange};
+ghost use Rattle.values.specs.Bounds.{limitMost};
+ghost use Rattle.values.specs.Operators.{settingsOf};
+ghost use Rattle.values.specs.Parts.{HasMarks};
 ghost use Rattle.values.specs.Indicator.{electricity};
 ghost use Rattle.settlement.specs.Money.{adjustedBy};
+ghost use Rattle.settlement.specs.Steps.{AllGathered, HasCharges, Payable};
 ghost use Rattle.settlement.specs.Settlement.{networkMissing, allMarked, settlementBy, nothing, settled};
 use crate::Settled;
 use crate::Settlement;
+use crate::gather::Gathered;
 use crate::gather::gather;
-use crate::money::access_points_of;
 use crate::money::balanced_side;
 use crate::money::capped_side;
 use crate::money::differences;
@@ -22,11 +27,11 @@ use crate::money::return_weights;
 use apportion::share;
 use book::Book;
 use book::in_range;
-use book::is_joined;
-use book::setting_of;
 use calls::Answer;
 use calls::Refusal;
+use calls::has_bit;
 use values::reliable_mask;
+use values::settings_of;
 
 // The settlement of a book, or its refusal with all numbers 0. The book is unchanged.
 pub fn settle(b: Book) -> Settled
@@ -38,10 +43,14 @@ pub fn settle(b: Book) -> Settled
     if b.joined == 0 {
         return refuse(Refusal::NoneJoined);
     }
-    if network_missing(b) {
+    let settings = b.settings;
+    let cabins = settings_of(&settings, 0);
+    let access = settings_of(&settings, 1);
+    if network_missing(b.joined, cabins, access) {
         return refuse(Refusal::NetworkMissing);
     }
-    if all_marked(b) {
+    let marks = b.marks;
+    if all_marked(b.joined, &marks) {
         return refuse(Refusal::AllMarked);
     }
     Settled {
@@ -68,12 +77,12 @@ fn refuse(refusal: Refusal) -> Settled
 }
 
 // Whether a joined operator has no cabins or no access points.
-fn network_missing(b: Book) -> bool
-    ensures { λ r. ⌜ r ≡ networkMissing b ⌝ }
+fn network_missing(joined: u16, cabins: [u64; 16], access: [u64; 16]) -> bool
+    ensures { λ r. ⌜ ((b : Book) → b .joined ≡ joined → cabins ≡ settingsOf b 0 → access ≡ settingsOf b 1 → r ≡ networkMissing b) ⌝ }
 {
     let mut operator = 0;
     while operator < 16 {
-        if lacks_network(b, operator) {
+        if lacks_network(joined, operator as u8, cabins[operator], access[operator]) {
             return true;
         }
         operator += 1;
@@ -81,27 +90,25 @@ fn network_missing(b: Book) -> bool
     false
 }
 
-fn lacks_network(b: Book, operator: u8) -> bool
-    requires { ⌜ operator < 16 ⌝ }
-    ensures { λ r. ⌜ r ≡ isJoined b operator && (eqb (settingOf b operator 0) 0 || eqb (settingOf b operator 1) 0) ⌝ }
+fn lacks_network(joined: u16, operator: u8, cabins: u64, access: u64) -> bool
+    ensures { λ r. ⌜ r ≡ has joined operator && (eqb cabins 0 || eqb access 0) ⌝ }
 {
-    if !is_joined(b, operator) {
+    if !has_bit(joined, operator) {
         return false;
     }
-    if setting_of(b, operator, 0) == 0 {
+    if cabins == 0 {
         return true;
     }
-    setting_of(b, operator, 1) == 0
+    access == 0
 }
 
 // Whether nobody takes part at any indicator.
-fn all_marked(b: Book) -> bool
-    requires { ⌜ inRange b ≡ true ⌝ }
-    ensures { λ r. ⌜ r ≡ allMarked b electricity ⌝ }
+fn all_marked(joined: u16, marks: &[u16; 6]) -> bool
+    ensures { λ r. ⌜ ((b : Book) → inRange b ≡ true → HasMarks b joined (now (marks .entry)) → r ≡ allMarked b electricity) ⌝ }
 {
     let mut number = 0;
     while number < 6 {
-        if reliable_mask(b, number) != 0 {
+        if reliable_mask(joined, marks, number) != 0 {
             return false;
         }
         number += 1;
@@ -109,17 +116,37 @@ fn all_marked(b: Book) -> bool
     true
 }
 
+// The parts of the book are taken out once, and lent.
 fn settle_in_range(b: Book) -> Settlement
     requires { ⌜ inRange b ≡ true ⌝ }
     ensures { λ r. ⌜ r ≡ settlementBy b electricity ⌝ }
 {
-    let g = gather(b);
+    let marks = b.marks;
+    let settings = b.settings;
+    let figures = b.figures;
+    let indices = b.indices;
+    let g = gather(b.joined, &marks, &settings, &figures, &indices);
+    let access = settings_of(&settings, 1);
+    let incomes = settings_of(&settings, 2);
+    settle_points(g, access, incomes, b.pot_rate, b.cap_rate)
+}
+
+// From points to adjustments, at these rates.
+fn settle_points(
+    g: Gathered,
+    access: [u64; 16],
+    incomes: [u64; 16],
+    pot_rate: u32,
+    cap_rate: u32,
+) -> Settlement
+    requires { ⌜ Payable (g .totals) access incomes «pot_rate» «cap_rate» ⌝ }
+    ensures { λ r. ⌜ ((b : Book) → AllGathered b g → HasCharges b access incomes «pot_rate» «cap_rate» → r ≡ settlementBy b electricity) ⌝ }
+{
     let totals = g.totals;
-    let pot = pot_of(b);
-    let access = access_points_of(b);
+    let pot = pot_of(pot_rate, incomes);
     let contributions = share(pot, access);
     let returns = share(pot, return_weights(access, totals));
-    let limits = limits_of(b);
+    let limits = limits_of(cap_rate, incomes);
     let adjustments = adjust(returns, contributions, limits);
     let pools = g.pools;
     let points = g.points;
@@ -136,7 +163,7 @@ fn settle_in_range(b: Book) -> Settlement
 
 // What is received less what is paid, each cut to its limit, and the larger side shared again.
 fn adjust(received: [u64; 16], paid: [u64; 16], limits: [u64; 16]) -> [i64; 16]
-    requires { ⌜ ((k : ℕ) → k < 16 → getD limits k 0 ≤ 2000000000) ⌝ }
+    requires { ⌜ ((k : ℕ) → k < 16 → getD limits k 0 ≤ limitMost) ⌝ }
     ensures { λ r. ⌜ r ≡ adjustedBy received paid limits ⌝ }
 {
     let bonuses = capped_side(received, paid, limits);

@@ -1,23 +1,21 @@
 -- What a book in range holds: each value between its limits.
 -- Assumes nothing.
 use Prim.Native.Nat.{ℕ, zero, suc, _^_, _≤_, _<_}
-use mathlib.Core.Path.{_≡_}
+use mathlib.Core.Path.{_≡_, refl}
 use mathlib.Core.Bool.{Bool, true, false, cond}
-use mathlib.Core.List.{List}
+use mathlib.Core.List.{List, []}
 use native.Mathlib.Omega.{arith}
 use native.Mathlib.Decide.{decLt}
 use native.Mathlib.Nat.{le-trans}
 use lib.ListN.{length, getD, List·getD-eq-default}
 use Rattle.book.specs.declared.Book.{Book}
-use Rattle.calls.specs.Limits.{settingLimit, figureLimit}
-use Rattle.book.specs.Book.{isJoined, settingOf, figureOf, indexOf, most, inRange}
+use Rattle.calls.specs.Limits.{settingLimit, figureLimit, rateLimit, indexMost}
+use Rattle.book.specs.Book.{bookWith, isJoined, settingOf, figureOf, indexOf, most, inRange}
 use Rattle.book.proofs.Bounds.{bounded}
-use Rattle.values.specs.Operators.{each, settingsOf}
+use Rattle.values.specs.Bounds.{accessLimit, incomeLimit}
+use Rattle.values.specs.Operators.{settingsOf, figuresOf}
+use Rattle.values.specs.Parts.{HasMarks, HasMeasures, SettingsWithin, FiguresWithin, IndicesWithin, Within}
 use Rattle.values.proofs.Tables.{each-le}
-
--- one figure of a year of each operator
-abbrev pub figuresOf : Book → ℕ → ℕ → List ℕ
-figuresOf b year figure = each (λ (operator : ℕ). figureOf b operator year figure)
 
 -- at most the limit, joined or not
 most-le : (b : Book) (operator limit : ℕ) → most b operator limit ≤ limit
@@ -29,33 +27,23 @@ most-le b operator limit = go (isJoined b operator)
     go false = omega arith
 
 module _ (b : Book) (ranged : inRange b ≡ true) where
-  pub setting-le : (operator which : ℕ) → operator < 16 → which < 3 → settingOf b operator which ≤ settingLimit which
+  setting-le : (operator which : ℕ) → operator < 16 → which < 3 → settingOf b operator which ≤ settingLimit which
   setting-le operator which lo lw = le-trans (bounded b ranged .setting operator which lo lw) (most-le b operator (settingLimit which))
 
-  pub cabins-le : (operator : ℕ) → operator < 16 → settingOf b operator 0 ≤ 100000
-  cabins-le operator lo = setting-le operator 0 lo (omega arith)
+  pub access-le : (operator : ℕ) → operator < 16 → settingOf b operator 1 ≤ accessLimit
+  access-le operator lo = setting-le operator 1 lo (omega arith)
 
-  pub points-le : (operator : ℕ) → operator < 16 → settingOf b operator 1 ≤ 4000000
-  points-le operator lo = setting-le operator 1 lo (omega arith)
-
-  pub income-le : (operator : ℕ) → operator < 16 → settingOf b operator 2 ≤ 100000000000
+  pub income-le : (operator : ℕ) → operator < 16 → settingOf b operator 2 ≤ incomeLimit
   income-le operator lo = setting-le operator 2 lo (omega arith)
 
-  pub figure-le : (operator year figure : ℕ) → operator < 16 → year < 3 → figure < 8 → figureOf b operator year figure ≤ 100000000000
-  figure-le operator year figure lo ly lf = le-trans (bounded b ranged .figure operator year figure lo ly lf) (most-le b operator figureLimit)
-
-  -- no figure and no setting of any operator passes the largest limit
-  pub figures-le : (year figure : ℕ) → year < 3 → figure < 8 → (k : ℕ) → getD (figuresOf b year figure) k 0 ≤ 100000000000
-  figures-le year figure ly lf = each-le _ _ (λ k lt. figure-le k year figure lt ly lf)
-
-  pub settings-le : (which : ℕ) → which < 3 → (k : ℕ) → getD (settingsOf b which) k 0 ≤ 100000000000
-  settings-le zero lw = each-le _ _ (λ k lt. omega (arith, cabins-le k lt))
-  settings-le (suc zero) lw = each-le _ _ (λ k lt. omega (arith, points-le k lt))
-  settings-le (suc (suc zero)) lw = each-le _ _ income-le
-  settings-le (suc (suc (suc which))) lw = absurd (omega arith)
-
-  pub index-between : (number : ℕ) → number < 4 → (1 ≤ indexOf b number) × (indexOf b number ≤ 100000)
-  index-between number lt = bounded b ranged .index number lt
+  pub within : Within (b .settings) (b .figures) (b .indices)
+  unfolding SettingsWithin FiguresWithin IndicesWithin settingOf figureOf indexOf
+  within =
+      record {
+        settings-within = setting-le;
+        figures-within = λ operator year figure lo ly lf. le-trans (bounded b ranged .figure operator year figure lo ly lf) (most-le b operator figureLimit);
+        indices-within = λ number lt. bounded b ranged .index number lt .1;
+      }
 
   -- the marks of any indicator number, there or not, are sixteen bits
   pub mark-set-small : (indicator : ℕ) → getD (b .marks) indicator 0 < 2 ^ 16
@@ -67,8 +55,47 @@ module _ (b : Book) (ranged : inRange b ≡ true) where
           let past : length (b .marks) ≤ indicator = omega (arith, bounded b ranged .marks-long, outside) in
           rw (List·getD-eq-default (b .marks) 0 past) (omega arith)
 
-  pub pot-rate-le : b .«pot_rate» ≤ 20000
+  pub pot-rate-le : b .«pot_rate» ≤ rateLimit
   pot-rate-le = bounded b ranged .pot-rate
 
-  pub cap-rate-le : b .«cap_rate» ≤ 20000
+  pub cap-rate-le : b .«cap_rate» ≤ rateLimit
   cap-rate-le = bounded b ranged .cap-rate
+
+-- a book that lent parts belong to, and one that holds settings, figures and indices alone
+module _ (joined : ℕ) (marks settings figures indices : List ℕ) where
+  abbrev pub lending : Book
+  lending = bookWith joined marks settings figures 0 0 indices
+
+  pub lending-marked : HasMarks lending joined marks
+  lending-marked = record { joined-are = refl; marks-are = refl }
+
+  pub lending-measured : HasMeasures lending settings figures indices
+  lending-measured = record { settings-are = refl; figures-are = refl; indices-are = refl }
+
+abbrev pub holding : List ℕ → List ℕ → List ℕ → Book
+holding settings figures indices = lending 0 [] settings figures indices
+
+-- settings, figures and indices of a book whose lists are within their limits
+module _ (b : Book) (small : SettingsWithin (b .settings)) where
+  setting-most : (operator which : ℕ) → operator < 16 → which < 3 → settingOf b operator which ≤ settingLimit which
+  unfolding SettingsWithin settingOf
+  setting-most operator which lo lw = small operator which lo lw
+
+  -- no setting passes the largest limit
+  pub settings-most : (which : ℕ) → which < 3 → (k : ℕ) → getD (settingsOf b which) k 0 ≤ incomeLimit
+  settings-most zero lw = each-le _ _ (λ k lt. omega (arith, setting-most k 0 lt (omega arith)))
+  settings-most (suc zero) lw = each-le _ _ (λ k lt. omega (arith, setting-most k 1 lt (omega arith)))
+  settings-most (suc (suc zero)) lw = each-le _ _ (λ k lt. setting-most k 2 lt (omega arith))
+  settings-most (suc (suc (suc which))) lw = absurd (omega arith)
+
+module _ (b : Book) (small : FiguresWithin (b .figures)) where
+  pub figure-most : (operator year figure : ℕ) → operator < 16 → year < 3 → figure < 8 → figureOf b operator year figure ≤ figureLimit
+  unfolding FiguresWithin figureOf
+  figure-most operator year figure lo ly lf = small operator year figure lo ly lf
+
+  pub figures-most : (year figure : ℕ) → year < 3 → figure < 8 → (k : ℕ) → getD (figuresOf b year figure) k 0 ≤ figureLimit
+  figures-most year figure ly lf = each-le _ _ (λ k lt. figure-most k year figure lt ly lf)
+
+pub index-most : (b : Book) → IndicesWithin (b .indices) → (number : ℕ) → number < 4 → indexOf b number ≤ indexMost
+unfolding IndicesWithin indexOf
+index-most b small number lt = small number lt

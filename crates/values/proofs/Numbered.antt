@@ -7,14 +7,10 @@ use native.Mathlib.Omega.{arith}
 use lib.ListN.{getD}
 use Rattle.book.specs.declared.Book.{Book}
 use Rattle.book.specs.Book.{settingOf, figureOf, indexOf}
-use Rattle.values.specs.Operators.{each, settingsOf}
-use Rattle.values.specs.Indicator.{frequency, duration, fee, electricity, Measure, numbered, over, yearlyValue}
+use Rattle.values.specs.Operators.{each, settingsOf, figuresOf}
+use Rattle.exact.specs.Division.{over}
+use Rattle.values.specs.Indicator.{frequency, duration, fee, electricity, numbered, yearlyValue, yearlyValues}
 use Rattle.values.proofs.Tables.{each-at, each-same}
-use Rattle.values.proofs.InRange.{figuresOf}
-
--- a yearly value of each operator
-abbrev pub yearlyValues : Book → Measure → ℕ → List ℕ
-yearlyValues b measure year = each (λ (operator : ℕ). yearlyValue b measure operator year)
 
 pub number-of : (number : ℕ) → number < 6 → numbered number .number ≡ number
 unfolding numbered electricity

@@ -1,6 +1,7 @@
 -- The definitions of `values`, and of the crates that they rest on, opened by one name, for cases that are computed.
 -- Assumes nothing.
-use Rattle.values.specs.Indicator.{electricity, over, yearlyValue, threeYears, reliableMask, scores, pool, numbered}
+use Rattle.exact.specs.Division.{over}
+use Rattle.values.specs.Indicator.{electricity, yearlyValue, threeYears, reliableMask, scores, pool, numbered}
 use Rattle.values.specs.Operators.{table, each, count, any}
 use Rattle.calls.proofs.Opened.{calls-opened}
 use Rattle.book.proofs.Opened.{book-opened}

@@ -1,68 +1,67 @@
 -- The scores of an indicator, one for each operator, and their bounds in a book in range.
 -- Assumes nothing.
 use Prim.Native.Nat.{ℕ, zero, suc, _≤_, _<_, zero-le}
-use mathlib.Core.Path.{_≡_}
-use mathlib.Core.Bool.{true}
 use native.Mathlib.Nat.{div-le-self, mul-le-mul, le-trans}
 use native.Mathlib.Omega.{arith}
 use lib.Dec.{eqb}
 use lib.ListN.{getD}
 use Rattle.calls.specs.Masks.{has}
 use Rattle.book.specs.declared.Book.{Book}
-use Rattle.book.specs.Book.{inRange}
-use Rattle.values.specs.Indicator.{frequency, duration, fee, electricity, numbered, over, yearlyValue, threeYears, reliableMask, scores}
+use Rattle.exact.specs.Division.{over}
+use Rattle.values.specs.Indicator.{frequency, duration, fee, electricity, numbered, yearlyValue, yearlyValues, threeYears, reliableMask, scores}
 use Rattle.values.proofs.CountLaws.{cond-le}
 use Rattle.values.proofs.Tables.{each-le}
-use Rattle.values.proofs.InRange.{figure-le, index-between}
-use Rattle.values.proofs.Numbered.{yearlyValues}
+use Rattle.values.specs.Bounds.{yearlyMost, scoreMost}
+use Rattle.values.specs.Parts.{Within}
+use Rattle.values.proofs.InRange.{figure-most, index-most}
 
 pub over-le : (dividend divisor : ℕ) → over dividend divisor ≤ dividend
 unfolding over
 over-le dividend divisor = cond-le (eqb divisor 0) zero-le (div-le-self dividend divisor)
 
-module _ (b : Book) (ranged : inRange b ≡ true) (operator year : ℕ) (lo : operator < 16) (ly : year < 3) where
-  frequency-le : (figure which : ℕ) → figure < 8 → yearlyValue b (frequency figure which) operator year ≤ 100000000000000000
-  unfolding yearlyValue
-  frequency-le figure which lf = le-trans (over-le _ _) (omega (arith, figure-le b ranged operator year figure lo ly lf))
+module _ (b : Book) (small : Within (b .settings) (b .figures) (b .indices)) where
+  module _ (operator year : ℕ) (lo : operator < 16) (ly : year < 3) where
+    frequency-le : (figure which : ℕ) → figure < 8 → yearlyValue b (frequency figure which) operator year ≤ yearlyMost
+    unfolding yearlyValue
+    frequency-le figure which lf = le-trans (over-le _ _) (omega (arith, figure-most b (small .figures-within) operator year figure lo ly lf))
 
-  duration-le : (seconds weight : ℕ) → seconds < 8 → yearlyValue b (duration seconds weight) operator year ≤ 100000000000000000
-  unfolding yearlyValue
-  duration-le seconds weight lf = le-trans (over-le _ _) (omega (arith, figure-le b ranged operator year seconds lo ly lf))
+    duration-le : (seconds weight : ℕ) → seconds < 8 → yearlyValue b (duration seconds weight) operator year ≤ yearlyMost
+    unfolding yearlyValue
+    duration-le seconds weight lf = le-trans (over-le _ _) (omega (arith, figure-most b (small .figures-within) operator year seconds lo ly lf))
 
-  fee-le : (fees connections : ℕ) → fees < 8 → yearlyValue b (fee fees connections) operator year ≤ 100000000000000000
-  unfolding yearlyValue
-  fee-le fees connections lf =
-      let product = mul-le-mul (figure-le b ranged operator year fees lo ly lf) (index-between b ranged 3 (omega arith) .1) in
-      le-trans (over-le _ _) (omega (arith, product))
+    fee-le : (fees connections : ℕ) → fees < 8 → yearlyValue b (fee fees connections) operator year ≤ yearlyMost
+    unfolding yearlyValue
+    fee-le fees connections lf =
+        let product = mul-le-mul (figure-most b (small .figures-within) operator year fees lo ly lf) (index-most b (small .indices-within) 3 (omega arith)) in
+        le-trans (over-le _ _) (omega (arith, product))
 
-  yearly-le : (number : ℕ) → number < 6 → yearlyValue b (numbered number .measure) operator year ≤ 100000000000000000
-  unfolding numbered electricity
-  yearly-le zero lt = frequency-le 0 0 (omega arith)
-  yearly-le (suc zero) lt = duration-le 1 0 (omega arith)
-  yearly-le (suc (suc zero)) lt = frequency-le 2 1 (omega arith)
-  yearly-le (suc (suc (suc zero))) lt = duration-le 3 2 (omega arith)
-  yearly-le (suc (suc (suc (suc zero)))) lt = fee-le 4 5 (omega arith)
-  yearly-le (suc (suc (suc (suc (suc zero))))) lt = fee-le 6 7 (omega arith)
-  yearly-le (suc (suc (suc (suc (suc (suc n)))))) lt = absurd (omega arith)
+    yearly-le : (number : ℕ) → number < 6 → yearlyValue b (numbered number .measure) operator year ≤ yearlyMost
+    unfolding numbered electricity
+    yearly-le zero lt = frequency-le 0 0 (omega arith)
+    yearly-le (suc zero) lt = duration-le 1 0 (omega arith)
+    yearly-le (suc (suc zero)) lt = frequency-le 2 1 (omega arith)
+    yearly-le (suc (suc (suc zero))) lt = duration-le 3 2 (omega arith)
+    yearly-le (suc (suc (suc (suc zero)))) lt = fee-le 4 5 (omega arith)
+    yearly-le (suc (suc (suc (suc (suc zero))))) lt = fee-le 6 7 (omega arith)
+    yearly-le (suc (suc (suc (suc (suc (suc n)))))) lt = absurd (omega arith)
 
-three-years-le : (b : Book) → inRange b ≡ true → (number : ℕ) → number < 6 → (operator : ℕ) → operator < 16
-    → threeYears b (numbered number .measure) operator ≤ 300000000000000000
-unfolding threeYears
-three-years-le b ranged number ln operator lo =
-    omega (
-      arith,
-      yearly-le b ranged operator 0 lo (omega arith) number ln,
-      yearly-le b ranged operator 1 lo (omega arith) number ln,
-      yearly-le b ranged operator 2 lo (omega arith) number ln,
-    )
+  module _ (number : ℕ) (ln : number < 6) where
+    three-years-le : (operator : ℕ) → operator < 16 → threeYears b (numbered number .measure) operator ≤ scoreMost
+    unfolding threeYears
+    three-years-le operator lo =
+        omega (
+          arith,
+          yearly-le operator 0 lo (omega arith) number ln,
+          yearly-le operator 1 lo (omega arith) number ln,
+          yearly-le operator 2 lo (omega arith) number ln,
+        )
 
--- the same of the values by operator
-pub yearlies-le : (b : Book) → inRange b ≡ true → (number year : ℕ) → number < 6 → year < 3
-    → (k : ℕ) → getD (yearlyValues b (numbered number .measure) year) k 0 ≤ 100000000000000000
-yearlies-le b ranged number year ln ly = each-le _ _ (λ k lt. yearly-le b ranged k year lt ly number ln)
+    -- the same of the values by operator
+    pub yearlies-le : (year : ℕ) → year < 3 → (k : ℕ) → getD (yearlyValues b (numbered number .measure) year) k 0 ≤ yearlyMost
+    yearlies-le year ly = each-le _ _ (λ k lt. yearly-le k year lt ly number ln)
 
--- no score passes three years of the largest yearly value
-pub scored : (b : Book) → inRange b ≡ true → (number : ℕ) → number < 6 → (place : ℕ) → getD (scores b (numbered number)) place 0 ≤ 300000000000000000
-unfolding scores
-scored b ranged number ln =
-    each-le _ _ (λ operator lo. cond-le (has (reliableMask b (numbered number)) operator) (three-years-le b ranged number ln operator lo) zero-le)
+    -- no score passes three years of the largest yearly value
+    pub scored : (place : ℕ) → getD (scores b (numbered number)) place 0 ≤ scoreMost
+    unfolding scores
+    scored =
+        each-le _ _ (λ operator lo. cond-le (has (reliableMask b (numbered number)) operator) (three-years-le operator lo) zero-le)

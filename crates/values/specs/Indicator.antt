@@ -1,12 +1,12 @@
 -- The indicators: what each measures in a year, its points, its pool, and who takes part (01, "Indicators"; annex 9, table 3).
 -- Assumes nothing.
-use Prim.Native.Nat.{ℕ, _+_, _*_, _-_, _/_}
+use Prim.Native.Nat.{ℕ, _+_, _*_, _-_}
 use mathlib.Core.Bool.{cond}
 use mathlib.Core.List.{List, [], _∷_}
 use lib.Bits.{bitAnd}
 use lib.Count.{ones}
-use lib.Dec.{eqb}
 use lib.ListN.{getD}
+use Rattle.exact.specs.Division.{over}
 use Rattle.book.specs.declared.Book.{Book}
 use Rattle.book.specs.Book.{figureOf, settingOf, indexOf}
 use Rattle.calls.specs.Masks.{has}
@@ -38,16 +38,16 @@ electricity =
     ∷ record { number = 4; points = 20; measure = fee 4 5 }
     ∷ record { number = 5; points = 5; measure = fee 6 7 } ∷ []
 
--- "rounded down; a zero divisor gives 0"
-unfoldable pub over : ℕ → ℕ → ℕ
-over dividend divisor = cond (eqb divisor 0) 0 (dividend / divisor)
-
--- the yearly value of an operator
+-- the yearly value of an operator, "rounded down; a zero divisor gives 0"
 unfoldable pub yearlyValue : Book → Measure → ℕ → ℕ → ℕ
 yearlyValue b (frequency figure which) operator year = over (1000000 * figureOf b operator year figure) (settingOf b operator which)
 yearlyValue b (duration seconds weight) operator year = over (1000 * figureOf b operator year seconds) (figureOf b operator year weight)
 yearlyValue b (fee fees connections) operator year =
     over (10 * figureOf b operator year fees * indexOf b 3) (figureOf b operator year connections * indexOf b year)
+
+-- the yearly values of a measure, by operator
+abbrev pub yearlyValues : Book → Measure → ℕ → List ℕ
+yearlyValues b measure year = each (λ (operator : ℕ). yearlyValue b measure operator year)
 
 -- "An operator's s is the sum of its three yearly values"
 unfoldable pub threeYears : Book → Measure → ℕ → ℕ

@@ -1,3 +1,6 @@
 -- The definitions of `values`.
 pub mod Operators
 pub mod Indicator
+pub mod Parts
+pub mod Bounds
+pub mod Steps

@@ -5,7 +5,7 @@ use mathlib.Core.Bool.{Bool, false, cond, _||_}
 use mathlib.Core.List.{List, [], _∷_, _++_}
 use Rattle.calls.specs.Limits.{operators}
 use Rattle.book.specs.declared.Book.{Book}
-use Rattle.book.specs.Book.{settingOf}
+use Rattle.book.specs.Book.{settingOf, figureOf}
 
 -- f 0 to f (n - 1)
 unfoldable pub table : {A : Type 0} → ℕ → (ℕ → A) → List A
@@ -19,6 +19,10 @@ each f = table operators f
 -- one setting of each operator
 abbrev pub settingsOf : Book → ℕ → List ℕ
 settingsOf b which = each (λ (operator : ℕ). settingOf b operator which)
+
+-- one figure of a year of each operator
+abbrev pub figuresOf : Book → ℕ → ℕ → List ℕ
+figuresOf b year figure = each (λ (operator : ℕ). figureOf b operator year figure)
 
 -- how many of the first n pass a test
 unfoldable pub count : ℕ → (ℕ → Bool) → ℕ

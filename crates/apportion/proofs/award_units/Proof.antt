@@ -4,26 +4,21 @@ use borrow.Author.Needs.{needs}
 use mathlib.Core.Path.{_≡_, refl, _∙_}
 use Prim.Native.Nat.{_+_}
 use native.Mathlib.Omega.{arith}
-use lib.ListN.{length, getD, length-set}
-use Rattle.apportion.specs.Sum.{sum}
+use lib.ListN.{getD, length-set}
 use Rattle.apportion.specs.Share.{award}
 use Rattle.apportion.proofs.Sums.{element-le, sum-set}
-use Rattle.apportion.proofs.Awarded.{award-step}
+use Rattle.apportion.proofs.Awarded.{HandingOut, award-step}
 use Rattle.apportion.proofs.award_units.Statement.{statement}
 use Rattle.apportion.proofs.award_units.Tie as tie
 
 abbrev Inv-loop : tie.InvT-loop
-Inv-loop units shares₀ remaining₀ left₀ shares remaining left =
-    (length shares ≡ 16)
-    × (length remaining ≡ 16)
-    × (sum shares + left ≡ sum shares₀ + units)
-    × (award left remaining shares ≡ award units remaining₀ shares₀)
+Inv-loop units shares₀ remaining₀ left₀ shares remaining left = HandingOut 16 units remaining₀ shares₀ left remaining shares
 
 abbrev μ-loop : tie.MeasureT-loop
 μ-loop units shares₀ remaining₀ left₀ shares remaining left = left
 
 loop-holds : tie.Need-loop-holds Inv-loop μ-loop
-loop-holds c = (search needs, search needs, refl, refl)
+loop-holds c = record { shares-long = search needs; remaining-long = search needs; units-kept = refl; ends-alike = refl }
 
 foremost-place-requires : tie.Need-foremost-place-requires Inv-loop μ-loop
 foremost-place-requires c κs = tt
@@ -55,18 +50,21 @@ loop-less c = omega arith
 loop-again : tie.Need-loop-again Inv-loop μ-loop
 loop-again c =
     let here = c .before .before .loop in
-    let place = c .foremost-place .result in (
-      length-set (here .shares) place _ ∙ here .inv .0,
-      length-set (here .remaining) place 0 ∙ here .inv .1,
-      omega (arith, sum-set (here .shares) place (getD (here .shares) place 0 + 1) (omega arith)),
-      award-step (here .left) 16 place (here .remaining) (here .shares) (omega arith) (here .inv .1) (c .foremost-place .ensures .0) ∙ here .inv .3,
-    )
+    let place = c .foremost-place .result in
+    record {
+      shares-long = length-set (here .shares) place _ ∙ here .inv .shares-long;
+      remaining-long = length-set (here .remaining) place _ ∙ here .inv .remaining-long;
+      units-kept = omega (arith, sum-set (here .shares) place (getD (here .shares) place 0 + 1) (omega arith));
+      ends-alike =
+          award-step (here .left) 16 place (here .remaining) (here .shares) (omega arith) (here .inv .remaining-long) (c .foremost-place .ensures .0)
+          ∙ here .inv .ends-alike;
+    }
 
 returns : tie.Need-returns Inv-loop μ-loop
 unfolding award
 returns c =
     let last : c .before .loop .left ≡ 0 = omega arith in
-    rw last at (c .before .loop .inv .3)
+    rw last at (c .before .loop .inv .ends-alike)
 
 pub award-units-spec : {M : Type 1} → statement M
 award-units-spec =

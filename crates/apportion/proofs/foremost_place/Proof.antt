@@ -2,33 +2,36 @@
 -- Assumes nothing.
 use mathlib.Core.Path.{_≡_, sym, _∙_}
 use mathlib.Core.Logic.{⊎-elim}
-use Prim.Native.Nat.{_-_, _<_, _≤_}
+use mathlib.Core.Bool.{true, false}
+use Prim.Native.Nat.{_-_}
 use native.Mathlib.Omega.{arith}
-use Rattle.apportion.specs.Share.{foremost}
-use Rattle.apportion.proofs.Order.{foremost-one, foremost-next, foremost-same}
+use Rattle.apportion.proofs.Order.{ForemostOf, foremost-one, foremost-more}
 use Rattle.apportion.proofs.foremost_place.Statement.{statement}
 use Rattle.apportion.proofs.foremost_place.Tie as tie
 
 abbrev Inv-loop : tie.InvT-loop
-Inv-loop remaining best₀ i₀ best i = (i ≤ 16) × (best < i) × (best ≡ foremost remaining i)
+Inv-loop remaining best₀ i₀ best i = ForemostOf 16 remaining i best
 
 abbrev μ-loop : tie.MeasureT-loop
 μ-loop remaining best₀ i₀ best i = 16 - i
 
 loop-holds : tie.Need-loop-holds Inv-loop μ-loop
-loop-holds c = (omega arith, omega arith, sym (foremost-one (c .args .t1)))
+loop-holds c = record { within = omega arith; passed = omega arith; foremost-is = sym (foremost-one (c .args .t1)) }
 
-mul-if1 : tie.Need-mul-if1 Inv-loop μ-loop
-mul-if1 c = omega arith
+mul-precedes : tie.Need-mul-precedes Inv-loop μ-loop
+mul-precedes c = omega arith
 
-array-read-if1 : tie.Need-array-read-if1 Inv-loop μ-loop
-array-read-if1 c = omega arith
+array-read-precedes : tie.Need-array-read-precedes Inv-loop μ-loop
+array-read-precedes c = omega arith
 
-mul-if1-2 : tie.Need-mul-if1-2 Inv-loop μ-loop
-mul-if1-2 c = omega arith
+mul-precedes-2 : tie.Need-mul-precedes-2 Inv-loop μ-loop
+mul-precedes-2 c = omega arith
 
-array-read-if1-2 : tie.Need-array-read-if1-2 Inv-loop μ-loop
-array-read-if1-2 c = omega arith
+array-read-precedes-2 : tie.Need-array-read-precedes-2 Inv-loop μ-loop
+array-read-precedes-2 c = omega arith
+
+precedes-requires : tie.Need-precedes-requires Inv-loop μ-loop
+precedes-requires c κs = tt
 
 add-i : tie.Need-add-i Inv-loop μ-loop
 add-i c = omega arith
@@ -38,17 +41,19 @@ loop-less c = omega arith
 
 loop-again : tie.Need-loop-again Inv-loop μ-loop
 loop-again c =
-    let here = c .before .before .loop in
-    let remaining = c .before .before .before .args .t1 in
+    let here = c .before .before .before .loop in
+    let tested = c .before .precedes .ensures in
+    let remaining = c .before .before .before .before .args .t1 in
+    let next = foremost-more remaining (here .best) (here .i) in
     ⊎-elim
-    (λ w. (omega arith, omega (arith, w .1), w .1 ∙ sym (foremost-next remaining (here .best) (here .i) (here .inv .2) (w .0 .taken))))
-    (λ w. (omega arith, omega (arith, w .1), w .1 ∙ sym (foremost-same remaining (here .best) (here .i) (here .inv .2) (here .inv .1) (w .0 .left))))
+    (λ w. record { within = omega arith; passed = omega (arith, w .1); foremost-is = w .1 ∙ sym (next true (here .inv .foremost-is) (sym tested ∙ w .0 .taken)) })
+    (λ w. record { within = omega arith; passed = omega (arith, w .1); foremost-is = w .1 ∙ sym (next false (here .inv .foremost-is) (sym tested ∙ w .0 .left)) })
     (c .if1 .came)
 
 returns : tie.Need-returns Inv-loop μ-loop
 returns c =
     let last : c .before .loop .i ≡ 16 = omega arith in
-    (rw last at (c .before .loop .inv .2), omega arith)
+    (rw last at (c .before .loop .inv .foremost-is), omega arith)
 
 pub foremost-place-spec : {M : Type 1} → statement M
 foremost-place-spec =
@@ -57,10 +62,11 @@ foremost-place-spec =
     Inv-loop
     μ-loop
     loop-holds
-    mul-if1
-    array-read-if1
-    mul-if1-2
-    array-read-if1-2
+    mul-precedes
+    array-read-precedes
+    mul-precedes-2
+    array-read-precedes-2
+    precedes-requires
     add-i
     loop-less
     loop-again

@@ -1,71 +1,36 @@
 -- `exact::divide_product` meets its contract.
 -- Assumes nothing.
-use mathlib.Core.Path.{_≡_, ap}
-use Prim.Native.Nat.{ℕ, _+_, _*_, _/_, _^_, _<_, _≤_}
-use native.Mathlib.Nat.{div-one}
-use native.Mathlib.Omega.{arith}
-use lib.Count.{leading-le}
-use lib.Pow.{shr-le}
-use Rattle.exact.proofs.Product.{no-bits, appended, quotient-le, divided}
+use mathlib.Core.Path.{_∙_, refl, sym}
+use Prim.Native.Nat.{_*_, _^_}
+use borrow.Author.Needs.{needs}
+use borrow.Author.Tests.{ltb-true}
 use Rattle.exact.proofs.divide_product.Statement.{statement}
 use Rattle.exact.proofs.divide_product.Tie as tie
 
-abbrev Inv-loop : tie.InvT-loop
-Inv-loop t w s k₀ d₀ k d = (k ≤ 64) × (d .remainder < s) × (d .quotient ≤ t / 2 ^ k) × (d .quotient * s + d .remainder ≡ t / 2 ^ k * w)
+product-fits-requires : tie.Need-product-fits-requires
+product-fits-requires c κs = search needs
 
-abbrev μ-loop : tie.MeasureT-loop
-μ-loop t w s k₀ d₀ k d = k
+mul-product : tie.Need-mul-product
+mul-product c = record { fits = ltb-true (c .before .before .args .t * c .before .before .args .w) (2 ^ 64) (sym (c .before .product-fits .ensures) ∙ c .if1 .taken) }
 
-sub-k : tie.Need-sub-k Inv-loop μ-loop
-sub-k c = leading-le 64 (c .args .t)
+div-t6 : tie.Need-div-t6
+div-t6 c = search needs
 
-loop-holds : tie.Need-loop-holds Inv-loop μ-loop
-loop-holds c =
-    let none = no-bits (c .args .t) (omega arith) in
-    (omega arith, c .pre .0, omega arith, omega (arith, ap (λ (z : ℕ). z * c .args .w) none))
+rem-t7 : tie.Need-rem-t7
+rem-t7 c = search needs
 
-sub-k-2 : tie.Need-sub-k-2 Inv-loop μ-loop
-sub-k-2 c = omega arith
+-- the product fits
+returns : tie.Need-returns
+returns c = (refl, refl)
 
-cast-append-bit : tie.Need-cast-append-bit Inv-loop μ-loop
-cast-append-bit c = omega arith
+divide-by-bits-requires : tie.Need-divide-by-bits-requires
+divide-by-bits-requires c κs = search needs
 
-shr-append-bit : tie.Need-shr-append-bit Inv-loop μ-loop
-shr-append-bit c = omega arith
-
-append-bit-requires : tie.Need-append-bit-requires Inv-loop μ-loop
-append-bit-requires c κs = omega (arith, shr-le (c .before .before .args .t) (c .before .loop .k))
-
-loop-less : tie.Need-loop-less Inv-loop μ-loop
-loop-less c = omega arith
-
-loop-again : tie.Need-loop-again Inv-loop μ-loop
-loop-again c =
-    let start = c .before .before .before in
-    let here = c .before .before .loop in
-    let next = c .append-bit in
-    let product =
-    appended (start .args .t) (start .args .w) (start .args .s) (here .k) _ _ _ _
-    (omega arith) (here .inv .3) (next .ensures .1) in
-    (omega arith, next .ensures .0, quotient-le _ _ _ _ _ (start .pre .0) (start .pre .1) product, product)
-
-returns : tie.Need-returns Inv-loop μ-loop
-returns c =
-    let last : c .before .loop .k ≡ 0 = omega arith in
-    divided _ _ _ _ (c .before .before .pre .0) (c .before .loop .inv .1) (rw (last, div-one) at (c .before .loop .inv .3))
+-- it does not
+returns-2 : tie.Need-returns-2
+returns-2 c = c .divide-by-bits .ensures
 
 pub divide-product-spec : {M : Type 1} → statement M
 divide-product-spec =
     tie.close
-    (tie.spec
-    Inv-loop
-    μ-loop
-    sub-k
-    loop-holds
-    sub-k-2
-    cast-append-bit
-    shr-append-bit
-    append-bit-requires
-    loop-less
-    loop-again
-    returns)
+    (tie.spec product-fits-requires mul-product div-t6 rem-t7 returns divide-by-bits-requires returns-2)

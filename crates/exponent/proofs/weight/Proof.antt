@@ -1,11 +1,11 @@
--- `exponent::weight` meets its contract: the table follows the recurrence, by one test over all its entries.
+-- `exponent::weight` meets its contract.
 -- Assumes nothing.
-use native.Mathlib.Omega.{arith}
-use Rattle.exponent.specs.Weight.{weightOf}
-use Rattle.exponent.proofs.Entries.{entry-at}
 use borrow.Author.Needs.{needs}
 use Rattle.exponent.proofs.weight.Statement.{statement}
 use Rattle.exponent.proofs.weight.Tie as tie
+
+all-weights-requires : tie.Need-all-weights-requires
+all-weights-requires c κs = search needs
 
 mul-result : tie.Need-mul-result
 mul-result c = search needs
@@ -14,8 +14,7 @@ array-read-result : tie.Need-array-read-result
 array-read-result c = search needs
 
 returns : tie.Need-returns
-unfolding weightOf
-returns c = entry-at 1001 (c .args .k) (omega arith)
+returns c = c .all-weights .ensures (c .before .args .k) (c .before .pre)
 
 pub weight-spec : {M : Type 1} → statement M
-weight-spec = tie.close (tie.spec mul-result array-read-result returns)
+weight-spec = tie.close (tie.spec all-weights-requires mul-result array-read-result returns)

@@ -1,23 +1,20 @@
 -- `values::fees` meets its contract.
 -- Assumes nothing.
 use borrow.Author.Needs.{needs}
+use native.Mathlib.Nat.{mul-le-mul}
 use native.Mathlib.Omega.{arith}
-use mathlib.Core.Path.{_∙_}
+use mathlib.Core.Path.{refl, _∙_}
+use mathlib.Core.List.{[]}
 use Prim.Native.Nat.{_*_, _≤_}
+use Rattle.calls.specs.Limits.{indexMost}
 use Rattle.book.specs.Book.{indexOf}
-use Rattle.values.proofs.InRange.{figures-le, index-between}
+use Rattle.values.proofs.InRange.{holding, figures-most, index-most}
 use Rattle.values.proofs.Numbered.{quotientsBy, fees-same}
-use borrow.Author.Needs.{needs}
 use Rattle.values.proofs.fees.Statement.{statement}
 use Rattle.values.proofs.fees.Tie as tie
-use Rattle.values.proofs.fees.Reads as reads
-use Rattle.values.proofs.fees.Lts as lts
-use Rattle.values.proofs.figures_of.Reads as figures-of-reads
-use Rattle.values.proofs.quotients.Reads as quotients-reads
-use Rattle.values.proofs.widened.Reads as widened-reads
 
-array-read-widened : tie.Need-array-read-widened
-array-read-widened c = search needs
+element-copy-out-widened : tie.Need-element-copy-out-widened
+element-copy-out-widened c = search needs
 
 widened-requires : tie.Need-widened-requires
 widened-requires c κs = search needs
@@ -25,8 +22,8 @@ widened-requires c κs = search needs
 mul-widened : tie.Need-mul-widened
 mul-widened c = search needs
 
-array-read-widened-2 : tie.Need-array-read-widened-2
-array-read-widened-2 c = search needs
+element-copy-out-widened-2 : tie.Need-element-copy-out-widened-2
+element-copy-out-widened-2 c = search needs
 
 widened-requires-2 : tie.Need-widened-requires-2
 widened-requires-2 c κs = search needs
@@ -34,8 +31,9 @@ widened-requires-2 c κs = search needs
 mul-quotients : tie.Need-mul-quotients
 unfolding indexOf
 mul-quotients c =
-    let start = c .before .before .before in
-    let base : c .before .widened .result ≤ 100000 = rw (c .before .widened .ensures) (index-between (start .args .b) (start .pre .0) 3 (omega arith) .1) in
+    let start = c .before .before .before .before in
+    let b = holding [] (start .args .figures .now) (start .args .indices .now) in
+    let base : c .before .before .widened .result ≤ indexMost = rw (c .before .before .widened .ensures) (index-most b (start .pre .indices-within) 3 (omega arith)) in
     omega arith
 
 figures-of-requires : tie.Need-figures-of-requires
@@ -47,35 +45,37 @@ figures-of-requires-2 c κs = search needs
 quotients-requires : tie.Need-quotients-requires
 unfolding indexOf
 quotients-requires c κs =
-    let start = c .before .before .before .before .before in
-    let base : c .before .before .before .widened .result ≤ 100000 =
-    rw (c .before .before .before .widened .ensures) (index-between (start .args .b) (start .pre .0) 3 (omega arith) .1) in
-    let index : c .before .before .widened2 .result ≤ 100000 =
-    rw (c .before .before .widened2 .ensures) (index-between (start .args .b) (start .pre .0) (start .args .year) (omega arith) .1) in (
-      omega arith,
-      omega arith,
-      rw (c .before .figures-of .ensures) (figures-le (start .args .b) (start .pre .0) _ _ (start .pre .1) (start .pre .2)),
-      rw (c .figures-of2 .ensures) (figures-le (start .args .b) (start .pre .0) _ _ (start .pre .1) (start .pre .3)),
+    let start = c .before .before .before .before .before .before in
+    let widened = c .before .before .before .before .widened in
+    let widened2 = c .before .before .widened2 in
+    let b = holding [] (start .args .figures .now) (start .args .indices .now) in
+    let base : widened .result ≤ indexMost = rw (widened .ensures) (index-most b (start .pre .indices-within) 3 (omega arith)) in
+    let index : widened2 .result ≤ indexMost = rw (widened2 .ensures) (index-most b (start .pre .indices-within) (start .args .year) (omega arith)) in (
+      λ k. rw (c .before .figures-of .ensures b refl) (omega (arith, mul-le-mul base (figures-most b (start .pre .figures-within) _ _ (start .pre .year-there) (start .pre .paid-there) k))),
+      λ k.
+          let most = figures-most b (start .pre .figures-within) (start .args .year) (start .args .connections) (start .pre .year-there) (start .pre .connections-there) k in
+          rw (c .figures-of2 .ensures b refl) (omega (arith, mul-le-mul index most, mul-le-mul base most)),
     )
 
 returns : tie.Need-returns
 unfolding indexOf
 returns c =
-    let start = c .before .before .before .before .before .before in
-    let base = c .before .before .before .before .widened .ensures in
+    let start = c .before .before .before .before .before .before .before in
+    let base = c .before .before .before .before .before .widened .ensures in
     let index = c .before .before .before .widened2 .ensures in
+    λ b figures indices.
     c .quotients .ensures
-    ∙ ((λ i. quotientsBy (10 * base i) (c .before .before .figures-of .ensures i) (index i) (c .before .figures-of2 .ensures i))
-    ∙ fees-same (start .args .b) (start .args .year) (start .args .paid) (start .args .connections))
+    ∙ ((λ i. quotientsBy (10 * base i) (c .before .before .figures-of .ensures b figures i) (index i) (c .before .figures-of2 .ensures b figures i))
+    ∙ (rw (← indices) (fees-same b (start .args .year) (start .args .paid) (start .args .connections))))
 
 pub fees-spec : {M : Type 1} → statement M
 fees-spec =
     tie.close
     (tie.spec
-    array-read-widened
+    element-copy-out-widened
     widened-requires
     mul-widened
-    array-read-widened-2
+    element-copy-out-widened-2
     widened-requires-2
     mul-quotients
     figures-of-requires

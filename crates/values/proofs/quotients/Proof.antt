@@ -6,13 +6,9 @@ use Rattle.values.proofs.Tables.{Filling, filling-none, filling-more, f
 use mathlib.Core.Path.{refl}
 use Prim.Native.Nat.{ℕ, _*_, _-_}
 use lib.ListN.{getD}
-use native.Mathlib.Nat.{mul-le-mul}
-use Rattle.values.specs.Indicator.{over}
+use Rattle.exact.specs.Division.{over}
 use Rattle.values.proofs.quotients.Statement.{statement}
 use Rattle.values.proofs.quotients.Tie as tie
-use Rattle.values.proofs.quotients.Reads as reads
-use Rattle.values.proofs.quotients.Lts as lts
-use Rattle.values.proofs.divide.Reads as divide-reads
 
 abbrev Inv-loop : tie.InvT-loop
 Inv-loop factor scale dividends divisors list₀ i₀ list i = Filling (λ (k : ℕ). over (factor * getD dividends k 0) (scale * getD divisors k 0)) i list
@@ -31,9 +27,7 @@ array-read-divide c = omega arith
 
 mul-divide-2 : tie.Need-mul-divide-2 Inv-loop μ-loop
 mul-divide-2 c =
-    let start = c .before .before in
-    let product = mul-le-mul (start .pre .0) (start .pre .2 (c .before .loop .i)) in
-    omega (arith, product)
+    record { fits = omega (arith, c .before .before .pre .0 (c .before .loop .i)) }
 
 mul-divide-3 : tie.Need-mul-divide-3 Inv-loop μ-loop
 mul-divide-3 c = omega arith
@@ -43,9 +37,7 @@ array-read-divide-2 c = omega arith
 
 mul-divide-4 : tie.Need-mul-divide-4 Inv-loop μ-loop
 mul-divide-4 c =
-    let start = c .before .before in
-    let product = mul-le-mul (start .pre .1) (start .pre .3 (c .before .loop .i)) in
-    omega (arith, product)
+    record { fits = omega (arith, c .before .before .pre .1 (c .before .loop .i)) }
 
 divide-requires : tie.Need-divide-requires Inv-loop μ-loop
 divide-requires c κs = search needs

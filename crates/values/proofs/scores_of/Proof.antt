@@ -4,28 +4,22 @@ use borrow.Author.Needs.{needs}
 use native.Mathlib.Omega.{arith}
 use mathlib.Core.Path.{refl, _∙_}
 use mathlib.Core.Bool.{cond}
+use mathlib.Core.List.{[]}
 use Prim.Native.Nat.{ℕ, _+_, _-_}
 use lib.ListN.{getD}
 use Rattle.calls.specs.Masks.{has}
 use Rattle.values.specs.Indicator.{numbered, threeYears, scores, yearlyValue}
 use Rattle.values.proofs.Tables.{Filling, filling-none, filling-more, filling-each, each-at, each-same}
+use Rattle.values.proofs.InRange.{holding, lending-measured}
 use Rattle.values.proofs.Scores.{yearlies-le}
 use Rattle.values.proofs.scores_of.Statement.{statement}
 use Rattle.values.proofs.scores_of.Tie as tie
-use Rattle.values.proofs.scores_of.Reads as reads
-use Rattle.values.proofs.scores_of.Lts as lts
-use Rattle.values.proofs.reliable_mask.Reads as reliable-mask-reads
-use Rattle.values.proofs.score.Reads as score-reads
-use Rattle.values.proofs.yearly_values.Reads as yearly-values-reads
 
 abbrev Inv-loop : tie.InvT-loop
-Inv-loop number mask first second third list₀ i₀ list i = Filling (λ (k : ℕ). cond (has mask k) (getD first k 0 + getD second k 0 + getD third k 0) 0) i list
+Inv-loop mask settings figures indices number first second third list₀ i₀ list i = Filling (λ (k : ℕ). cond (has mask k) (getD first k 0 + getD second k 0 + getD third k 0) 0) i list
 
 abbrev μ-loop : tie.MeasureT-loop
-μ-loop number mask first second third list₀ i₀ list i = 16 - i
-
-reliable-mask-requires : tie.Need-reliable-mask-requires Inv-loop μ-loop
-reliable-mask-requires c κs = search needs
+μ-loop mask settings figures indices number first second third list₀ i₀ list i = 16 - i
 
 yearly-values-requires : tie.Need-yearly-values-requires Inv-loop μ-loop
 yearly-values-requires c κs = search needs
@@ -62,13 +56,16 @@ array-read-score-3 c = omega arith
 
 score-requires : tie.Need-score-requires Inv-loop μ-loop
 score-requires c κs =
-    let start = c .before .before .before .before .before .before in
-    let small = yearlies-le (start .args .b) (start .pre .0) (start .args .number) in
-    let i = c .before .loop .i in (
-      rw (c .before .before .before .before .yearly-values .ensures) (small 0 (start .pre .1) (omega arith) i),
-      rw (c .before .before .before .yearly-values2 .ensures) (small 1 (start .pre .1) (omega arith) i),
-      rw (c .before .before .yearly-values3 .ensures) (small 2 (start .pre .1) (omega arith) i),
-    )
+    let start = c .before .before .before .before .before in
+    let b = holding (start .args .settings .now) (start .args .figures .now) (start .args .indices .now) in
+    let measured = lending-measured 0 [] (b .settings) (b .figures) (b .indices) in
+    let small = yearlies-le b (start .pre .0) (start .args .number) (start .pre .1) in
+    let i = c .before .loop .i in
+    record {
+      first-most = rw (c .before .before .before .before .yearly-values .ensures b measured) (small 0 (omega arith) i);
+      second-most = rw (c .before .before .before .yearly-values2 .ensures b measured) (small 1 (omega arith) i);
+      third-most = rw (c .before .before .yearly-values3 .ensures b measured) (small 2 (omega arith) i);
+    }
 
 mul-list : tie.Need-mul-list Inv-loop μ-loop
 mul-list c = omega arith
@@ -88,15 +85,16 @@ loop-again c = filling-more _ _ (c .before .before .loop .inv) (omega arith) (c 
 returns : tie.Need-returns Inv-loop μ-loop
 unfolding scores threeYears
 returns c =
-    let start = c .before .before .before .before .before .before in
-    let value : ℕ → ℕ → ℕ = λ year k. yearlyValue (start .args .b) (numbered (start .args .number) .measure) k year in
+    let number = c .before .before .before .before .before .args .number in
+    λ b measured taking.
+    let value : ℕ → ℕ → ℕ = λ year k. yearlyValue b (numbered number .measure) k year in
     filling-each (c .before .loop .inv) (omega arith)
     ∙ each-same _ _
     (λ k lt. rw (
-      c .before .before .before .before .before .reliable-mask .ensures,
-      c .before .before .before .before .yearly-values .ensures,
-      c .before .before .before .yearly-values2 .ensures,
-      c .before .before .yearly-values3 .ensures,
+      taking,
+      c .before .before .before .before .yearly-values .ensures b measured,
+      c .before .before .before .yearly-values2 .ensures b measured,
+      c .before .before .yearly-values3 .ensures b measured,
       each-at (value 0) k lt,
       each-at (value 1) k lt,
       each-at (value 2) k lt,
@@ -108,7 +106,6 @@ scores-of-spec =
     (tie.spec
     Inv-loop
     μ-loop
-    reliable-mask-requires
     yearly-values-requires
     yearly-values-requires-2
     yearly-values-requires-3

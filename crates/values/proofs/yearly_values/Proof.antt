@@ -4,14 +4,8 @@ use borrow.Author.Needs.{needs}
 use native.Mathlib.Omega.{arith}
 use mathlib.Core.Path.{_≡_}
 use Rattle.values.specs.Indicator.{electricity, numbered}
-use borrow.Author.Needs.{needs}
 use Rattle.values.proofs.yearly_values.Statement.{statement}
 use Rattle.values.proofs.yearly_values.Tie as tie
-use Rattle.values.proofs.yearly_values.Reads as reads
-use Rattle.values.proofs.yearly_values.Lts as lts
-use Rattle.values.proofs.durations.Reads as durations-reads
-use Rattle.values.proofs.fees.Reads as fees-reads
-use Rattle.values.proofs.frequencies.Reads as frequencies-reads
 
 frequencies-requires : tie.Need-frequencies-requires
 frequencies-requires c κs = search needs
@@ -31,31 +25,37 @@ fees-requires c κs = search needs
 fees-requires-2 : tie.Need-fees-requires-2
 fees-requires-2 c κs = search needs
 
+-- A1
 returns : tie.Need-returns
 unfolding numbered electricity
-returns c = rw (c .before .match .keys1) (c .frequencies .ensures)
+returns c = λ b measured. rw (c .before .match .keys1) (c .frequencies .ensures b (measured .settings-are) (measured .figures-are))
 
+-- A2
 returns-2 : tie.Need-returns-2
 unfolding numbered electricity
-returns-2 c = rw (c .before .match .keys2) (c .durations .ensures)
+returns-2 c = λ b measured. rw (c .before .match .keys2) (c .durations .ensures b (measured .figures-are))
 
+-- A3
 returns-3 : tie.Need-returns-3
 unfolding numbered electricity
-returns-3 c = rw (c .before .match .keys3) (c .frequencies2 .ensures)
+returns-3 c = λ b measured. rw (c .before .match .keys3) (c .frequencies2 .ensures b (measured .settings-are) (measured .figures-are))
 
+-- A4
 returns-4 : tie.Need-returns-4
 unfolding numbered electricity
-returns-4 c = rw (c .before .match .keys4) (c .durations2 .ensures)
+returns-4 c = λ b measured. rw (c .before .match .keys4) (c .durations2 .ensures b (measured .figures-are))
 
+-- D1
 returns-5 : tie.Need-returns-5
 unfolding numbered electricity
-returns-5 c = rw (c .before .match .keys5) (c .fees .ensures)
+returns-5 c = λ b measured. rw (c .before .match .keys5) (c .fees .ensures b (measured .figures-are) (measured .indices-are))
 
+-- D2
 returns-6 : tie.Need-returns-6
 unfolding numbered electricity
 returns-6 c =
     let last : c .before .before .args .number ≡ 5 = omega arith in
-    rw last (c .fees2 .ensures)
+    λ b measured. rw last (c .fees2 .ensures b (measured .figures-are) (measured .indices-are))
 
 pub yearly-values-spec : {M : Type 1} → statement M
 yearly-values-spec =

@@ -35,12 +35,14 @@ returns : tie.Need-returns
 unfolding pool
 returns c =
     let product = mul-le-mul (c .before .before .before .before .points-a-year .ensures .1) (c .before .before .ones-of .ensures .1) in (
-      c .divide .ensures .0
+      λ b marked.
+          c .divide .ensures .0
           ∙ rw (
             c .before .before .before .before .points-a-year .ensures .0,
             c .before .before .ones-of .ensures .0,
             c .before .ones-of2 .ensures .0,
-            c .before .before .before .reliable-mask .ensures,
+            c .before .before .before .reliable-mask .ensures b marked,
+            marked .joined-are,
           )
           refl,
       omega (arith, product, c .divide .ensures .1),

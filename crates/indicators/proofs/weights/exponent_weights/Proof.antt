@@ -1,24 +1,28 @@
 -- `indicators::weights::exponent_weights` meets its contract: the operators passed have their weights.
 -- Assumes nothing.
 use borrow.Author.Needs.{needs}
-use mathlib.Core.Path.{_≡_, refl, _∙_, ap}
+use mathlib.Core.Path.{refl, _∙_, ap}
 use Prim.Native.Nat.{_-_}
 use native.Mathlib.Omega.{arith}
 use Rattle.indicators.specs.Points.{normalised, exponentWeight}
 use Rattle.values.proofs.Tables.{Filling, filling-none, filling-more, filling-each}
 use Rattle.indicators.proofs.Largest.{largest-ge, largest-le}
 use Rattle.exponent.specs.Weight.{weightOf}
+use Rattle.values.specs.Bounds.{scoreMost}
 use Rattle.indicators.proofs.weights.exponent_weights.Statement.{statement}
 use Rattle.indicators.proofs.weights.exponent_weights.Tie as tie
 
 abbrev Inv-loop : tie.InvT-loop
-Inv-loop scores top weights₀ i₀ weights i = Filling (exponentWeight scores) i weights
+Inv-loop scores top table weights₀ i₀ weights i = Filling (exponentWeight scores) i weights
 
 abbrev μ-loop : tie.MeasureT-loop
-μ-loop scores top weights₀ i₀ weights i = 16 - i
+μ-loop scores top table weights₀ i₀ weights i = 16 - i
 
 largest-of-requires : tie.Need-largest-of-requires Inv-loop μ-loop
 largest-of-requires c κs = search needs
+
+all-weights-requires : tie.Need-all-weights-requires Inv-loop μ-loop
+all-weights-requires c κs = search needs
 
 loop-holds : tie.Need-loop-holds Inv-loop μ-loop
 loop-holds c = filling-none _ _ refl
@@ -31,16 +35,19 @@ array-read-normalise c = omega arith
 
 normalise-requires : tie.Need-normalise-requires Inv-loop μ-loop
 normalise-requires c κs =
-    let begun = c .before .before .before in
+    let begun = c .before .before .before .before in
     let i = c .before .loop .i in
     let scores = begun .args .t1 in
-    omega (arith, largest-ge scores i, largest-le scores 300000000000000000 (begun .pre), c .before .before .largest-of .ensures)
-
-weight-requires : tie.Need-weight-requires Inv-loop μ-loop
-weight-requires c κs = c .normalise .ensures .1
+    omega (arith, largest-ge scores i, largest-le scores scoreMost (begun .pre), c .before .before .before .largest-of .ensures)
 
 mul-weights : tie.Need-mul-weights Inv-loop μ-loop
-mul-weights c = omega arith
+mul-weights c = omega (arith, c .normalise .ensures .1)
+
+array-read-weights : tie.Need-array-read-weights Inv-loop μ-loop
+array-read-weights c = omega (arith, c .normalise .ensures .1)
+
+mul-weights-2 : tie.Need-mul-weights-2 Inv-loop μ-loop
+mul-weights-2 c = omega arith
 
 array-write-weights : tie.Need-array-write-weights Inv-loop μ-loop
 array-write-weights c = omega arith
@@ -54,11 +61,10 @@ loop-less c = omega arith
 loop-again : tie.Need-loop-again Inv-loop μ-loop
 unfolding exponentWeight normalised
 loop-again c =
-    let scores = c .before .before .before .before .before .args .t1 in
-    let here = c .before .before .before .loop in
+    let here = c .before .before .loop in
     let top = c .before .before .before .before .largest-of .ensures in
-    let value : c .weight .result ≡ exponentWeight scores (here .i) = c .weight .ensures ∙ ap weightOf (rw top at (c .before .normalise .ensures .0)) in
-    filling-more _ _ (here .inv) (omega arith) value
+    let entry = c .before .before .before .all-weights .ensures (c .normalise .result) (c .normalise .ensures .1) in
+    filling-more _ _ (here .inv) (omega arith) (entry ∙ ap weightOf (rw top at (c .normalise .ensures .0)))
 
 returns : tie.Need-returns Inv-loop μ-loop
 returns c =
@@ -72,12 +78,14 @@ exponent-weights-spec =
     Inv-loop
     μ-loop
     largest-of-requires
+    all-weights-requires
     loop-holds
     mul-normalise
     array-read-normalise
     normalise-requires
-    weight-requires
     mul-weights
+    array-read-weights
+    mul-weights-2
     array-write-weights
     add-i
     loop-less

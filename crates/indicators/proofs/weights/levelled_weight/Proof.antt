@@ -12,15 +12,18 @@ use Rattle.indicators.proofs.weights.levelled_weight.Tie as tie
 has-bit-requires : tie.Need-has-bit-requires
 has-bit-requires c κs = search needs
 
+-- takes no part
 returns : tie.Need-returns
 returns c = rw (denied (c .before .has-bit .ensures) (c .if1 .taken)) refl
 
+-- nobody is better
 returns-2 : tie.Need-returns-2
 returns-2 c = rw (granted (c .before .before .has-bit .ensures) (c .before .if1 .left), eq-eqb _ _ (c .if2 .taken)) refl
 
 is-better-requires : tie.Need-is-better-requires
 is-better-requires c κs = search needs
 
+-- one of the better
 returns-3 : tie.Need-returns-3
 returns-3 c =
     rw (
@@ -34,9 +37,10 @@ returns-3 c =
 mul-result : tie.Need-mul-result
 mul-result c =
     let start = c .before .before .before .before .before in
-    let product = mul-le-mul (start .pre .1) (start .pre .2) in
+    let product = mul-le-mul (start .pre .better-few) (start .pre .own-most) in
     record { fits = omega (arith, product) }
 
+-- one of the others
 returns-4 : tie.Need-returns-4
 returns-4 c =
     rw (

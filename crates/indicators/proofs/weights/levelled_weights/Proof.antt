@@ -13,6 +13,8 @@ use Rattle.indicators.proofs.Weighting.{together-same, levelled-same}
 use Rattle.values.proofs.Tables.{Filling, filling-none, filling-more, filling-each, each-at}
 use Rattle.apportion.proofs.Sums.{sum-bound}
 use mathlib.Core.List.{List}
+use Rattle.exponent.specs.Weight.{firstWeight}
+use Rattle.values.specs.Bounds.{scoreMost}
 use Rattle.exponent.proofs.Laws.{weight-most}
 use Rattle.values.proofs.Tables.{each-le}
 use Rattle.indicators.proofs.weights.levelled_weights.Statement.{statement}
@@ -29,9 +31,9 @@ abbrev μ-loop : tie.MeasureT-loop
 μ-loop mask scores own sum g together weights₀ i₀ weights i = 16 - i
 
 -- no weight of the table passes its first
-own-most : (scores own : List ℕ) → own ≡ each (exponentWeight scores) → (k : ℕ) → getD own k 0 ≤ 1000000000
+own-most : (scores own : List ℕ) → own ≡ each (exponentWeight scores) → (k : ℕ) → getD own k 0 ≤ firstWeight
 unfolding exponentWeight
-own-most scores own e k = rw e (each-le (exponentWeight scores) 1000000000 (λ j lt. weight-most _) k)
+own-most scores own e k = rw e (each-le (exponentWeight scores) firstWeight (λ j lt. weight-most _) k)
 
 exponent-weights-requires : tie.Need-exponent-weights-requires Inv-loop μ-loop
 exponent-weights-requires c κs = c .pre
@@ -40,13 +42,18 @@ total-requires : tie.Need-total-requires Inv-loop μ-loop
 total-requires c κs =
     let scores = c .before .args .t2 in
     let long : length scores ≡ 16 = search needs in
-    omega (arith, rw long at (sum-bound scores 300000000000000000 (λ k lt. c .before .pre k)))
+    omega (arith, rw long at (sum-bound scores scoreMost (λ k lt. c .before .pre k)))
 
 count-better-requires : tie.Need-count-better-requires Inv-loop μ-loop
 count-better-requires c κs = (c .before .before .pre, c .total .ensures)
 
 weigh-better-requires : tie.Need-weigh-better-requires Inv-loop μ-loop
-weigh-better-requires c κs = (c .before .before .before .pre, c .before .total .ensures, own-most (c .before .before .before .args .t2) _ (c .before .before .exponent-weights .ensures))
+weigh-better-requires c κs =
+    record {
+      scores-within = c .before .before .before .pre;
+      total-is = c .before .total .ensures;
+      own-most = own-most (c .before .before .before .args .t2) _ (c .before .before .exponent-weights .ensures);
+    }
 
 loop-holds : tie.Need-loop-holds Inv-loop μ-loop
 loop-holds c = filling-none _ _ refl
@@ -69,11 +76,12 @@ array-read-levelled-weight-2 c = omega arith
 levelled-weight-requires : tie.Need-levelled-weight-requires Inv-loop μ-loop
 levelled-weight-requires c κs =
     let begun = c .before .before .before .before .before .before in
-    let i = c .before .loop .i in (
-      begun .pre i,
-      c .before .before .before .count-better .ensures .1,
-      own-most (begun .args .t2) _ (c .before .before .before .before .before .exponent-weights .ensures) i,
-    )
+    let i = c .before .loop .i in
+    record {
+      score-most = begun .pre i;
+      better-few = c .before .before .before .count-better .ensures .1;
+      own-most = own-most (begun .args .t2) _ (c .before .before .before .before .before .exponent-weights .ensures) i;
+    }
 
 mul-weights : tie.Need-mul-weights Inv-loop μ-loop
 mul-weights c = omega arith

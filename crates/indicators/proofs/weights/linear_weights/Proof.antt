@@ -6,6 +6,7 @@ use mathlib.Core.Bool.{cond}
 use mathlib.Core.List.{List}
 use Prim.Native.Nat.{ℕ, _-_}
 use native.Mathlib.Omega.{arith}
+use Rattle.values.specs.Bounds.{scoreMost}
 use Rattle.indicators.specs.Points.{normalised}
 use Rattle.indicators.proofs.WeightLaws.{linearWeight}
 use Rattle.calls.specs.Masks.{has}
@@ -45,7 +46,7 @@ linear-weight-requires c κs =
     let begun = c .before .before .before in
     let i = c .before .loop .i in
     let scores = begun .args .t2 in
-    omega (arith, largest-ge scores i, largest-le scores 300000000000000000 (begun .pre), c .before .before .largest-of .ensures)
+    omega (arith, largest-ge scores i, largest-le scores scoreMost (begun .pre), c .before .before .largest-of .ensures)
 
 mul-weights : tie.Need-mul-weights Inv-loop μ-loop
 mul-weights c = omega arith

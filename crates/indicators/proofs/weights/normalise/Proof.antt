@@ -4,7 +4,7 @@ use mathlib.Core.Path.{refl}
 use Prim.Native.Nat.{_*_, _≤_}
 use native.Mathlib.Omega.{arith}
 use borrow.Author.Tests.{eq-eqb, ne-eqb}
-use Rattle.values.specs.Indicator.{over}
+use Rattle.exact.specs.Division.{over}
 use native.Mathlib.Nat.{mul-le-mul-left, div-le-of-le-mul}
 use borrow.Author.Needs.{needs}
 use Rattle.indicators.proofs.weights.normalise.Statement.{statement}
@@ -21,7 +21,7 @@ returns-2 : tie.Need-returns-2
 unfolding over
 returns-2 c =
     let start = c .before .before in
-    let most : start .args .parts * start .args .score ≤ start .args .top * start .args .parts = omega (arith, mul-le-mul-left (start .args .parts) (start .pre .1)) in (
+    let most : start .args .parts * start .args .score ≤ start .args .top * start .args .parts = omega (arith, mul-le-mul-left (start .args .parts) (start .pre .score-within)) in (
       rw (ne-eqb _ _ (c .before .if1 .left)) (c .divide-product .ensures .0),
       rw (c .divide-product .ensures .0) (div-le-of-le-mul (start .args .top) most),
     )

@@ -8,6 +8,7 @@ use mathlib.Core.Bool.{cond}
 use Rattle.apportion.specs.Sum.{sum}
 use Rattle.indicators.specs.Points.{isBetter}
 use Rattle.values.proofs.Tables.{Filling, filling-none, filling-more, filling-each, sum-each-le}
+use Rattle.exponent.specs.Weight.{firstWeight}
 use Rattle.values.proofs.CountLaws.{cond-le}
 use mathlib.Core.List.{List}
 use Rattle.indicators.proofs.weights.weigh_better.Statement.{statement}
@@ -42,7 +43,7 @@ array-read-weight-if-better-2 : tie.Need-array-read-weight-if-better-2 Inv-loop 
 array-read-weight-if-better-2 c = omega arith
 
 weight-if-better-requires : tie.Need-weight-if-better-requires Inv-loop μ-loop
-weight-if-better-requires c κs = c .before .before .pre .0 (c .before .loop .i)
+weight-if-better-requires c κs = c .before .before .pre .scores-within (c .before .loop .i)
 
 mul-counted : tie.Need-mul-counted Inv-loop μ-loop
 mul-counted c = omega arith
@@ -62,7 +63,7 @@ loop-again c =
     let start = c .before .before .before in
     let here = c .before .before .loop in
     let f = counted (start .args .mask) (start .args .t2) (start .args .t4) in
-    let value : c .weight-if-better .result ≡ f (here .i) = rw (start .pre .1) at (c .weight-if-better .ensures) in
+    let value : c .weight-if-better .result ≡ f (here .i) = rw (start .pre .total-is) at (c .weight-if-better .ensures) in
     filling-more _ _ (here .inv) (omega arith) value
 
 total-requires : tie.Need-total-requires Inv-loop μ-loop
@@ -71,7 +72,7 @@ total-requires c κs =
     let here = c .before .loop in
     let f = counted (start .args .mask) (start .args .t2) (start .args .t4) in
     rw (filling-each (here .inv) (omega arith))
-    (omega (arith, sum-each-le f 1000000000 (λ k lt. cond-le (isBetter (start .args .mask) (start .args .t2) k) (start .pre .2 k) zero-le)))
+    (omega (arith, sum-each-le f firstWeight (λ k lt. cond-le (isBetter (start .args .mask) (start .args .t2) k) (start .pre .own-most k) zero-le)))
 
 returns : tie.Need-returns Inv-loop μ-loop
 returns c =

@@ -1,7 +1,7 @@
 -- `settlement::gather::gather_one` meets its contract.
 -- Assumes nothing.
 use mathlib.Core.Path.{refl, _∙_}
-use native.Mathlib.Omega.{arith}
+use Rattle.values.proofs.InRange.{lending, lending-marked, lending-measured}
 use Rattle.settlement.proofs.Gathering.{point-le}
 use borrow.Author.Needs.{needs}
 use Rattle.settlement.proofs.gather.gather_one.Statement.{statement}
@@ -27,18 +27,27 @@ place-requires c κs = search needs
 
 add-requires : tie.Need-add-requires
 add-requires c κs =
-    let begun = c .before .before .before .before .before .before in (
-      λ k. omega (arith, begun .pre .2 k),
-      λ k. rw (c .before .before .before .before .before .points-of .ensures) (omega (arith, point-le (begun .args .b) (begun .args .number) (begun .pre .1) k)),
+    let begun = c .before .before .before .before .before .before in
+    let joined = begun .args .joined in
+    let marks = begun .args .marks .now in
+    let settings = begun .args .settings .now in
+    let figures = begun .args .figures .now in
+    let indices = begun .args .indices .now in
+    let b = lending joined marks settings figures indices in
+    let shares =
+    c .before .before .before .before .before .points-of .ensures b (lending-marked joined marks settings figures indices) (lending-measured joined marks settings figures indices) in (
+      begun .pre .totals-most,
+      λ k. rw shares (point-le b (begun .args .number) (begun .pre .number-there) k),
     )
 
 returns : tie.Need-returns
-returns c =
-    let shares = c .before .before .before .before .before .before .points-of .ensures in (
-      rw (c .before .before .before .before .pool-of .ensures .0) refl,
-      c .before .before .place .ensures ∙ rw shares refl,
-      c .add .ensures ∙ rw shares refl,
-    )
+returns c = λ b marked measured.
+    let shares = c .before .before .before .before .before .before .points-of .ensures b marked measured in
+    record {
+      pools-are = rw (c .before .before .before .before .pool-of .ensures .0 b marked) refl;
+      points-are = c .before .before .place .ensures ∙ rw shares refl;
+      totals-are = c .add .ensures ∙ rw shares refl;
+    }
 
 pub gather-one-spec : {M : Type 1} → statement M
 gather-one-spec =

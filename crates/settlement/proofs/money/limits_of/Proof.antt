@@ -1,27 +1,21 @@
 -- `settlement::money::limits_of` meets its contract. The loop's invariant: the places passed hold their limit.
 -- Assumes nothing.
 use borrow.Author.Needs.{needs}
-use mathlib.Core.Path.{refl, _∙_}
+use mathlib.Core.Path.{refl}
 use Prim.Native.Nat.{ℕ, _*_, _/_, _-_}
 use native.Mathlib.Omega.{arith}
 use lib.ListN.{getD}
-use Rattle.settlement.specs.Money.{limits}
-use Rattle.settlement.proofs.InRange.{income-at, limit-product-le}
-use Rattle.values.proofs.Tables.{Filling, filling-none, filling-more, filling-each, each-same}
+use Rattle.settlement.proofs.InRange.{limit-product-le, limit-le}
+use Rattle.values.specs.Bounds.{limitMost}
+use Rattle.values.proofs.Tables.{Filling, filling-none, filling-more, filling-each, each-le}
 use Rattle.settlement.proofs.money.limits_of.Statement.{statement}
 use Rattle.settlement.proofs.money.limits_of.Tie as tie
 
 abbrev Inv-loop : tie.InvT-loop
-Inv-loop incomes cap out₀ operator₀ out operator = Filling (λ (k : ℕ). cap * getD incomes k 0 / 1000000) operator out
+Inv-loop rate incomes cap out₀ operator₀ out operator = Filling (λ (k : ℕ). cap * getD incomes k 0 / 1000000) operator out
 
 abbrev μ-loop : tie.MeasureT-loop
-μ-loop incomes cap out₀ operator₀ out operator = 16 - operator
-
-incomes-of-requires : tie.Need-incomes-of-requires Inv-loop μ-loop
-incomes-of-requires c κs = search needs
-
-cast-cap : tie.Need-cast-cap Inv-loop μ-loop
-cast-cap c = search needs
+μ-loop rate incomes cap out₀ operator₀ out operator = 16 - operator
 
 loop-holds : tie.Need-loop-holds Inv-loop μ-loop
 loop-holds c = filling-none _ _ refl
@@ -34,10 +28,9 @@ array-read-out c = search needs
 
 mul-out-2 : tie.Need-mul-out-2 Inv-loop μ-loop
 mul-out-2 c =
-    let begun = c .before .before .before .before in
-    let at-place = income-at (begun .args .b) (c .before .loop .operator) (omega arith) in
-    let product = limit-product-le (begun .args .b) (begun .pre) (c .before .loop .operator) (omega arith) in
-    rw (c .before .before .before .incomes-of .ensures, at-place) (record { fits = omega arith })
+    let begun = c .before .before in
+    let product = limit-product-le (begun .args .rate) (begun .args .t2) (begun .pre .0) (begun .pre .1) (c .before .loop .operator) in
+    record { fits = omega arith }
 
 mul-out-3 : tie.Need-mul-out-3 Inv-loop μ-loop
 mul-out-3 c = search needs
@@ -55,11 +48,10 @@ loop-again : tie.Need-loop-again Inv-loop μ-loop
 loop-again c = filling-more _ _ (c .before .loop .inv) (omega arith) refl
 
 returns : tie.Need-returns Inv-loop μ-loop
-unfolding limits
 returns c =
-    let begun = c .before .before .before .before in
-    filling-each (c .before .loop .inv) (omega arith)
-    ∙ each-same _ _ (λ k lt. rw (c .before .before .before .incomes-of .ensures, income-at (begun .args .b) k lt) refl)
+    let begun = c .before .before in
+    let filled = filling-each (c .before .loop .inv) (omega arith) in
+    (filled, λ k. rw filled (each-le _ limitMost (λ j lt. limit-le (begun .args .rate) (begun .args .t2) (begun .pre .0) (begun .pre .1) j) k))
 
 pub limits-of-spec : {M : Type 1} → statement M
 limits-of-spec =
@@ -67,8 +59,6 @@ limits-of-spec =
     (tie.spec
     Inv-loop
     μ-loop
-    incomes-of-requires
-    cast-cap
     loop-holds
     mul-out
     array-read-out

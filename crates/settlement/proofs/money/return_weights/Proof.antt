@@ -7,6 +7,7 @@ use native.Mathlib.Omega.{arith}
 use native.Mathlib.Nat.{mul-le-mul}
 use lib.ListN.{getD}
 use Rattle.values.proofs.Tables.{Filling, filling-none, filling-more, filling-each}
+use Rattle.settlement.proofs.Amounts.{weights-sum}
 use Rattle.settlement.proofs.money.return_weights.Statement.{statement}
 use Rattle.settlement.proofs.money.return_weights.Tie as tie
 
@@ -54,7 +55,10 @@ loop-again : tie.Need-loop-again Inv-loop μ-loop
 loop-again c = filling-more _ _ (c .before .loop .inv) (omega arith) refl
 
 returns : tie.Need-returns Inv-loop μ-loop
-returns c = filling-each (c .before .loop .inv) (omega arith)
+returns c =
+    let begun = c .before .before in
+    let filled = filling-each (c .before .loop .inv) (omega arith) in
+    (filled, rw filled (weights-sum (begun .args .t1) (begun .args .t2) (begun .pre .0) (begun .pre .1)))
 
 pub return-weights-spec : {M : Type 1} → statement M
 return-weights-spec =

@@ -1,6 +1,9 @@
 -- `settlement::settling::adjust` meets its contract.
 -- Assumes nothing.
-use mathlib.Core.Path.{refl, _∙_}
+use mathlib.Core.Path.{refl, ap, _∙_}
+use native.Mathlib.Nat.{lt-of-le-of-lt}
+use lib.Dec.{lit<}
+use Rattle.apportion.specs.Sum.{sum}
 use native.Mathlib.Omega.{arith}
 use Rattle.settlement.specs.Money.{adjustedBy}
 use Rattle.settlement.proofs.Amounts.{cut-sum-le, balanced-le}
@@ -16,27 +19,38 @@ capped-side-requires-2 c κs = search needs
 
 balanced-side-requires : tie.Need-balanced-side-requires
 balanced-side-requires c κs =
-    let begun = c .before .before in (
-      rw (c .before .capped-side .ensures) (omega (arith, cut-sum-le (begun .args .received) (begun .args .paid) (begun .args .limits) (begun .pre))),
-      rw (c .capped-side2 .ensures) (omega (arith, cut-sum-le (begun .args .paid) (begun .args .received) (begun .args .limits) (begun .pre))),
+    let args = c .before .before .args in
+    let small = c .before .before .pre in
+    omega (
+      arith,
+      ap sum (c .before .capped-side .ensures),
+      cut-sum-le (args .received) (args .paid) (args .limits) small,
+      ap sum (c .capped-side2 .ensures),
+      cut-sum-le (args .paid) (args .received) (args .limits) small,
     )
 
 balanced-side-requires-2 : tie.Need-balanced-side-requires-2
 balanced-side-requires-2 c κs =
-    let begun = c .before .before .before in (
-      rw (c .before .capped-side2 .ensures) (omega (arith, cut-sum-le (begun .args .paid) (begun .args .received) (begun .args .limits) (begun .pre))),
-      rw (c .before .before .capped-side .ensures) (omega (arith, cut-sum-le (begun .args .received) (begun .args .paid) (begun .args .limits) (begun .pre))),
+    let args = c .before .before .before .args in
+    let small = c .before .before .before .pre in
+    omega (
+      arith,
+      ap sum (c .before .before .capped-side .ensures),
+      cut-sum-le (args .received) (args .paid) (args .limits) small,
+      ap sum (c .before .capped-side2 .ensures),
+      cut-sum-le (args .paid) (args .received) (args .limits) small,
     )
 
 differences-requires : tie.Need-differences-requires
 differences-requires c κs =
-    let begun = c .before .before .before .before in (
+    let args = c .before .before .before .before .args in
+    let small = c .before .before .before .before .pre in (
       λ k lt.
           rw (c .before .balanced-side .ensures, c .before .before .before .capped-side .ensures)
-          (omega (arith, balanced-le (begun .args .received) (begun .args .paid) (begun .args .limits) (begun .pre) (c .before .before .capped-side2 .result) k lt)),
+          (lt-of-le-of-lt (balanced-le (args .received) (args .paid) (args .limits) small _ k lt) (lit< tt)),
       λ k lt.
           rw (c .balanced-side2 .ensures, c .before .before .capped-side2 .ensures)
-          (omega (arith, balanced-le (begun .args .paid) (begun .args .received) (begun .args .limits) (begun .pre) (c .before .before .before .capped-side .result) k lt)),
+          (lt-of-le-of-lt (balanced-le (args .paid) (args .received) (args .limits) small _ k lt) (lit< tt)),
     )
 
 returns : tie.Need-returns

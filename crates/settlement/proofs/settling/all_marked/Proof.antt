@@ -9,6 +9,7 @@ use lib.Dec.{eqb}
 use Rattle.book.specs.declared.Book.{Book}
 use Rattle.book.specs.Book.{inRange}
 use Rattle.settlement.specs.Settlement.{allMarked}
+use Rattle.values.specs.Parts.{HasMarks}
 use Rattle.settlement.proofs.MarkLaws.{marked-none, marked-more}
 use lib.ListN.{drop}
 use mathlib.Core.List.{_∷_}
@@ -19,10 +20,11 @@ use Rattle.settlement.proofs.settling.all_marked.Statement.{statement}
 use Rattle.settlement.proofs.settling.all_marked.Tie as tie
 
 abbrev Inv-loop : tie.InvT-loop
-Inv-loop b number₀ number = (number ≤ 6) × (allMarked b (drop number electricity) ≡ allMarked b electricity)
+Inv-loop joined marks number₀ number =
+    (number ≤ 6) × ((b : Book) → inRange b ≡ true → HasMarks b joined marks → allMarked b (drop number electricity) ≡ allMarked b electricity)
 
 abbrev μ-loop : tie.MeasureT-loop
-μ-loop b number₀ number = 6 - number
+μ-loop joined marks number₀ number = 6 - number
 
 -- the next indicator, and those after it
 next : (n : ℕ) → n < 6 → drop n electricity ≡ numbered n ∷ drop (n + 1) electricity
@@ -34,17 +36,17 @@ more : (b : Book) → inRange b ≡ true → (n : ℕ) → n < 6
 more b ranged n lt = ap (allMarked b) (next n lt) ∙ marked-more b ranged (numbered n) (drop (n + 1) electricity)
 
 loop-holds : tie.Need-loop-holds Inv-loop μ-loop
-loop-holds c = (omega arith, refl)
+loop-holds c = (omega arith, λ b ranged marked. refl)
 
 reliable-mask-requires : tie.Need-reliable-mask-requires Inv-loop μ-loop
 reliable-mask-requires c κs = omega arith
 
+-- somebody takes part
 returns : tie.Need-returns Inv-loop μ-loop
-returns c =
+returns c = λ b ranged marked.
     let here = c .before .before .before .loop in
-    let begun = c .before .before .before .before in
-    let somebody = ne-eqb _ _ (λ z. c .if1 .taken (c .before .reliable-mask .ensures ∙ z)) in
-    sym (sym (here .inv .1) ∙ more (begun .args .b) (begun .pre) (here .number) (omega arith) ∙ rw somebody refl)
+    let somebody = ne-eqb _ _ (λ z. c .if1 .taken (c .before .reliable-mask .ensures b marked ∙ z)) in
+    sym (sym (here .inv .1 b ranged marked) ∙ more b ranged (here .number) (omega arith) ∙ rw somebody refl)
 
 add-number : tie.Need-add-number Inv-loop μ-loop
 add-number c = omega arith
@@ -54,19 +56,20 @@ loop-less c = omega arith
 
 loop-again : tie.Need-loop-again Inv-loop μ-loop
 loop-again c =
-    let here = c .before .before .before .loop in
-    let begun = c .before .before .before .before in
-    let nobody = eq-eqb _ _ (sym (c .before .reliable-mask .ensures) ∙ c .if1 .left) in (
+    let here = c .before .before .before .loop in (
       omega arith,
-      sym (more (begun .args .b) (begun .pre) (here .number) (omega arith) ∙ rw nobody refl) ∙ here .inv .1,
+      λ b ranged marked.
+          let nobody = eq-eqb _ _ (sym (c .before .reliable-mask .ensures b marked) ∙ c .if1 .left) in
+          sym (more b ranged (here .number) (omega arith) ∙ rw nobody refl) ∙ here .inv .1 b ranged marked,
     )
 
+-- nobody does
 returns-2 : tie.Need-returns-2 Inv-loop μ-loop
 unfolding electricity
-returns-2 c =
+returns-2 c = λ b ranged marked.
     let here = c .before .loop in
     let last : here .number ≡ 6 = omega arith in
-    sym (marked-none (c .before .before .args .b)) ∙ (rw last at (here .inv .1))
+    sym (marked-none b) ∙ (rw last at (here .inv .1 b ranged marked))
 
 pub all-marked-spec : {M : Type 1} → statement M
 all-marked-spec =

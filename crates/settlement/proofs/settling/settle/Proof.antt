@@ -1,13 +1,28 @@
 -- `settlement::settling::settle` meets its contract: its tests follow the order of the numbers.
 -- Assumes nothing.
-use mathlib.Core.Path.{refl, sym, _∙_}
+use mathlib.Core.Path.{_≡_, refl, sym, _∙_}
+use mathlib.Core.Bool.{true}
 use borrow.Author.Tests.{eq-eqb, ne-eqb}
 use Rattle.calls.specs.Answers.{onAnswer, firstOf}
 use Rattle.calls.proofs.Flags.{denied, granted}
-use Rattle.settlement.specs.Settlement.{settlingLines, settledBy, settled}
+use Rattle.book.specs.Book.{inRange}
+use Rattle.values.specs.Indicator.{electricity}
+use Rattle.settlement.specs.Settlement.{networkMissing, allMarked, settlingLines, settledBy, settled}
 use borrow.Author.Needs.{needs}
 use Rattle.settlement.proofs.settling.settle.Statement.{statement}
 use Rattle.settlement.proofs.settling.settle.Tie as tie
+
+-- what the tests found of the book
+ranged : (c : tie.Else1) → inRange (c .before .before .args .b) ≡ true
+ranged c = granted (c .before .in-range .ensures) (c .if1 .left)
+
+missing : (c : tie.After-network-missing) → c .network-missing .result ≡ networkMissing (c .before .before .before .before .before .before .before .before .before .before .args .b)
+missing c =
+    let b = c .before .before .before .before .before .before .before .before .before .before .args .b in
+    c .network-missing .ensures b refl (c .before .before .before .settings-of .ensures b refl) (c .before .settings-of2 .ensures b refl)
+
+marked : (c : tie.After-all-marked) → c .all-marked .result ≡ allMarked (c .before .before .before .before .before .before .before .before .before .before .before .before .before .before .args .b) electricity
+marked c = c .all-marked .ensures (c .before .before .before .before .before .before .before .before .before .before .before .before .before .before .args .b) (ranged (c .before .before .before .before .before .before .before .before .before .before .before .before)) (record { joined-are = refl; marks-are = refl })
 
 in-range-requires : tie.Need-in-range-requires
 in-range-requires c κs = search needs
@@ -15,6 +30,7 @@ in-range-requires c κs = search needs
 refuse-requires : tie.Need-refuse-requires
 refuse-requires c κs = search needs
 
+-- 5
 returns : tie.Need-returns
 unfolding settled settledBy settlingLines firstOf onAnswer
 returns c = rw (denied (c .before .before .in-range .ensures) (c .before .if1 .taken)) (c .refuse .ensures)
@@ -22,9 +38,16 @@ returns c = rw (denied (c .before .before .in-range .ensures) (c .before .if1 .t
 refuse-requires-2 : tie.Need-refuse-requires-2
 refuse-requires-2 c κs = search needs
 
+-- 10
 returns-2 : tie.Need-returns-2
 unfolding settled settledBy settlingLines firstOf onAnswer
-returns-2 c = rw (granted (c .before .before .before .before .in-range .ensures) (c .before .before .before .if1 .left), eq-eqb _ _ (c .before .if2 .taken)) (c .refuse2 .ensures)
+returns-2 c = rw (ranged (c .before .before .before), eq-eqb _ _ (c .before .if2 .taken)) (c .refuse2 .ensures)
+
+settings-of-requires : tie.Need-settings-of-requires
+settings-of-requires c κs = search needs
+
+settings-of-requires-2 : tie.Need-settings-of-requires-2
+settings-of-requires-2 c κs = search needs
 
 network-missing-requires : tie.Need-network-missing-requires
 network-missing-requires c κs = search needs
@@ -32,26 +55,49 @@ network-missing-requires c κs = search needs
 refuse-requires-3 : tie.Need-refuse-requires-3
 refuse-requires-3 c κs = search needs
 
+-- 11
 returns-3 : tie.Need-returns-3
 unfolding settled settledBy settlingLines firstOf onAnswer
-returns-3 c = rw (granted (c .before .before .before .before .before .before .in-range .ensures) (c .before .before .before .before .before .if1 .left), ne-eqb _ _ (c .before .before .before .if2 .left), sym (c .before .before .network-missing .ensures) ∙ c .before .if3 .taken) (c .refuse3 .ensures)
+returns-3 c =
+    rw (
+      ranged (c .before .before .before .before .before .before .before .before .before .before),
+      ne-eqb _ _ (c .before .before .before .before .before .before .before .before .if2 .left),
+      sym (missing (c .before .before)) ∙ c .before .if3 .taken,
+    )
+    (c .refuse3 .ensures)
 
 all-marked-requires : tie.Need-all-marked-requires
-all-marked-requires c κs = granted (c .before .before .before .before .before .in-range .ensures) (c .before .before .before .before .if1 .left)
+all-marked-requires c κs = search needs
 
 refuse-requires-4 : tie.Need-refuse-requires-4
 refuse-requires-4 c κs = search needs
 
+-- 12
 returns-4 : tie.Need-returns-4
 unfolding settled settledBy settlingLines firstOf onAnswer
-returns-4 c = rw (granted (c .before .before .before .before .before .before .before .before .in-range .ensures) (c .before .before .before .before .before .before .before .if1 .left), ne-eqb _ _ (c .before .before .before .before .before .if2 .left), sym (c .before .before .before .before .network-missing .ensures) ∙ c .before .before .before .if3 .left, sym (c .before .before .all-marked .ensures) ∙ c .before .if4 .taken) (c .refuse4 .ensures)
+returns-4 c =
+    rw (
+      ranged (c .before .before .before .before .before .before .before .before .before .before .before .before .before .before),
+      ne-eqb _ _ (c .before .before .before .before .before .before .before .before .before .before .before .before .if2 .left),
+      sym (missing (c .before .before .before .before .before .before)) ∙ c .before .before .before .before .before .if3 .left,
+      sym (marked (c .before .before)) ∙ c .before .if4 .taken,
+    )
+    (c .refuse4 .ensures)
 
 settle-in-range-requires : tie.Need-settle-in-range-requires
-settle-in-range-requires c κs = granted (c .before .before .before .before .before .before .before .in-range .ensures) (c .before .before .before .before .before .before .if1 .left)
+settle-in-range-requires c κs = ranged (c .before .before .before .before .before .before .before .before .before .before .before .before .before)
 
+-- settled
 returns-5 : tie.Need-returns-5
 unfolding settled settledBy settlingLines firstOf onAnswer
-returns-5 c = rw (granted (c .before .before .before .before .before .before .before .before .in-range .ensures) (c .before .before .before .before .before .before .before .if1 .left), ne-eqb _ _ (c .before .before .before .before .before .if2 .left), sym (c .before .before .before .before .network-missing .ensures) ∙ c .before .before .before .if3 .left, sym (c .before .before .all-marked .ensures) ∙ c .before .if4 .left) (refl, c .settle-in-range .ensures)
+returns-5 c =
+    rw (
+      ranged (c .before .before .before .before .before .before .before .before .before .before .before .before .before .before),
+      ne-eqb _ _ (c .before .before .before .before .before .before .before .before .before .before .before .before .if2 .left),
+      sym (missing (c .before .before .before .before .before .before)) ∙ c .before .before .before .before .before .if3 .left,
+      sym (marked (c .before .before)) ∙ c .before .if4 .left,
+    )
+    (refl, c .settle-in-range .ensures)
 
 pub settle-spec : {M : Type 1} → statement M
 settle-spec =
@@ -62,6 +108,8 @@ settle-spec =
     returns
     refuse-requires-2
     returns-2
+    settings-of-requires
+    settings-of-requires-2
     network-missing-requires
     refuse-requires-3
     returns-3

@@ -1,73 +1,53 @@
 -- `settlement::settling::settle_in_range` meets its contract.
 -- Assumes nothing.
-use mathlib.Core.Path.{_≡_, refl, _∙_, ap}
-use Prim.Native.Nat.{_≤_}
-use native.Mathlib.Omega.{arith}
-use Rattle.settlement.specs.Settlement.{settlementBy}
-use Rattle.settlement.specs.Money.{contributions, returns as Money·returns, adjustments}
-use Rattle.settlement.proofs.Amounts.{access-most, access-sum, limit-most, weights-same, weights-sum}
-use Rattle.apportion.specs.Sum.{sum}
-use Rattle.values.specs.Indicator.{electricity}
+use mathlib.Core.Path.{refl}
+use Rattle.values.proofs.InRange.{within, pot-rate-le, cap-rate-le}
+use Rattle.settlement.proofs.InRange.{access-most, incomes-most}
 use borrow.Author.Needs.{needs}
 use Rattle.settlement.proofs.settling.settle_in_range.Statement.{statement}
 use Rattle.settlement.proofs.settling.settle_in_range.Tie as tie
 
 gather-requires : tie.Need-gather-requires
-gather-requires c κs = search needs
+gather-requires c κs =
+    let start = c .before .before .before .before .before .before .before .before in
+    within (start .args .b) (start .pre)
 
-pot-of-requires : tie.Need-pot-of-requires
-pot-of-requires c κs = search needs
+settings-of-requires : tie.Need-settings-of-requires
+settings-of-requires c κs = search needs
 
-access-points-of-requires : tie.Need-access-points-of-requires
-access-points-of-requires c κs = search needs
+settings-of-requires-2 : tie.Need-settings-of-requires-2
+settings-of-requires-2 c κs = search needs
 
-share-requires : tie.Need-share-requires
-share-requires c κs =
-    let begun = c .before .before .before .before in
-    omega (arith, c .before .pot-of .ensures .1, ap sum (c .access-points-of .ensures), access-sum (begun .args .b) (begun .pre))
-
-return-weights-requires : tie.Need-return-weights-requires
-return-weights-requires c κs =
-    let begun = c .before .before .before .before .before in (
-      λ k lt. rw (c .before .access-points-of .ensures) (access-most (begun .args .b) (begun .pre) k lt),
-      λ k lt. c .before .before .before .before .gather .ensures .3 k,
-    )
-
-share-requires-2 : tie.Need-share-requires-2
-share-requires-2 c κs =
-    let begun = c .before .before .before .before .before .before in
-    let few : sum (c .return-weights .result) ≤ 320000000000000 =
-    rw (c .return-weights .ensures)
-    (weights-sum (c .before .before .access-points-of .result) (c .before .before .before .before .before .gather .result .totals) (λ k lt. rw (c .before .before .access-points-of .ensures) (access-most (begun .args .b) (begun .pre) k lt)) (λ k lt. c .before .before .before .before .before .gather .ensures .3 k)) in
-    omega (arith, c .before .before .before .pot-of .ensures .1, few)
-
-limits-of-requires : tie.Need-limits-of-requires
-limits-of-requires c κs = search needs
-
-adjust-requires : tie.Need-adjust-requires
-adjust-requires c κs = λ k lt. rw (c .limits-of .ensures) (limit-most (c .before .before .before .before .before .before .before .before .args .b) (c .before .before .before .before .before .before .before .before .pre) k lt)
+settle-points-requires : tie.Need-settle-points-requires
+settle-points-requires c κs =
+    let start = c .before .before .before .before .before .before .before .before .before .before .before .before .before in
+    let b = start .args .b in
+    let gathered =
+    c .before .before .before .before .gather .ensures b (record { joined-are = refl; marks-are = refl })
+    (record { settings-are = refl; figures-are = refl; indices-are = refl }) in
+    record {
+      totals-most = gathered .totals-most;
+      access-most = rw (c .before .before .settings-of .ensures b refl) (access-most b (start .pre));
+      incomes-most = rw (c .settings-of2 .ensures b refl) (incomes-most b (start .pre));
+      pot-most = pot-rate-le b (start .pre);
+      cap-most = cap-rate-le b (start .pre);
+    }
 
 returns : tie.Need-returns
-unfolding settlementBy contributions Money·returns adjustments
 returns c =
-    let book = c .before .before .before .before .before .before .before .before .before .before .before .args .b in
-    let gathered = c .before .before .before .before .before .before .before .before .before .before .gather .ensures in
-    let access = c .before .before .before .before .before .before .before .access-points-of .ensures in
-    let weighed = c .before .before .before .before .before .return-weights .ensures ∙ weights-same book electricity _ _ access (gathered .2) in
-    let paid : c .before .before .before .before .before .before .share .result ≡ contributions book = c .before .before .before .before .before .before .share .ensures ∙ rw (c .before .before .before .before .before .before .before .before .pot-of .ensures .0, access) refl in
-    let received : c .before .before .before .before .share2 .result ≡ Money·returns book electricity = c .before .before .before .before .share2 .ensures ∙ rw (c .before .before .before .before .before .before .before .before .pot-of .ensures .0, weighed) refl in
-    rw (gathered .0, gathered .1, c .before .before .before .before .before .before .before .before .pot-of .ensures .0, paid, received, c .before .before .before .limits-of .ensures, c .before .before .adjust .ensures, paid, received, c .before .before .before .limits-of .ensures) refl
+    let b = c .before .before .before .before .before .before .before .before .before .before .before .before .before .before .args .b in
+    let gathered =
+    c .before .before .before .before .before .gather .ensures b (record { joined-are = refl; marks-are = refl })
+    (record { settings-are = refl; figures-are = refl; indices-are = refl }) in
+    c .settle-points .ensures b gathered
+    (record {
+      access-are = c .before .before .before .settings-of .ensures b refl;
+      incomes-are = c .before .settings-of2 .ensures b refl;
+      pot-is = refl;
+      cap-is = refl;
+    })
 
 pub settle-in-range-spec : {M : Type 1} → statement M
 settle-in-range-spec =
     tie.close
-    (tie.spec
-    gather-requires
-    pot-of-requires
-    access-points-of-requires
-    share-requires
-    return-weights-requires
-    share-requires-2
-    limits-of-requires
-    adjust-requires
-    returns)
+    (tie.spec gather-requires settings-of-requires settings-of-requires-2 settle-points-requires returns)

@@ -1,13 +1,13 @@
--- `values::divide` meets its contract.
+-- `exact::divide` meets its contract.
 -- Assumes nothing.
 use mathlib.Core.Path.{refl}
 use native.Mathlib.Omega.{arith}
 use native.Mathlib.Nat.{div-le-self}
 use borrow.Author.Tests.{ne-eqb}
-use Rattle.values.specs.Indicator.{over}
+use Rattle.exact.specs.Division.{over}
 use borrow.Author.Needs.{needs}
-use Rattle.values.proofs.divide.Statement.{statement}
-use Rattle.values.proofs.divide.Tie as tie
+use Rattle.exact.proofs.divide.Statement.{statement}
+use Rattle.exact.proofs.divide.Tie as tie
 
 returns : tie.Need-returns
 unfolding over

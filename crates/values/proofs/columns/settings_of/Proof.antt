@@ -1,21 +1,19 @@
--- `values::figures_of` meets its contract. The loop's invariant: the places passed hold their operator's value.
+-- `values::columns::settings_of` meets its contract. The loop's invariant: the places passed hold their operator's value.
 -- Assumes nothing.
 use native.Mathlib.Omega.{arith}
 use Rattle.values.proofs.Tables.{Filling, filling-none, filling-more, filling-each}
 use mathlib.Core.Path.{refl}
 use Prim.Native.Nat.{ℕ, _-_}
 use lib.ListN.{getD}
-use Rattle.book.specs.Book.{figureOf, figureSlot}
-use Rattle.values.proofs.figures_of.Statement.{statement}
-use Rattle.values.proofs.figures_of.Tie as tie
-use Rattle.values.proofs.figures_of.Reads as reads
-use Rattle.values.proofs.figures_of.Lts as lts
+use Rattle.book.specs.Book.{settingOf, settingSlot}
+use Rattle.values.proofs.columns.settings_of.Statement.{statement}
+use Rattle.values.proofs.columns.settings_of.Tie as tie
 
 abbrev Inv-loop : tie.InvT-loop
-Inv-loop year figure figures list₀ operator₀ list operator = Filling (λ (k : ℕ). getD figures (figureSlot k year figure) 0) operator list
+Inv-loop settings which list₀ operator₀ list operator = Filling (λ (k : ℕ). getD settings (settingSlot k which) 0) operator list
 
 abbrev μ-loop : tie.MeasureT-loop
-μ-loop year figure figures list₀ operator₀ list operator = 16 - operator
+μ-loop settings which list₀ operator₀ list operator = 16 - operator
 
 loop-holds : tie.Need-loop-holds Inv-loop μ-loop
 loop-holds c = filling-none _ _ refl
@@ -29,17 +27,11 @@ add-list c = omega arith
 mul-list-2 : tie.Need-mul-list-2 Inv-loop μ-loop
 mul-list-2 c = omega arith
 
-add-list-2 : tie.Need-add-list-2 Inv-loop μ-loop
-add-list-2 c = omega arith
+element-copy-out-list : tie.Need-element-copy-out-list Inv-loop μ-loop
+element-copy-out-list c = omega arith
 
 mul-list-3 : tie.Need-mul-list-3 Inv-loop μ-loop
 mul-list-3 c = omega arith
-
-array-read-list : tie.Need-array-read-list Inv-loop μ-loop
-array-read-list c = omega arith
-
-mul-list-4 : tie.Need-mul-list-4 Inv-loop μ-loop
-mul-list-4 c = omega arith
 
 array-write-list : tie.Need-array-write-list Inv-loop μ-loop
 array-write-list c = omega arith
@@ -51,15 +43,15 @@ loop-less : tie.Need-loop-less Inv-loop μ-loop
 loop-less c = omega arith
 
 loop-again : tie.Need-loop-again Inv-loop μ-loop
-unfolding figureSlot
-loop-again c = filling-more _ _ (c .before .loop .inv) (omega arith) refl
+unfolding settingSlot
+loop-again c = filling-more _ _ (c .before .before .loop .inv) (omega arith) refl
 
 returns : tie.Need-returns Inv-loop μ-loop
-unfolding figureOf
-returns c = filling-each (c .before .loop .inv) (omega arith)
+unfolding settingOf
+returns c = λ b same. rw same (filling-each (c .before .loop .inv) (omega arith))
 
-pub figures-of-spec : {M : Type 1} → statement M
-figures-of-spec =
+pub settings-of-spec : {M : Type 1} → statement M
+settings-of-spec =
     tie.close
     (tie.spec
     Inv-loop
@@ -68,10 +60,8 @@ figures-of-spec =
     mul-list
     add-list
     mul-list-2
-    add-list-2
+    element-copy-out-list
     mul-list-3
-    array-read-list
-    mul-list-4
     array-write-list
     add-operator
     loop-less

@@ -1,0 +1,2 @@
+-- The definitions of `exact`.
+pub mod Division
