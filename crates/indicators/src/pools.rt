@@ -10,6 +10,10 @@ ghost use Rattle.indicators.specs.Points.{weights, points};
 use crate::weights::levelled_weights;
 use crate::weights::linear_weights;
 use crate::weights::ones_of;
+use calls::FIGURE_PLACES;
+use calls::INDICATORS;
+use calls::INDICES;
+use calls::SETTING_PLACES;
 use exact::divide;
 use values::reliable_mask;
 use values::scores_of;
@@ -17,10 +21,10 @@ use values::scores_of;
 // In hundredths, by operator.
 pub fn points_of(
     joined: u16,
-    marks: &[u16; 6],
-    settings: &[u64; 48],
-    figures: &[u64; 384],
-    indices: &[u32; 4],
+    marks: &[u16; INDICATORS],
+    settings: &[u64; SETTING_PLACES],
+    figures: &[u64; FIGURE_PLACES],
+    indices: &[u32; INDICES],
     number: u8,
 ) -> [u64; 16]
     requires { ⌜ Within (now settings) (now figures) (now indices) × (number < 6) ⌝ }
@@ -45,7 +49,7 @@ fn weights_of(mask: u16, scores: [u64; 16], number: u8) -> [u64; 16]
 }
 
 // In hundredths.
-pub fn pool_of(joined: u16, marks: &[u16; 6], number: u8) -> u64
+pub fn pool_of(joined: u16, marks: &[u16; INDICATORS], number: u8) -> u64
     requires { ⌜ number < 6 ⌝ }
     ensures { λ r. ⌜ ((b : Book) → HasMarks b joined (now (marks .entry)) → r ≡ pool b (numbered number)) × (r ≤ poolMost) ⌝ }
 {

@@ -8,6 +8,10 @@ ghost use Rattle.values.specs.Bounds.{poolMost, totalMost};
 ghost use Rattle.values.specs.Operators.{each};
 ghost use Rattle.values.specs.Parts.{HasMarks, HasMeasures, Within};
 ghost use Rattle.settlement.specs.Steps.{GatheringAsked, OneGathered, AllGathered};
+use calls::FIGURE_PLACES;
+use calls::INDICATORS;
+use calls::INDICES;
+use calls::SETTING_PLACES;
 use indicators::points_of;
 use indicators::pool_of;
 
@@ -19,10 +23,10 @@ pub(crate) struct Gathered {
 
 pub(crate) fn gather(
     joined: u16,
-    marks: &[u16; 6],
-    settings: &[u64; 48],
-    figures: &[u64; 384],
-    indices: &[u32; 4],
+    marks: &[u16; INDICATORS],
+    settings: &[u64; SETTING_PLACES],
+    figures: &[u64; FIGURE_PLACES],
+    indices: &[u32; INDICES],
 ) -> Gathered
     requires { ⌜ Within (now settings) (now figures) (now indices) ⌝ }
     ensures { λ r. ⌜ ((b : Book) → HasMarks b joined (now (marks .entry)) → HasMeasures b (now (settings .entry)) (now (figures .entry)) (now (indices .entry)) → AllGathered b r) ⌝ }
@@ -43,10 +47,10 @@ pub(crate) fn gather(
 fn gather_one(
     g: Gathered,
     joined: u16,
-    marks: &[u16; 6],
-    settings: &[u64; 48],
-    figures: &[u64; 384],
-    indices: &[u32; 4],
+    marks: &[u16; INDICATORS],
+    settings: &[u64; SETTING_PLACES],
+    figures: &[u64; FIGURE_PLACES],
+    indices: &[u32; INDICES],
     number: u8,
 ) -> Gathered
     requires { ⌜ GatheringAsked (now settings) (now figures) (now indices) (g .totals) number ⌝ }

@@ -28,6 +28,7 @@ use apportion::share;
 use book::Book;
 use book::in_range;
 use calls::Answer;
+use calls::INDICATORS;
 use calls::Refusal;
 use calls::has_bit;
 use values::reliable_mask;
@@ -103,7 +104,7 @@ fn lacks_network(joined: u16, operator: u8, cabins: u64, access: u64) -> bool
 }
 
 // Whether nobody takes part at any indicator.
-fn all_marked(joined: u16, marks: &[u16; 6]) -> bool
+fn all_marked(joined: u16, marks: &[u16; INDICATORS]) -> bool
     ensures { λ r. ⌜ ((b : Book) → inRange b ≡ true → HasMarks b joined (now (marks .entry)) → r ≡ allMarked b electricity) ⌝ }
 {
     let mut number = 0;

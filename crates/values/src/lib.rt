@@ -13,6 +13,10 @@ ghost use Rattle.values.specs.Operators.{each};
 ghost use Rattle.values.specs.Indicator.{frequency, duration, fee, yearlyValues, reliableMask, scores, numbered};
 ghost use Rattle.values.specs.Parts.{HasMarks, HasMeasures, Within};
 ghost use Rattle.values.specs.Steps.{YearsAsked, ValuesAsked, FrequencyAsked, DurationAsked, FeeAsked};
+use calls::FIGURE_PLACES;
+use calls::INDICATORS;
+use calls::INDICES;
+use calls::SETTING_PLACES;
 use calls::has_bit;
 use columns::figures_of;
 pub use columns::settings_of;
@@ -21,9 +25,9 @@ use exact::divide;
 // The scores of the operators that take part in an indicator; 0 for the others.
 pub fn scores_of(
     mask: u16,
-    settings: &[u64; 48],
-    figures: &[u64; 384],
-    indices: &[u32; 4],
+    settings: &[u64; SETTING_PLACES],
+    figures: &[u64; FIGURE_PLACES],
+    indices: &[u32; INDICES],
     number: u8,
 ) -> [u64; 16]
     requires { ⌜ Within (now settings) (now figures) (now indices) × (number < 6) ⌝ }
@@ -53,7 +57,7 @@ fn score(mask: u16, operator: u8, first: u64, second: u64, third: u64) -> u64
 }
 
 // Joined and without a mark: a mask of both.
-pub fn reliable_mask(joined: u16, marks: &[u16; 6], number: u8) -> u16
+pub fn reliable_mask(joined: u16, marks: &[u16; INDICATORS], number: u8) -> u16
     requires { ⌜ number < 6 ⌝ }
     ensures { λ r. ⌜ ((b : Book) → HasMarks b joined (now (marks .entry)) → r ≡ reliableMask b (numbered number)) ⌝ }
 {
@@ -70,9 +74,9 @@ fn others(mask: u16) -> u16
 
 // The values of a year, by operator.
 fn yearly_values(
-    settings: &[u64; 48],
-    figures: &[u64; 384],
-    indices: &[u32; 4],
+    settings: &[u64; SETTING_PLACES],
+    figures: &[u64; FIGURE_PLACES],
+    indices: &[u32; INDICES],
     number: u8,
     year: u8,
 ) -> [u64; 16]
@@ -90,8 +94,8 @@ fn yearly_values(
 }
 
 fn frequencies(
-    settings: &[u64; 48],
-    figures: &[u64; 384],
+    settings: &[u64; SETTING_PLACES],
+    figures: &[u64; FIGURE_PLACES],
     year: u8,
     figure: u8,
     which: u8,
@@ -107,7 +111,7 @@ fn frequencies(
     )
 }
 
-fn durations(figures: &[u64; 384], year: u8, seconds: u8, weight: u8) -> [u64; 16]
+fn durations(figures: &[u64; FIGURE_PLACES], year: u8, seconds: u8, weight: u8) -> [u64; 16]
     requires { ⌜ DurationAsked (now figures) year seconds weight ⌝ }
     ensures { λ r. ⌜ ((b : Book) → b .figures ≡ now (figures .entry) → r ≡ yearlyValues b (duration seconds weight) year) ⌝ }
 {
@@ -120,7 +124,13 @@ fn durations(figures: &[u64; 384], year: u8, seconds: u8, weight: u8) -> [u64; 1
 }
 
 // Fees per connection, in the money of June 2013.
-fn fees(figures: &[u64; 384], indices: &[u32; 4], year: u8, paid: u8, connections: u8) -> [u64; 16]
+fn fees(
+    figures: &[u64; FIGURE_PLACES],
+    indices: &[u32; INDICES],
+    year: u8,
+    paid: u8,
+    connections: u8,
+) -> [u64; 16]
     requires { ⌜ FeeAsked (now figures) (now indices) year paid connections ⌝ }
     ensures { λ r. ⌜ ((b : Book) → b .figures ≡ now (figures .entry) → b .indices ≡ now (indices .entry) → r ≡ yearlyValues b (fee paid connections) year) ⌝ }
 {

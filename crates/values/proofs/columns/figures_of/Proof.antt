@@ -1,11 +1,11 @@
 -- `values::columns::figures_of` meets its contract. The loop's invariant: the places passed hold their operator's value.
 -- Assumes nothing.
-use native.Mathlib.Omega.{arith}
-use Rattle.values.proofs.Tables.{Filling, filling-none, filling-more, filling-each}
-use mathlib.Core.Path.{refl}
 use Prim.Native.Nat.{ℕ, _-_}
+use mathlib.Core.Path.{refl}
+use native.Mathlib.Omega.{arith}
 use lib.ListN.{getD}
 use Rattle.book.specs.Book.{figureOf, figureSlot}
+use Rattle.values.proofs.Tables.{Filling, filling-none, filling-more, filling-each}
 use Rattle.values.proofs.columns.figures_of.Statement.{statement}
 use Rattle.values.proofs.columns.figures_of.Tie as tie
 
@@ -18,26 +18,20 @@ abbrev μ-loop : tie.MeasureT-loop
 loop-holds : tie.Need-loop-holds Inv-loop μ-loop
 loop-holds c = filling-none _ _ refl
 
+cast-figure-slot : tie.Need-cast-figure-slot Inv-loop μ-loop
+cast-figure-slot c = omega arith
+
+figure-slot-requires : tie.Need-figure-slot-requires Inv-loop μ-loop
+figure-slot-requires c κs = (omega arith, c .before .before .pre .0, c .before .before .pre .1)
+
 mul-list : tie.Need-mul-list Inv-loop μ-loop
 mul-list c = omega arith
-
-add-list : tie.Need-add-list Inv-loop μ-loop
-add-list c = omega arith
-
-mul-list-2 : tie.Need-mul-list-2 Inv-loop μ-loop
-mul-list-2 c = omega arith
-
-add-list-2 : tie.Need-add-list-2 Inv-loop μ-loop
-add-list-2 c = omega arith
-
-mul-list-3 : tie.Need-mul-list-3 Inv-loop μ-loop
-mul-list-3 c = omega arith
 
 element-copy-out-list : tie.Need-element-copy-out-list Inv-loop μ-loop
 element-copy-out-list c = omega arith
 
-mul-list-4 : tie.Need-mul-list-4 Inv-loop μ-loop
-mul-list-4 c = omega arith
+mul-list-2 : tie.Need-mul-list-2 Inv-loop μ-loop
+mul-list-2 c = omega arith
 
 array-write-list : tie.Need-array-write-list Inv-loop μ-loop
 array-write-list c = omega arith
@@ -49,8 +43,7 @@ loop-less : tie.Need-loop-less Inv-loop μ-loop
 loop-less c = omega arith
 
 loop-again : tie.Need-loop-again Inv-loop μ-loop
-unfolding figureSlot
-loop-again c = filling-more _ _ (c .before .before .loop .inv) (omega arith) refl
+loop-again c = rw (c .before .figure-slot .ensures .0) (filling-more _ _ (c .before .before .before .loop .inv) (omega arith) refl)
 
 returns : tie.Need-returns Inv-loop μ-loop
 unfolding figureOf
@@ -63,13 +56,11 @@ figures-of-spec =
     Inv-loop
     μ-loop
     loop-holds
+    cast-figure-slot
+    figure-slot-requires
     mul-list
-    add-list
-    mul-list-2
-    add-list-2
-    mul-list-3
     element-copy-out-list
-    mul-list-4
+    mul-list-2
     array-write-list
     add-operator
     loop-less
