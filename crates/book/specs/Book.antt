@@ -1,6 +1,6 @@
 -- The book: a fresh one, what it holds by name, and when it is in range (01, "The book").
 -- Assumes nothing.
-use Prim.Native.Nat.{ℕ, zero, suc, _+_, _*_, _^_}
+use Prim.Native.Nat.{ℕ, zero, suc, _+_, _*_, _^_, _<_}
 use mathlib.Core.Bool.{Bool, true, cond, not, _&&_, _||_}
 use mathlib.Core.List.{List}
 use lib.Dec.{ltb, leb, eqb}
@@ -20,6 +20,12 @@ unfoldable pub freshBook : Book
 freshBook =
     bookWith 0 (replicate indicatorCount 0) (replicate (operators * settingCount) 0) (replicate (operators * years * figureCount) 0)
     0 0 (replicate indexCount freshIndex)
+
+-- an operator, a year and a figure that there are
+pub record KnownFigure (operator year figure : ℕ) : Type 0 where
+  pub operator-known : operator < operators
+  pub year-known : year < years
+  pub figure-known : figure < figureCount
 
 -- where a setting and a figure stand
 unfoldable pub settingSlot : ℕ → ℕ → ℕ

@@ -4,7 +4,7 @@ ghost use mathlib.Core.Bool.{cond, _&&_};
 ghost use Prim.Native.Nat.{_*_, _<_};
 ghost use lib.Dec.{ltb};
 ghost use Rattle.calls.specs.Limits.{operators, years, settingCount, figureCount};
-ghost use Rattle.book.specs.Book.{freshBook, isJoined, settingSlot, figureSlot, settingOf, figureOf};
+ghost use Rattle.book.specs.Book.{KnownFigure, freshBook, isJoined, settingSlot, figureSlot, settingOf, figureOf};
 use crate::Book;
 use calls::FIGURE_PLACES;
 use calls::FIGURES;
@@ -83,7 +83,7 @@ pub fn figure_of(b: Book, operator: u8, year: u8, figure: u8) -> u64
 
 // Where a figure of an operator and year stands.
 pub fn figure_slot(operator: u8, year: u8, figure: u8) -> usize
-    requires { ⌜ (operator < operators) × (year < years) × (figure < figureCount) ⌝ }
+    requires { ⌜ KnownFigure operator year figure ⌝ }
     ensures { λ r. ⌜ (r ≡ figureSlot operator year figure) × (r < operators * years * figureCount) ⌝ }
 {
     (operator as usize * YEARS + year as usize) * FIGURES + figure as usize

@@ -16,7 +16,7 @@ use Rattle.ledger.specs.Calls.{changed, outcomeOf, apply, Outcome as Given}
 use Rattle.history.proofs.Kept.{stays}
 use Rattle.fields.specs.Field.{Found, at-end, call-then, fieldAt}
 use Rattle.filing.specs.Reader.{Fields, field, broken, followed, fieldsFrom, Outcome, reading, run}
-use Rattle.filing.specs.Steps.{Progress, stopped, advanced, steppedOn, stepped}
+use Rattle.filing.specs.Steps.{Ready, Progress, stopped, advanced, steppedOn, stepped}
 use Rattle.fields.proofs.FieldLaws.{Stands, ends, stands}
 
 -- what follows an answer of the field reader
@@ -77,10 +77,6 @@ pub completed-stopped : (bytes : List ℕ) (walk : Progress) → walk .continues
 unfolding completed
 completed-stopped bytes walk stops = rw stops refl
 
--- what a step asks of a reading: an offset inside the filing, and a book in range
-abbrev pub Ready : List ℕ → Outcome → Type 0
-Ready bytes r = (r .applied ≤ r .offset) × (r .offset ≤ length bytes) × (inRange (r .book) ≡ true)
-
 -- a walk that follows a reading: it is ready for a step again, and less is left to read
 pub record Follows (bytes : List ℕ) (r : Outcome) (walk : Progress) : Type 0 where
   pub ready : Ready bytes (walk .reached)
@@ -108,15 +104,15 @@ module _ (bytes : List ℕ) (r : Outcome) where
 
   pub step-follows : Ready bytes r → Follows bytes r (stepped r (fieldAt bytes (r .offset)))
   unfolding remaining stepped steppedOn stopped advanced onAnswer
-  step-follows (counted, inside, ranged) = go (fieldAt bytes (r .offset)) (stands bytes (r .offset))
+  step-follows ready = go (fieldAt bytes (r .offset)) (stands bytes (r .offset))
     where
       by-answer : (given : Given) (next : ℕ) (refused : Bool) → inRange (given .book) ≡ true → (r .offset + 3 ≤ next) × (next ≤ length bytes)
           → Follows bytes r (cond refused (stopped r (given .said)) (moved r next given))
-      by-answer given next true kept placed = record { ready = (counted, inside, ranged); less = omega arith }
-      by-answer given next false kept placed = record { ready = (omega arith, omega arith, kept); less = omega arith }
+      by-answer given next true kept placed = record { ready = record { counted = ready .counted; inside = ready .inside; ranged = ready .ranged }; less = omega arith }
+      by-answer given next false kept placed = record { ready = record { counted = omega arith; inside = omega arith; ranged = kept }; less = omega arith }
 
       go : (found : Said Found) → Stands bytes (r .offset) found → Follows bytes r (stepped r found)
       go (accepted (call-then call next)) placed =
-          by-answer (apply (r .book) call) next (isRefused (apply (r .book) call .said)) (stays (r .book) call ranged) placed
-      go (accepted at-end) placed = record { ready = (counted, inside, ranged); less = omega arith }
-      go (refused-by number) placed = record { ready = (counted, inside, ranged); less = omega arith }
+          by-answer (apply (r .book) call) next (isRefused (apply (r .book) call .said)) (stays (r .book) call (ready .ranged)) placed
+      go (accepted at-end) placed = record { ready = record { counted = ready .counted; inside = ready .inside; ranged = ready .ranged }; less = omega arith }
+      go (refused-by number) placed = record { ready = record { counted = ready .counted; inside = ready .inside; ranged = ready .ranged }; less = omega arith }

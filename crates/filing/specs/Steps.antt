@@ -1,9 +1,13 @@
 -- One step of a reading: what the field at the offset makes of what the reading has reached.
 -- Assumes nothing.
-use Prim.Native.Nat.{ℕ, _+_}
+use Prim.Native.Nat.{ℕ, _+_, _≤_}
+use mathlib.Core.Path.{_≡_}
 use mathlib.Core.Bool.{Bool, true, false, cond}
+use mathlib.Core.List.{List}
+use lib.ListN.{length}
 use Rattle.calls.specs.Answers.{Said, refused-by, accepted, onAnswer, isRefused, Acceptance, yes-said, said}
 use Rattle.book.specs.declared.Book.{Book}
+use Rattle.book.specs.Book.{inRange}
 use Rattle.ledger.specs.Calls.{apply, Outcome as Given}
 use Rattle.fields.specs.Field.{Found, at-end, call-then}
 use Rattle.filing.specs.declared.reader.Walk.{Walk}
@@ -20,6 +24,12 @@ reachedBy b walk = reading b (walk .applied) (walk .offset) (said (walk .answer)
 
 abbrev pub toldWalk : Book → Walk → Progress
 toldWalk b walk = record { reached = reachedBy b walk; continues = walk .continues }
+
+-- what a step asks of a reading: an offset inside the filing, and a book in range
+pub record Ready (bytes : List ℕ) (r : Outcome) : Type 0 where
+  pub counted : r .applied ≤ r .offset
+  pub inside : r .offset ≤ length bytes
+  pub ranged : inRange (r .book) ≡ true
 
 -- the end, or a field that is refused by its bytes or by its call
 unfoldable pub stopped : Outcome → Said Acceptance → Progress

@@ -2,15 +2,14 @@
 // they stand by each field's call, and put together at the end.
 ghost use mathlib.Core.Path.{_≡_};
 ghost use mathlib.Core.Bool.{true};
-ghost use Prim.Native.Nat.{_≤_, _<_};
-ghost use lib.ListN.{length};
+ghost use Prim.Native.Nat.{_<_};
 ghost use Rattle.calls.specs.Answers.{isRefused, said};
 ghost use Rattle.book.specs.declared.Book.{Book as Declared·Book};
 ghost use Rattle.book.specs.Book.{bookWith, inRange};
 ghost use Rattle.ledger.specs.Calls.{apply as Calls·apply};
 ghost use Rattle.fields.specs.Field.{fieldAt};
 ghost use Rattle.filing.specs.Reader.{reading, told, read as Reader·read};
-ghost use Rattle.filing.specs.Steps.{reachedBy, toldWalk, stopped, advanced, stepped};
+ghost use Rattle.filing.specs.Steps.{Ready, reachedBy, toldWalk, stopped, advanced, stepped};
 use crate::Reading;
 use book::Book;
 use book::in_range;
@@ -100,7 +99,7 @@ fn step(
     reached: Walk,
     bytes: &[u8],
 ) -> Walk
-    requires { ⌜ (reached .applied ≤ reached .offset) × (reached .offset ≤ length (now bytes)) × (inRange (bookWith (now joined) (now marks) (now settings) (now figures) (now «pot_rate») (now «cap_rate») (now indices)) ≡ true) ⌝ }
+    requires { ⌜ Ready (now bytes) (reachedBy (bookWith (now joined) (now marks) (now settings) (now figures) (now «pot_rate») (now «cap_rate») (now indices)) reached) ⌝ }
     ensures { λ r. ⌜ toldWalk (bookWith (now (joined .exit)) (now (marks .exit)) (now (settings .exit)) (now (figures .exit)) (now («pot_rate» .exit)) (now («cap_rate» .exit)) (now (indices .exit))) r ≡ stepped (reachedBy (bookWith (now (joined .entry)) (now (marks .entry)) (now (settings .entry)) (now (figures .entry)) (now («pot_rate» .entry)) (now («cap_rate» .entry)) (now (indices .entry))) reached) (fieldAt (now (bytes .entry)) (reached .offset)) ⌝ }
 {
     match field_at(bytes, reached.offset) {

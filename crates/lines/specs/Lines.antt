@@ -1,11 +1,11 @@
 -- The printed settlement: its lines as bytes (01, "The printed settlement").
 -- Assumes nothing.
-use Prim.Native.Nat.{ℕ, zero, suc, _+_, _*_, _^_, _<_}
+use Prim.Native.Nat.{ℕ, zero, suc, _+_, _*_, _^_, _≤_, _<_}
 use mathlib.Core.Path.{_≡_}
 use mathlib.Core.Bool.{cond}
 use mathlib.Core.List.{List, [], _∷_, _++_}
 use lib.IntN.{ℤ, pos, natAbs}
-use lib.ListN.{getD}
+use lib.ListN.{length, getD}
 use Rattle.calls.specs.Limits.{operators, indicatorCount}
 use Rattle.book.specs.declared.Book.{Book}
 use Rattle.book.specs.Book.{isJoined}
@@ -55,3 +55,9 @@ pub record Printable (s : Settlement) : Type 0 where
   pub returns-few : sum (s .returns) < 2 ^ 60
   pub adjustments-small : (operator : ℕ) → operator < operators → natAbs (getD (s .adjustments) operator (pos 0)) < 2 ^ 60
   pub adjustments-cancel : sumℤ (s .adjustments) ≡ pos 0
+
+-- what the functions that put an operator's line ask
+pub record LineFits (s : Settlement) (operator at : ℕ) (text out : List ℕ) : Type 0 where
+  pub printable : Printable s
+  pub known : operator < operators
+  pub room : at + length text ≤ length out

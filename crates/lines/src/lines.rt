@@ -8,7 +8,7 @@ ghost use lib.ListN.{length};
 ghost use Rattle.book.specs.Book.{isJoined};
 ghost use Rattle.apportion.specs.Sum.{sum};
 ghost use Rattle.text.specs.Text.{decimal, signedDecimal};
-ghost use Rattle.lines.specs.Lines.{Printable, numberLine, pointsOfOperator, operatorLine, operatorLines, lastLine, printed};
+ghost use Rattle.lines.specs.Lines.{Printable, LineFits, numberLine, pointsOfOperator, operatorLine, operatorLines, lastLine, printed};
 ghost use Rattle.text.specs.Steps.{written};
 use apportion::total;
 use book::Book;
@@ -43,7 +43,7 @@ fn put_operators(out: &mut [u8], at: usize, b: Book, s: Settlement) -> usize
 }
 
 fn put_if_joined(out: &mut [u8], at: usize, b: Book, s: Settlement, operator: u8) -> usize
-    requires { ⌜ Printable s × (operator < 16) × (at + length (cond (isJoined b operator) (operatorLine s operator) []) ≤ length (now out)) ⌝ }
+    requires { ⌜ LineFits s operator at (cond (isJoined b operator) (operatorLine s operator) []) (now out) ⌝ }
     ensures { λ r. ⌜ (now (out .exit) ≡ written (now (out .entry)) at (cond (isJoined b operator) (operatorLine s operator) [])) × (r ≡ at + length (cond (isJoined b operator) (operatorLine s operator) [])) ⌝ }
 {
     if !is_joined(b, operator) {
@@ -53,7 +53,7 @@ fn put_if_joined(out: &mut [u8], at: usize, b: Book, s: Settlement, operator: u8
 }
 
 fn put_operator(out: &mut [u8], at: usize, s: Settlement, operator: usize) -> usize
-    requires { ⌜ Printable s × (operator < 16) × (at + length (operatorLine s operator) ≤ length (now out)) ⌝ }
+    requires { ⌜ LineFits s operator at (operatorLine s operator) (now out) ⌝ }
     ensures { λ r. ⌜ (now (out .exit) ≡ written (now (out .entry)) at (operatorLine s operator)) × (r ≡ at + length (operatorLine s operator)) ⌝ }
 {
     let paid = s.contributions;

@@ -9,36 +9,42 @@ use Rattle.entries.proofs.entry_at.Tie as tie
 join-entry-requires : tie.Need-join-entry-requires
 join-entry-requires c κs = search needs
 
+-- a join
 returns : tie.Need-returns
 returns c = rw (place-join _ (c .before .before .args .place) (c .before .if1 .taken)) (c .join-entry .ensures)
 
 setting-entry-requires : tie.Need-setting-entry-requires
 setting-entry-requires c κs = search needs
 
+-- a setting
 returns-2 : tie.Need-returns-2
 returns-2 c = rw (place-setting _ (c .before .before .before .args .place) (omega arith) (c .before .if2 .taken)) (c .setting-entry .ensures)
 
 amount-entry-requires : tie.Need-amount-entry-requires
 amount-entry-requires c κs = search needs
 
+-- an amount
 returns-3 : tie.Need-returns-3
 returns-3 c = rw (place-amount _ (c .before .before .before .before .args .place) (omega arith) (c .before .if3 .taken)) (c .amount-entry .ensures)
 
 mark-entry-requires : tie.Need-mark-entry-requires
 mark-entry-requires c κs = search needs
 
+-- a mark
 returns-4 : tie.Need-returns-4
 returns-4 c = rw (place-mark _ (c .before .before .before .before .before .args .place) (omega arith) (c .before .if4 .taken)) (c .mark-entry .ensures)
 
 index-entry-requires : tie.Need-index-entry-requires
 index-entry-requires c κs = search needs
 
+-- an index
 returns-5 : tie.Need-returns-5
 returns-5 c = rw (place-index _ (c .before .before .before .before .before .before .args .place) (omega arith) (c .before .if5 .taken)) (c .index-entry .ensures)
 
 rates-entry-requires : tie.Need-rates-entry-requires
 rates-entry-requires c κs = search needs
 
+-- the rates
 returns-6 : tie.Need-returns-6
 returns-6 c = rw (place-rates _ (c .before .before .before .before .before .before .args .place) (omega arith)) (c .rates-entry .ensures)
 

@@ -22,6 +22,7 @@ slice-aggregate-put-word c = search needs
 put-word-requires : tie.Need-put-word-requires
 put-word-requires c κs = search needs
 
+-- too long
 returns : tie.Need-returns
 unfolding bytesOf
 returns c =

@@ -8,12 +8,15 @@ use borrow.Author.Needs.{needs}
 use Rattle.book.proofs.access.figure_of.Statement.{statement}
 use Rattle.book.proofs.access.figure_of.Tie as tie
 
+-- no such operator
 returns : tie.Need-returns
 returns c = simp (le-ltb (c .before .args .operator) 16 (c .if1 .taken))
 
+-- no such year
 returns-2 : tie.Need-returns-2
 returns-2 c = simp (lt-ltb (c .before .before .args .operator) 16 (omega arith), le-ltb (c .before .before .args .year) 3 (c .if2 .taken))
 
+-- no such figure
 returns-3 : tie.Need-returns-3
 returns-3 c = simp (lt-ltb (c .before .before .before .args .operator) 16 (omega arith), lt-ltb (c .before .before .before .args .year) 3 (omega arith), le-ltb (c .before .before .before .args .figure) 8 (c .if3 .taken))
 
@@ -26,6 +29,7 @@ mul-result c = search needs
 array-read-result : tie.Need-array-read-result
 array-read-result c = search needs
 
+-- found
 returns-4 : tie.Need-returns-4
 unfolding figureOf
 returns-4 c = simp (lt-ltb (c .before .before .before .before .before .args .operator) 16 (omega arith), lt-ltb (c .before .before .before .before .before .args .year) 3 (omega arith), lt-ltb (c .before .before .before .before .before .args .figure) 8 (omega arith), c .figure-slot .ensures .0)

@@ -8,9 +8,11 @@ use borrow.Author.Needs.{needs}
 use Rattle.book.proofs.access.setting_of.Statement.{statement}
 use Rattle.book.proofs.access.setting_of.Tie as tie
 
+-- no such operator
 returns : tie.Need-returns
 returns c = simp (le-ltb (c .before .args .operator) 16 (c .if1 .taken))
 
+-- no such setting
 returns-2 : tie.Need-returns-2
 returns-2 c = simp (lt-ltb (c .before .before .args .operator) 16 (omega arith), le-ltb (c .before .before .args .which) 3 (c .if2 .taken))
 
@@ -23,6 +25,7 @@ mul-result c = search needs
 array-read-result : tie.Need-array-read-result
 array-read-result c = search needs
 
+-- found
 returns-3 : tie.Need-returns-3
 unfolding settingOf
 returns-3 c = simp (lt-ltb (c .before .before .before .before .args .operator) 16 (omega arith), lt-ltb (c .before .before .before .before .args .which) 3 (omega arith), c .setting-slot .ensures .0)

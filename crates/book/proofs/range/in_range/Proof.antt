@@ -11,6 +11,7 @@ use Rattle.book.proofs.range.in_range.Tie as tie
 settings-in-range-requires : tie.Need-settings-in-range-requires
 settings-in-range-requires c κs = search needs
 
+-- a setting is out of range
 returns : tie.Need-returns
 unfolding inRange
 returns c =
@@ -21,6 +22,7 @@ returns c =
 figures-in-range-requires : tie.Need-figures-in-range-requires
 figures-in-range-requires c κs = search needs
 
+-- a figure is
 returns-2 : tie.Need-returns-2
 unfolding inRange
 returns-2 c =
@@ -33,6 +35,7 @@ returns-2 c =
 marks-in-range-requires : tie.Need-marks-in-range-requires
 marks-in-range-requires c κs = search needs
 
+-- a mark is
 returns-3 : tie.Need-returns-3
 unfolding inRange
 returns-3 c =
@@ -46,6 +49,7 @@ returns-3 c =
 rates-in-range-requires : tie.Need-rates-in-range-requires
 rates-in-range-requires c κs = search needs
 
+-- a rate is
 returns-4 : tie.Need-returns-4
 unfolding inRange
 returns-4 c =
@@ -60,6 +64,7 @@ returns-4 c =
 indices-in-range-requires : tie.Need-indices-in-range-requires
 indices-in-range-requires c κs = search needs
 
+-- the indices decide
 returns-5 : tie.Need-returns-5
 unfolding inRange
 returns-5 c =

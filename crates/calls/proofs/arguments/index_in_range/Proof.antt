@@ -6,14 +6,17 @@ use Rattle.calls.specs.Call.{factsOf}
 use Rattle.calls.proofs.arguments.index_in_range.Statement.{statement}
 use Rattle.calls.proofs.arguments.index_in_range.Tie as tie
 
+-- no such index
 returns : tie.Need-returns
 unfolding factsOf
 returns c = simp (le-ltb (c .before .args .number) 4 (c .if1 .taken))
 
+-- below the least
 returns-2 : tie.Need-returns-2
 unfolding factsOf
 returns-2 c = simp (lt-ltb (c .before .before .args .number) 4 (omega arith), lt-leb 1 (c .before .before .args .value) (c .if2 .taken))
 
+-- the most decides
 returns-3 : tie.Need-returns-3
 unfolding factsOf
 returns-3 c = simp (lt-ltb (c .before .before .args .number) 4 (omega arith), le-leb 1 (c .before .before .args .value) (omega arith))

@@ -8,10 +8,12 @@ use borrow.Author.Needs.{needs}
 use Rattle.calls.proofs.figures.move_figure.Statement.{statement}
 use Rattle.calls.proofs.figures.move_figure.Tie as tie
 
+-- the value alone passes the limit
 returns : tie.Need-returns
 unfolding movedBy
 returns c = simp (eq-eqb _ _ (c .before .if1 .taken), lt-ltb 100000000000 (c .before .before .args .old + c .before .before .args .value) (omega arith))
 
+-- the sum passes it
 returns-2 : tie.Need-returns-2
 unfolding movedBy
 returns-2 c = simp (eq-eqb _ _ (c .before .before .if1 .taken), lt-ltb 100000000000 (c .before .before .before .args .old + c .before .before .before .args .value) (omega arith))
@@ -19,14 +21,17 @@ returns-2 c = simp (eq-eqb _ _ (c .before .before .if1 .taken), lt-ltb 100000000
 add-t6 : tie.Need-add-t6
 add-t6 c = search needs
 
+-- added
 returns-3 : tie.Need-returns-3
 unfolding movedBy
 returns-3 c = simp (eq-eqb _ _ (c .before .before .if1 .taken), le-ltb 100000000000 (c .before .before .before .args .old + c .before .before .before .args .value) (omega arith))
 
+-- below 0
 returns-4 : tie.Need-returns-4
 unfolding movedBy
 returns-4 c = simp (ne-eqb _ _ (c .before .if1 .left), lt-ltb _ _ (c .if4 .taken))
 
+-- subtracted
 returns-5 : tie.Need-returns-5
 unfolding movedBy
 returns-5 c = simp (ne-eqb _ _ (c .before .if1 .left), le-ltb _ _ (c .if4 .left))

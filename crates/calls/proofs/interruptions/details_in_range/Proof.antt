@@ -6,14 +6,17 @@ use borrow.Author.Needs.{needs}
 use Rattle.calls.proofs.interruptions.details_in_range.Statement.{statement}
 use Rattle.calls.proofs.interruptions.details_in_range.Tie as tie
 
+-- no such sign
 returns : tie.Need-returns
 unfolding detailsInRange
 returns c = simp (lt-leb _ _ (c .if1 .taken))
 
+-- no such level
 returns-2 : tie.Need-returns-2
 unfolding detailsInRange
 returns-2 c = simp (le-leb _ _ (c .before .if1 .left), lt-leb _ _ (c .if2 .taken))
 
+-- no such cause
 returns-3 : tie.Need-returns-3
 unfolding detailsInRange
 returns-3 c = simp (le-leb _ _ (c .before .before .if1 .left), le-leb _ _ (c .before .if2 .left), lt-leb _ _ (c .if3 .taken))
@@ -21,6 +24,7 @@ returns-3 c = simp (le-leb _ _ (c .before .before .if1 .left), le-leb _ _ (c .be
 weight-in-range-requires : tie.Need-weight-in-range-requires
 weight-in-range-requires c κs = search needs
 
+-- the weight decides
 returns-4 : tie.Need-returns-4
 unfolding detailsInRange
 returns-4 c = simp (le-leb _ _ (c .before .before .before .if1 .left), le-leb _ _ (c .before .before .if2 .left), le-leb _ _ (c .before .if3 .left), c .weight-in-range .ensures)

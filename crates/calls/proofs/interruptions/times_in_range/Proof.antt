@@ -5,11 +5,13 @@ use Rattle.calls.proofs.Times.{back, before-2017, after-2019, too-early
 use Rattle.calls.proofs.interruptions.times_in_range.Statement.{statement}
 use Rattle.calls.proofs.interruptions.times_in_range.Tie as tie
 
+-- ends before 2017
 returns : tie.Need-returns
 returns c =
     let begun = c .before in
     sym (before-2017 (begun .args .start) (begun .args .end) (rw (back (begun .fits .end)) at (c .if1 .taken)))
 
+-- ends after 2019
 returns-2 : tie.Need-returns-2
 returns-2 c =
     let begun = c .before .before in
@@ -17,6 +19,7 @@ returns-2 c =
     (after-2019 (begun .args .start) (begun .args .end) (rw (back (begun .fits .end)) at (c .before .if1 .left))
     (rw (back (begun .fits .end)) at (c .if2 .taken)))
 
+-- begins too early
 returns-3 : tie.Need-returns-3
 returns-3 c =
     let begun = c .before .before .before in
@@ -25,6 +28,7 @@ returns-3 c =
     (rw (back (begun .fits .end)) at (c .before .if2 .left))
     (rw (back (begun .fits .start)) at (c .if3 .taken)))
 
+-- the order decides
 returns-4 : tie.Need-returns-4
 returns-4 c =
     let begun = c .before .before .before in

@@ -5,14 +5,17 @@ use Rattle.calls.specs.Call.{weightInRange}
 use Rattle.calls.proofs.interruptions.weight_in_range.Statement.{statement}
 use Rattle.calls.proofs.interruptions.weight_in_range.Tie as tie
 
+-- low voltage
 returns : tie.Need-returns
 unfolding weightInRange
 returns c = simp (ne-eqb _ _ (c .if1 .taken))
 
+-- no cabin
 returns-2 : tie.Need-returns-2
 unfolding weightInRange
 returns-2 c = simp (eq-eqb _ _ (c .before .if1 .left), lt-leb _ _ (c .if2 .taken))
 
+-- the limit decides
 returns-3 : tie.Need-returns-3
 unfolding weightInRange
 returns-3 c = simp (eq-eqb _ _ (c .before .if1 .left), le-leb _ _ (c .if2 .left))

@@ -40,32 +40,39 @@ index-at-requires c κs =
     let seven : c .before .before .args .tag ≡ 7 = omega arith in
     rw seven at (c .before .before .pre .1)
 
+-- tag 1, join
 returns : tie.Need-returns
 unfolding tagged tags
 returns c =
     let start = c .before .before .before in
     rw (c .before .match .keys1, byte-in (start .args .bytes .now) (start .args .at) 1 0 (omega arith), add-zero) refl
 
+-- tag 2, setting
 returns-2 : tie.Need-returns-2
 unfolding tagged tags
 returns-2 c = rw (c .before .match .keys2) (c .setting-at .ensures)
 
+-- tag 3, interruption
 returns-3 : tie.Need-returns-3
 unfolding tagged tags
 returns-3 c = rw (c .before .match .keys3) (c .interruption-at .ensures)
 
+-- tag 4, amount
 returns-4 : tie.Need-returns-4
 unfolding tagged tags
 returns-4 c = rw (c .before .match .keys4) (c .amount-at .ensures)
 
+-- tag 5, mark
 returns-5 : tie.Need-returns-5
 unfolding tagged tags
 returns-5 c = rw (c .before .match .keys5) (c .mark-at .ensures)
 
+-- tag 6, rates
 returns-6 : tie.Need-returns-6
 unfolding tagged tags
 returns-6 c = rw (c .before .match .keys6) (c .rates-at .ensures)
 
+-- tag 7, index
 returns-7 : tie.Need-returns-7
 unfolding tagged tags
 returns-7 c =

@@ -12,12 +12,14 @@ use borrow.Author.Needs.{needs}
 use Rattle.fields.proofs.fields.field_at.Statement.{statement}
 use Rattle.fields.proofs.fields.field_at.Tie as tie
 
+-- the end
 returns : tie.Need-returns
 returns c = let start = c .before .before in sym (ends (start .args .bytes .now) (start .args .at) (c .if1 .taken))
 
 sub-left : tie.Need-sub-left
 sub-left c = search needs
 
+-- 1, fewer than 3 bytes are left
 returns-2 : tie.Need-returns-2
 returns-2 c =
     let start = c .before .before .before in
@@ -29,6 +31,7 @@ add-unsigned-at c = search needs
 unsigned-at-requires : tie.Need-unsigned-at-requires
 unsigned-at-requires c κs = search needs
 
+-- 1, the length passes the end
 returns-3 : tie.Need-returns-3
 returns-3 c =
     let whole = c .before .before in
@@ -44,6 +47,7 @@ shared-slice-read-tag c = search needs
 is-known-requires : tie.Need-is-known-requires
 is-known-requires c κs = search needs
 
+-- 2
 returns-4 : tie.Need-returns-4
 returns-4 c =
     let sized = c .before .before .before in
@@ -58,6 +62,7 @@ returns-4 c =
 content-size-requires : tie.Need-content-size-requires
 content-size-requires c κs = granted (c .before .is-known .ensures) (c .if4 .left)
 
+-- 3
 returns-5 : tie.Need-returns-5
 returns-5 c =
     let known = c .before .before in
@@ -86,6 +91,7 @@ add-t17 c = search needs
 add-t18 : tie.Need-add-t18
 add-t18 c = search needs
 
+-- a call
 returns-6 : tie.Need-returns-6
 returns-6 c =
     let known = c .before .before .before in

@@ -6,8 +6,8 @@ use Rattle.calls.proofs.Flags.{denied, granted}
 use Rattle.book.specs.declared.Book.{Book}
 use Rattle.book.specs.Book.{bookWith}
 use Rattle.filing.specs.Reader.{fieldsOf, read}
-use Rattle.filing.specs.Steps.{Progress, reachedBy, toldWalk}
-use Rattle.filing.proofs.WalkLaws.{Ready, completed, remaining, remaining-more, completed-more, completed-stopped, step-completed, step-follows}
+use Rattle.filing.specs.Steps.{Ready, Progress, reachedBy, toldWalk}
+use Rattle.filing.proofs.WalkLaws.{completed, remaining, remaining-more, completed-more, completed-stopped, step-completed, step-follows}
 use borrow.Author.Needs.{needs}
 use Rattle.filing.proofs.reader.read.Statement.{statement}
 use Rattle.filing.proofs.reader.read.Tie as tie
@@ -29,7 +29,7 @@ unfolding read
 returns c = rw (denied (c .before .in-range .ensures) (c .if1 .taken)) refl
 
 loop-holds : tie.Need-loop-holds Inv-loop μ-loop
-loop-holds c = ((search needs, search needs, granted (c .before .before .before .before .before .in-range .ensures) (c .before .before .before .before .if1 .left)), refl)
+loop-holds c = (record { counted = search needs; inside = search needs; ranged = granted (c .before .before .before .before .before .in-range .ensures) (c .before .before .before .before .if1 .left) }, refl)
 
 step-requires : tie.Need-step-requires Inv-loop μ-loop
 step-requires c κs = c .before .before .before .before .before .before .before .before .loop .inv .0

@@ -22,7 +22,7 @@ advance-requires c κs =
     let start = c .before .before .before .before .before .before .before .before .before .before .before .before in
     let filing = sym (read .field-at .ensures) ∙ ap fieldSaid (c .before .before .before .before .before .before .before .before .filing-call .given .1) in
     let placed = rw filing at (stands (start .args .bytes .now) (start .args .reached .offset)) in
-    (omega (arith, placed .0, start .pre .0), start .pre .2)
+    (omega (arith, placed .0, start .pre .counted), start .pre .ranged)
 
 enum-told : tie.Need-enum-told
 enum-told c = search needs
@@ -36,14 +36,17 @@ enum-known-refusal c = search needs
 stop-requires-2 : tie.Need-stop-requires-2
 stop-requires-2 c κs = search needs
 
+-- a call
 returns : tie.Need-returns
 unfolding stepped steppedOn onAnswer
 returns c = rw (sym (c .before .before .before .before .before .before .before .before .before .before .before .field-at .ensures) ∙ ap fieldSaid (c .before .before .before .before .before .before .before .before .before .filing-call .given .1)) (c .advance .ensures)
 
+-- the end
 returns-2 : tie.Need-returns-2
 unfolding stepped steppedOn onAnswer
 returns-2 c = rw (sym (c .before .before .before .field-at .ensures) ∙ ap fieldSaid (c .before .enum-told .given .1)) (c .stop .ensures _)
 
+-- refused by its bytes
 returns-3 : tie.Need-returns-3
 unfolding stepped steppedOn onAnswer
 returns-3 c = rw (sym (c .before .before .before .before .field-at .ensures) ∙ ap fieldSaid (c .before .before .refusal .given .1)) (c .stop2 .ensures _)

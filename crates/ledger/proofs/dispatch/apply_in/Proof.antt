@@ -49,16 +49,19 @@ enum-known-filing-call-7 c = search needs
 index-requires : tie.Need-index-requires
 index-requires c κs = search needs
 
+-- join
 returns : tie.Need-returns
 returns c =
     let start = c .before .before .before .before .before in
     rw (c .before .before .before .filing-call .given .1) (c .join .ensures (start .args .marks .now) (start .args .settings .now) (start .args .figures .now) (start .args .indices .now) (start .args .pot-rate .now) (start .args .cap-rate .now))
 
+-- setting
 returns-2 : tie.Need-returns-2
 returns-2 c =
     let start = c .before .before .before .before .before .before in
     rw (c .before .before .before .before .filing-call2 .given .1) (c .setting .ensures (start .args .marks .now) (start .args .figures .now) (start .args .indices .now) (start .args .pot-rate .now) (start .args .cap-rate .now))
 
+-- interruption
 returns-3 : tie.Need-returns-3
 returns-3 c =
     let start = c .before .before .before .before .before .before in
@@ -68,21 +71,25 @@ returns-3 c =
     let ended : SFits w64 (given .0 .1 .1 .1 .1 .1 .0) = record { sfits = known .1 .0 .1 } in
     rw (given .1) (rw (back begun, back ended) at (c .interruption .ensures (start .args .marks .now) (start .args .settings .now) (start .args .indices .now) (start .args .pot-rate .now) (start .args .cap-rate .now)))
 
+-- amount
 returns-4 : tie.Need-returns-4
 returns-4 c =
     let start = c .before .before .before .before .before .before in
     rw (c .before .before .before .before .filing-call4 .given .1) (c .amount .ensures (start .args .marks .now) (start .args .settings .now) (start .args .indices .now) (start .args .pot-rate .now) (start .args .cap-rate .now))
 
+-- mark
 returns-5 : tie.Need-returns-5
 returns-5 c =
     let start = c .before .before .before .before .before .before in
     rw (c .before .before .before .before .filing-call5 .given .1) (c .mark-indicator .ensures (start .args .settings .now) (start .args .figures .now) (start .args .indices .now) (start .args .pot-rate .now) (start .args .cap-rate .now))
 
+-- rates
 returns-6 : tie.Need-returns-6
 returns-6 c =
     let start = c .before .before .before .before .before .before in
     rw (c .before .before .before .before .filing-call6 .given .1) (c .rates .ensures (start .args .joined .now) (start .args .marks .now) (start .args .settings .now) (start .args .figures .now) (start .args .indices .now))
 
+-- index
 returns-7 : tie.Need-returns-7
 returns-7 c =
     let start = c .before .before .before .before .before in

@@ -15,7 +15,7 @@ returns c = rw (denied (c .before .is-joined .ensures) (c .if1 .taken)) (put-not
 put-operator-requires : tie.Need-put-operator-requires
 put-operator-requires c κs =
     let begun = c .before .before .before .before in
-    (begun .pre .0, begun .pre .1, rw (granted (c .before .before .is-joined .ensures) (c .before .if1 .left)) at (begun .pre .2))
+    record { printable = begun .pre .printable; known = begun .pre .known; room = rw (granted (c .before .before .is-joined .ensures) (c .before .if1 .left)) at (begun .pre .room) }
 
 same-length : tie.Need-same-length
 same-length c = search needs

@@ -25,7 +25,7 @@ put-if-joined-requires : tie.Need-put-if-joined-requires Inv-loop μ-loop
 put-if-joined-requires c κs =
     let begun = c .before .before .before .before in
     let here = c .before .before .loop in
-    (begun .pre .0, omega arith, room-after (begun .args .out .now) (begun .args .at) (operatorLines (begun .args .b) (begun .args .s) (here .operator)) (addition (begun .args .b) (begun .args .s) (here .operator)) (omega (arith, begun .pre .1, lines-within (begun .args .b) (begun .args .s) (here .operator) (omega arith))) (here .inv .1))
+    record { printable = begun .pre .0; known = omega arith; room = room-after (begun .args .out .now) (begun .args .at) (operatorLines (begun .args .b) (begun .args .s) (here .operator)) (addition (begun .args .b) (begun .args .s) (here .operator)) (omega (arith, begun .pre .1, lines-within (begun .args .b) (begun .args .s) (here .operator) (omega arith))) (here .inv .1) }
 
 add-operator : tie.Need-add-operator Inv-loop μ-loop
 add-operator c = search needs

@@ -22,7 +22,7 @@ cast-figure-slot : tie.Need-cast-figure-slot Inv-loop μ-loop
 cast-figure-slot c = omega arith
 
 figure-slot-requires : tie.Need-figure-slot-requires Inv-loop μ-loop
-figure-slot-requires c κs = (omega arith, c .before .before .pre .0, c .before .before .pre .1)
+figure-slot-requires c κs = record { operator-known = omega arith; year-known = c .before .before .pre .0; figure-known = c .before .before .pre .1 }
 
 mul-list : tie.Need-mul-list Inv-loop μ-loop
 mul-list c = omega arith

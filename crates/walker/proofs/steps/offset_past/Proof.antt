@@ -15,14 +15,17 @@ enum-told c = search needs
 enum-known-field-2 : tie.Need-enum-known-field-2
 enum-known-field-2 c = search needs
 
+-- a call
 returns : tie.Need-returns
 unfolding past pastFound onAnswer
 returns c = search needs
 
+-- the end
 returns-2 : tie.Need-returns-2
 unfolding past pastFound onAnswer
 returns-2 c = search needs
 
+-- refused by its bytes
 returns-3 : tie.Need-returns-3
 unfolding past onAnswer
 returns-3 c = search needs
