@@ -16,17 +16,17 @@ pub fn share(t: u64, weights: [u64; 16]) -> [u64; 16]
     requires { ⌜ (t < 2 ^ 62) × (sum weights < 2 ^ 62) ⌝ }
     ensures { λ r. ⌜ r ≡ Share·share t weights ⌝ }
 {
-    let s = total(weights);
+    let s = sum_of(weights);
     if s == 0 {
         return [0u64; 16];
     }
     let d = divide_each(t, weights, s);
     let whole = d.floors;
-    award_units(t - total(whole), d)
+    award_units(t - sum_of(whole), d)
 }
 
 // The sum of sixteen numbers.
-pub fn total(numbers: [u64; 16]) -> u64
+pub fn sum_of(numbers: [u64; 16]) -> u64
     requires { ⌜ sum numbers < 2 ^ 64 ⌝ }
     ensures { λ r. ⌜ r ≡ sum numbers ⌝ }
 {

@@ -22,7 +22,7 @@ pub(crate) fn levelled_weights(mask: u16, scores: [u64; 16]) -> [u64; 16]
     ensures { λ r. ⌜ ((measure : Measure) → isLevelled measure ≡ true → r ≡ weights measure mask scores) ⌝ }
 {
     let own = exponent_weights(scores);
-    let sum = apportion::total(scores);
+    let sum = apportion::sum_of(scores);
     let g = count_better(mask, scores, sum);
     let together = weigh_better(mask, scores, sum, own);
     let mut weights = [0u64; 16];
@@ -142,7 +142,7 @@ fn weigh_better(mask: u16, scores: [u64; 16], sum: u64, own: [u64; 16]) -> u64
         counted[i] = weight_if_better(mask, scores[i], sum, i as u8, own[i]);
         i += 1;
     }
-    apportion::total(counted)
+    apportion::sum_of(counted)
 }
 
 fn weight_if_better(mask: u16, score: u64, sum: u64, operator: u8, own: u64) -> u64

@@ -101,11 +101,11 @@ module _ (b : Book) where
   placed entry = figureSlot (entry .operator) (entry .year) (entry .figure)
 
   -- what stands at an entry's figure
-  abbrev pub heldAt : Entry → ℕ
-  heldAt entry = figureOf b (entry .operator) (entry .year) (entry .figure)
+  abbrev pub figureAt : Entry → ℕ
+  figureAt entry = figureOf b (entry .operator) (entry .year) (entry .figure)
 
   abbrev pub MovesAt : Entry → ℕ → Type 0
-  MovesAt entry new = Moves (entry .sign) (entry .value) (heldAt entry) new
+  MovesAt entry new = Moves (entry .sign) (entry .value) (figureAt entry) new
 
   pub moved-one : (entry : Entry) (new : ℕ) → MovesAt entry new → enterAll b (entry ∷ []) ≡ withFigures b (set (b .figures) (placed entry) new)
   unfolding enterAll entered figureOf
@@ -119,15 +119,15 @@ module _ (b : Book) where
 
   -- the entries of an amount, and of a counted interruption, by what became of their figures
   module _ (entry : Entry) (value : Acceptance) where
-    pub one-above : passes (entry .sign) (entry .value) (heldAt entry) ≡ true → entering b (entry ∷ []) value ≡ refusedCall b 8
+    pub one-above : passes (entry .sign) (entry .value) (figureAt entry) ≡ true → entering b (entry ∷ []) value ≡ refusedCall b 8
     unfolding passesLimit
     one-above e = refused-above b (entry ∷ []) value (some-here _ _ _ e)
 
-    pub one-below : falls (entry .sign) (entry .value) (heldAt entry) ≡ true → entering b (entry ∷ []) value ≡ refusedCall b 9
+    pub one-below : falls (entry .sign) (entry .value) (figureAt entry) ≡ true → entering b (entry ∷ []) value ≡ refusedCall b 9
     unfolding passesLimit fallsBelow
     one-below e =
         refused-below b (entry ∷ []) value
-        (some-rest _ _ _ (no-limit (entry .sign) (entry .value) (heldAt entry) (entry .value) (heldAt entry) e) (some-none _))
+        (some-rest _ _ _ (no-limit (entry .sign) (entry .value) (figureAt entry) (entry .value) (figureAt entry) e) (some-none _))
         (some-here _ _ _ e)
 
     pub one-moved : (new : ℕ) → MovesAt entry new → entering b (entry ∷ []) value ≡ acceptedCall (withFigures b (set (b .figures) (placed entry) new)) value
@@ -137,31 +137,31 @@ module _ (b : Book) where
         (entered-all b (entry ∷ []) value (some-rest _ _ _ (moves .below-limit) (some-none _)) (some-rest _ _ _ (moves .above-zero) (some-none _)))
 
     module _ (other : Entry) where
-      pub first-above : passes (entry .sign) (entry .value) (heldAt entry) ≡ true → entering b (entry ∷ other ∷ []) value ≡ refusedCall b 8
+      pub first-above : passes (entry .sign) (entry .value) (figureAt entry) ≡ true → entering b (entry ∷ other ∷ []) value ≡ refusedCall b 8
       unfolding passesLimit
       first-above e = refused-above b (entry ∷ other ∷ []) value (some-here _ _ _ e)
 
-      pub first-below : other .sign ≡ entry .sign → falls (entry .sign) (entry .value) (heldAt entry) ≡ true
+      pub first-below : other .sign ≡ entry .sign → falls (entry .sign) (entry .value) (figureAt entry) ≡ true
           → entering b (entry ∷ other ∷ []) value ≡ refusedCall b 9
       unfolding passesLimit fallsBelow
       first-below same e =
-          let none : passes (other .sign) (other .value) (heldAt other) ≡ false =
-          rw same (no-limit (entry .sign) (entry .value) (heldAt entry) (other .value) (heldAt other) e) in
+          let none : passes (other .sign) (other .value) (figureAt other) ≡ false =
+          rw same (no-limit (entry .sign) (entry .value) (figureAt entry) (other .value) (figureAt other) e) in
           refused-below b (entry ∷ other ∷ []) value
-          (some-rest _ _ _ (no-limit (entry .sign) (entry .value) (heldAt entry) (entry .value) (heldAt entry) e) (some-rest _ _ _ none (some-none _)))
+          (some-rest _ _ _ (no-limit (entry .sign) (entry .value) (figureAt entry) (entry .value) (figureAt entry) e) (some-rest _ _ _ none (some-none _)))
           (some-here _ _ _ e)
 
       module _ (new : ℕ) (moves : MovesAt entry new) where
-        pub second-above : passes (other .sign) (other .value) (heldAt other) ≡ true → entering b (entry ∷ other ∷ []) value ≡ refusedCall b 8
+        pub second-above : passes (other .sign) (other .value) (figureAt other) ≡ true → entering b (entry ∷ other ∷ []) value ≡ refusedCall b 8
         unfolding passesLimit
         second-above e = refused-above b (entry ∷ other ∷ []) value (some-rest _ _ _ (moves .below-limit) (some-here _ _ _ e))
 
-        pub second-below : falls (other .sign) (other .value) (heldAt other) ≡ true → entering b (entry ∷ other ∷ []) value ≡ refusedCall b 9
+        pub second-below : falls (other .sign) (other .value) (figureAt other) ≡ true → entering b (entry ∷ other ∷ []) value ≡ refusedCall b 9
         unfolding passesLimit fallsBelow
         second-below e =
             refused-below b (entry ∷ other ∷ []) value
             (some-rest _ _ _ (moves .below-limit)
-            (some-rest _ _ _ (no-limit (other .sign) (other .value) (heldAt other) (other .value) (heldAt other) e) (some-none _)))
+            (some-rest _ _ _ (no-limit (other .sign) (other .value) (figureAt other) (other .value) (figureAt other) e) (some-none _)))
             (some-rest _ _ _ (moves .above-zero) (some-here _ _ _ e))
 
         pub both-moved : (newer : ℕ) → placed other ≢ placed entry → MovesAt other newer

@@ -10,7 +10,7 @@ ghost use Rattle.apportion.specs.Sum.{sum};
 ghost use Rattle.text.specs.Text.{decimal, signedDecimal};
 ghost use Rattle.lines.specs.Lines.{Printable, LineFits, numberLine, pointsOfOperator, operatorLine, operatorLines, lastLine, printed};
 ghost use Rattle.text.specs.Steps.{written};
-use apportion::total;
+use apportion::sum_of;
 use book::Book;
 use book::is_joined;
 use settlement::Settlement;
@@ -83,8 +83,8 @@ fn put_last(out: &mut [u8], at: usize, s: Settlement) -> usize
         out,
         next,
         total_points(points),
-        total(paid),
-        total(received),
+        sum_of(paid),
+        sum_of(received),
         0,
     )
 }

@@ -9,7 +9,7 @@ ghost use Rattle.values.specs.Bounds.{accessLimit, incomeLimit, totalMost, potM
 ghost use Rattle.values.specs.Operators.{table, each};
 ghost use Rattle.settlement.specs.Money.{capped, balanced};
 use apportion::share;
-use apportion::total;
+use apportion::sum_of;
 
 const MILLION: u64 = 1000000;
 
@@ -18,7 +18,7 @@ pub(crate) fn pot_of(rate: u32, incomes: [u64; 16]) -> u64
     requires { ⌜ (rate ≤ rateLimit) × ((k : ℕ) → getD incomes k 0 ≤ incomeLimit) ⌝ }
     ensures { λ r. ⌜ (r ≡ rate * sum incomes / 1000000) × (r ≤ potMost) ⌝ }
 {
-    rate as u64 * total(incomes) / MILLION
+    rate as u64 * sum_of(incomes) / MILLION
 }
 
 // A rate of each income.
@@ -80,8 +80,8 @@ pub(crate) fn balanced_side(side: [u64; 16], other: [u64; 16]) -> [u64; 16]
     requires { ⌜ (sum side < 2 ^ 62) × (sum other < 2 ^ 62) ⌝ }
     ensures { λ r. ⌜ r ≡ balanced side other ⌝ }
 {
-    let smaller = total(other);
-    if smaller < total(side) {
+    let smaller = sum_of(other);
+    if smaller < sum_of(side) {
         return share(smaller, side);
     }
     side

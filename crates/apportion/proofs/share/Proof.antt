@@ -11,25 +11,25 @@ use borrow.Author.Needs.{needs}
 use Rattle.apportion.proofs.share.Statement.{statement}
 use Rattle.apportion.proofs.share.Tie as tie
 
-total-requires : tie.Need-total-requires
-total-requires c κs = search needs
+sum-of-requires : tie.Need-sum-of-requires
+sum-of-requires c κs = search needs
 
 returns : tie.Need-returns
 returns c =
     let start = c .before .before in
     let long : length (start .args .weights) ≡ 16 = search needs in
-    let none : sum (start .args .weights) ≡ 0 = omega (arith, c .before .total .ensures, c .if1 .taken) in
+    let none : sum (start .args .weights) ≡ 0 = omega (arith, c .before .sum-of .ensures, c .if1 .taken) in
     sym (share-none (start .args .t) (start .args .weights) none ∙ (sym (constant (start .args .weights) 0) ∙ ap (λ (n : ℕ). replicate n 0) long))
 
 divide-each-requires : tie.Need-divide-each-requires
 divide-each-requires c κs = search needs
 
-total-requires-2 : tie.Need-total-requires-2
-total-requires-2 c κs =
+sum-of-requires-2 : tie.Need-sum-of-requires-2
+sum-of-requires-2 c κs =
     let start = c .before .before .before .before in
     omega (
       arith,
-      floors-below (start .args .t) (start .args .weights) _ _ (c .before .before .before .total .ensures) (c .before .before .if1 .left)
+      floors-below (start .args .t) (start .args .weights) _ _ (c .before .before .before .sum-of .ensures) (c .before .before .if1 .left)
           (c .before .divide-each .ensures .0),
     )
 
@@ -38,32 +38,32 @@ sub-award-units c =
     let start = c .before .before .before .before .before in
     omega (
       arith,
-      c .total2 .ensures,
-      floors-below (start .args .t) (start .args .weights) _ _ (c .before .before .before .before .total .ensures) (c .before .before .before .if1 .left)
+      c .sum-of2 .ensures,
+      floors-below (start .args .t) (start .args .weights) _ _ (c .before .before .before .before .sum-of .ensures) (c .before .before .before .if1 .left)
           (c .before .before .divide-each .ensures .0),
     )
 
 award-units-requires : tie.Need-award-units-requires
 award-units-requires c κs =
     let fits = sub-award-units c in
-    omega (arith, c .total2 .ensures, fits)
+    omega (arith, c .sum-of2 .ensures, fits)
 
 returns-2 : tie.Need-returns-2
 returns-2 c =
     let start = c .before .before .before .before .before .before in
-    let some : 0 < sum (start .args .weights) = omega (arith, c .before .before .before .before .before .total .ensures, c .before .before .before .before .if1 .left) in
+    let some : 0 < sum (start .args .weights) = omega (arith, c .before .before .before .before .before .sum-of .ensures, c .before .before .before .before .if1 .left) in
     let divisions = c .before .before .before .divide-each .ensures in
     rw (share-some (start .args .t) (start .args .weights) some)
-    (c .award-units .ensures ∙ rw (c .before .total2 .ensures, divisions .0, divisions .1) refl)
+    (c .award-units .ensures ∙ rw (c .before .sum-of2 .ensures, divisions .0, divisions .1) refl)
 
 pub share-spec : {M : Type 1} → statement M
 share-spec =
     tie.close
     (tie.spec
-    total-requires
+    sum-of-requires
     returns
     divide-each-requires
-    total-requires-2
+    sum-of-requires-2
     sub-award-units
     award-units-requires
     returns-2)

@@ -38,20 +38,20 @@ own-most scores own e k = rw e (each-le (exponentWeight scores) firstWeight (λ 
 exponent-weights-requires : tie.Need-exponent-weights-requires Inv-loop μ-loop
 exponent-weights-requires c κs = c .pre
 
-total-requires : tie.Need-total-requires Inv-loop μ-loop
-total-requires c κs =
+sum-of-requires : tie.Need-sum-of-requires Inv-loop μ-loop
+sum-of-requires c κs =
     let scores = c .before .args .t2 in
     let long : length scores ≡ 16 = search needs in
     omega (arith, rw long at (sum-bound scores scoreMost (λ k lt. c .before .pre k)))
 
 count-better-requires : tie.Need-count-better-requires Inv-loop μ-loop
-count-better-requires c κs = (c .before .before .pre, c .total .ensures)
+count-better-requires c κs = (c .before .before .pre, c .sum-of .ensures)
 
 weigh-better-requires : tie.Need-weigh-better-requires Inv-loop μ-loop
 weigh-better-requires c κs =
     record {
       scores-within = c .before .before .before .pre;
-      total-is = c .before .total .ensures;
+      total-is = c .before .sum-of .ensures;
       own-most = own-most (c .before .before .before .args .t2) _ (c .before .before .exponent-weights .ensures);
     }
 
@@ -106,7 +106,7 @@ loop-again c =
     let g = c .before .before .before .before .count-better .ensures .0 in
     let value : c .levelled-weight .result ≡ f (here .i) =
     rw (
-      c .before .before .before .before .before .total .ensures,
+      c .before .before .before .before .before .sum-of .ensures,
       g,
       c .before .before .before .weigh-better .ensures,
       own,
@@ -128,7 +128,7 @@ levelled-weights-spec =
     Inv-loop
     μ-loop
     exponent-weights-requires
-    total-requires
+    sum-of-requires
     count-better-requires
     weigh-better-requires
     loop-holds

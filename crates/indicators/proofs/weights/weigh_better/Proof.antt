@@ -66,8 +66,8 @@ loop-again c =
     let value : c .weight-if-better .result ≡ f (here .i) = rw (start .pre .total-is) at (c .weight-if-better .ensures) in
     filling-more _ _ (here .inv) (omega arith) value
 
-total-requires : tie.Need-total-requires Inv-loop μ-loop
-total-requires c κs =
+sum-of-requires : tie.Need-sum-of-requires Inv-loop μ-loop
+sum-of-requires c κs =
     let start = c .before .before in
     let here = c .before .loop in
     let f = counted (start .args .mask) (start .args .t2) (start .args .t4) in
@@ -77,7 +77,7 @@ total-requires c κs =
 returns : tie.Need-returns Inv-loop μ-loop
 returns c =
     let here = c .before .before .loop in
-    c .total .ensures ∙ ap sum (filling-each (here .inv) (omega arith))
+    c .sum-of .ensures ∙ ap sum (filling-each (here .inv) (omega arith))
 
 pub weigh-better-spec : {M : Type 1} → statement M
 weigh-better-spec =
@@ -97,5 +97,5 @@ weigh-better-spec =
     add-i
     loop-less
     loop-again
-    total-requires
+    sum-of-requires
     returns)

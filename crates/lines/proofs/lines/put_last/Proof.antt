@@ -19,16 +19,16 @@ put-word-requires c κs =
 total-points-requires : tie.Need-total-points-requires
 total-points-requires c κs = search needs
 
-total-requires : tie.Need-total-requires
-total-requires c κs = search needs
+sum-of-requires : tie.Need-sum-of-requires
+sum-of-requires c κs = search needs
 
-total-requires-2 : tie.Need-total-requires-2
-total-requires-2 c κs = search needs
+sum-of-requires-2 : tie.Need-sum-of-requires-2
+sum-of-requires-2 c κs = search needs
 
 put-columns-requires : tie.Need-put-columns-requires
 put-columns-requires c κs =
     let begun = c .before .before .before .before .before .before .before .before .before .before .before .before .before in
-    rw (c .before .before .total-points .ensures, c .before .total .ensures, c .total2 .ensures) (omega arith, room-after (begun .args .out .now) (begun .args .at) (97 ∷ 108 ∷ 108 ∷ []) (lastColumns (begun .args .s)) (rw (last-parts (begun .args .s) (begun .pre .0 .adjustments-cancel)) at (begun .pre .1)) (c .before .before .before .before .before .before .put-word .ensures))
+    rw (c .before .before .total-points .ensures, c .before .sum-of .ensures, c .sum-of2 .ensures) (omega arith, room-after (begun .args .out .now) (begun .args .at) (97 ∷ 108 ∷ 108 ∷ []) (lastColumns (begun .args .s)) (rw (last-parts (begun .args .s) (begun .pre .0 .adjustments-cancel)) at (begun .pre .1)) (c .before .before .before .before .before .before .put-word .ensures))
 
 same-length : tie.Need-same-length
 same-length c = search needs
@@ -37,7 +37,7 @@ returns : tie.Need-returns
 returns c =
     let begun = c .before .before .before .before .before .before .before .before .before .before .before .before .before .before .before .before in
     rw (last-parts (begun .args .s) (begun .pre .0 .adjustments-cancel))
-    (put-then (begun .args .out .now) (begun .args .at) (97 ∷ 108 ∷ 108 ∷ []) (lastColumns (begun .args .s)) (rw (last-parts (begun .args .s) (begun .pre .0 .adjustments-cancel)) at (begun .pre .1)) (c .before .before .before .before .before .before .before .before .before .put-word .ensures) (rw (c .before .before .before .before .before .total-points .ensures, c .before .before .before .before .total .ensures, c .before .before .before .total2 .ensures) at (c .before .before .put-columns .ensures)))
+    (put-then (begun .args .out .now) (begun .args .at) (97 ∷ 108 ∷ 108 ∷ []) (lastColumns (begun .args .s)) (rw (last-parts (begun .args .s) (begun .pre .0 .adjustments-cancel)) at (begun .pre .1)) (c .before .before .before .before .before .before .before .before .before .put-word .ensures) (rw (c .before .before .before .before .before .total-points .ensures, c .before .before .before .before .sum-of .ensures, c .before .before .before .sum-of2 .ensures) at (c .before .before .put-columns .ensures)))
 
 pub put-last-spec : {M : Type 1} → statement M
 put-last-spec =
@@ -46,8 +46,8 @@ put-last-spec =
     slice-aggregate-put-word
     put-word-requires
     total-points-requires
-    total-requires
-    total-requires-2
+    sum-of-requires
+    sum-of-requires-2
     put-columns-requires
     same-length
     returns)

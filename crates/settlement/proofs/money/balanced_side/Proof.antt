@@ -10,11 +10,11 @@ use borrow.Author.Needs.{needs}
 use Rattle.settlement.proofs.money.balanced_side.Statement.{statement}
 use Rattle.settlement.proofs.money.balanced_side.Tie as tie
 
-total-requires : tie.Need-total-requires
-total-requires c κs = search needs
+sum-of-requires : tie.Need-sum-of-requires
+sum-of-requires c κs = search needs
 
-total-requires-2 : tie.Need-total-requires-2
-total-requires-2 c κs = search needs
+sum-of-requires-2 : tie.Need-sum-of-requires-2
+sum-of-requires-2 c κs = search needs
 
 share-requires : tie.Need-share-requires
 share-requires c κs = search needs
@@ -23,7 +23,7 @@ returns : tie.Need-returns
 unfolding balanced
 returns c =
     let begun = c .before .before .before .before in
-    let least : c .before .before .before .total .result ≡ sum (begun .args .other) = c .before .before .before .total .ensures in
+    let least : c .before .before .before .sum-of .result ≡ sum (begun .args .other) = c .before .before .before .sum-of .ensures in
     let larger : sum (begun .args .other) < sum (begun .args .side) = omega arith in
     c .share .ensures ∙ rw (least, lt-ltb _ _ larger) refl
 
@@ -36,4 +36,4 @@ returns-2 c =
 
 pub balanced-side-spec : {M : Type 1} → statement M
 balanced-side-spec =
-    tie.close (tie.spec total-requires total-requires-2 share-requires returns returns-2)
+    tie.close (tie.spec sum-of-requires sum-of-requires-2 share-requires returns returns-2)

@@ -1,4 +1,4 @@
--- `apportion::total` meets its contract. The loop's invariant: t is the sum of the numbers passed.
+-- `apportion::sum_of` meets its contract. The loop's invariant: t is the sum of the numbers passed.
 -- Assumes nothing.
 use borrow.Author.Needs.{needs}
 use mathlib.Core.Path.{_≡_, refl, _∙_, ap}
@@ -8,8 +8,8 @@ use lib.ListN.{length, take}
 use lib.Seq.{take-all}
 use Rattle.apportion.specs.Sum.{sum}
 use Rattle.apportion.proofs.Sums.{sum-take-suc, take-le}
-use Rattle.apportion.proofs.total.Statement.{statement}
-use Rattle.apportion.proofs.total.Tie as tie
+use Rattle.apportion.proofs.sum_of.Statement.{statement}
+use Rattle.apportion.proofs.sum_of.Tie as tie
 
 abbrev Inv-loop : tie.InvT-loop
 Inv-loop numbers t₀ i₀ t i = (i ≤ 16) × (t ≡ sum (take i numbers))
@@ -54,8 +54,8 @@ returns c =
     let last : c .before .loop .i ≡ 16 = omega arith in
     c .before .loop .inv .1 ∙ ap (λ (n : ℕ). sum (take n numbers)) last ∙ ap sum (take-all 16 numbers (omega arith))
 
-pub total-spec : {M : Type 1} → statement M
-total-spec =
+pub sum-of-spec : {M : Type 1} → statement M
+sum-of-spec =
     tie.close
     (tie.spec
     Inv-loop
