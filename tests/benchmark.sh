@@ -1,5 +1,6 @@
 #!/usr/bin/env bash
-# Counts the instructions of the program and of the model on the same filings of 65,536 bytes, and prints both and their ratio.
+# Counts the instructions of the program and of the model on the same filings of 65,536 bytes, and prints both and their ratio; then the
+# instructions of one field of each kind.
 # It needs valgrind. Nothing here is held to a limit.
 set -euo pipefail
 . "$(dirname "$0")/common.sh"
@@ -32,6 +33,26 @@ instructions() { # COMMAND..
 
 command -v valgrind >/dev/null || fail "valgrind is needed"
 
+# So many fields of a kind after sixteen joins; the book has no network, so that settling is refused alike.
+fields() { # COUNT CALL
+    awk -v count="$1" -v call="$2" 'BEGIN {
+        for (o = 0; o < 16; o++) print "join " o
+        for (i = 0; i < count; i++) print call
+    }'
+}
+
+# The instructions of one field of a kind: 1000 of them less 100, divided by 900.
+field() { # KIND CALL
+    local few many
+    for count in 100 1000; do
+        mkdir -p "$work/$1-$count"
+        fields "$count" "$2" | "$model" encode >"$work/$1-$count/filing.q"
+    done
+    few=$(cd "$work/$1-100" && instructions "$program")
+    many=$(cd "$work/$1-1000" && instructions "$program")
+    awk -v kind="$1" -v few="$few" -v many="$many" 'BEGIN { printf "%-24s %6d\n", kind, (many - few) / 900 }'
+}
+
 printf '%-14s %14s %14s %7s\n' filing program model ratio
 for kind in amounts interruptions mixed; do
     mkdir "$work/$kind"
@@ -43,3 +64,12 @@ for kind in amounts interruptions mixed; do
     awk -v kind="$kind" -v ours="$ours" -v theirs="$theirs" \
         'BEGIN { printf "%-14s %14d %14d %7.2f\n", kind, ours, theirs, ours / theirs }'
 done
+
+printf '\n%-24s %6s\n' "one field" program
+field amount "amount 3 1 4 0 1000"
+field counted-interruption "interruption 3 0 0 0 1000 1900 5"
+field left-out-interruption "interruption 3 0 0 1 1000 1900 5"
+field setting "setting 3 0 1000"
+field mark "mark 3 2 1"
+field rates "rates 5000 10000"
+field index "index 1 10250"

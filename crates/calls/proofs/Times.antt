@@ -11,7 +11,7 @@ use mir.Syntax.{w64}
 use mir.Val.{SFits, toZ, ofZ}
 use mir.Facts.{toZ-ofZ}
 use borrow.Author.Tests.{le-ltb, le-leb, lt-leb, ltb-true, ltb-false, leb-true}
-use Rattle.calls.specs.Limits.{lastEnd, longest}
+use Rattle.calls.specs.Limits.{lastEnd, longest, startBefore}
 use Rattle.calls.specs.Call.{timesInRange, secondsOf, yearOf}
 use Rattle.calls.proofs.Flags.{both}
 
@@ -37,7 +37,7 @@ pub record Timed (start end : ℤ) : Type 0 where
   pub stop : ℕ
   pub length : ℕ
   pub end-is : end ≡ pos stop
-  pub stop-most : stop ≤ 94607999
+  pub stop-most : stop ≤ lastEnd
   pub length-is : end -ℤ start ≡ pos length
   pub length-most : length ≤ 126143999
 
@@ -48,27 +48,27 @@ difference e (suc s) le = rw (le-ltb e (suc s) le) refl
 pub timed : (start end : ℤ) → timesInRange start end ≡ true → Timed start end
 unfolding timesInRange
 timed (pos s) (pos e) h =
-    let ends = both (leb 0 e && leb e 94607999 && true) (leb s e) h in
-    let most = both (leb 0 e) (leb e 94607999) (both (leb 0 e && leb e 94607999) true (ends .0) .0) in
+    let ends = both (leb 0 e && leb e lastEnd && true) (leb s e) h in
+    let most = both (leb 0 e) (leb e lastEnd) (both (leb 0 e && leb e lastEnd) true (ends .0) .0) in
     record {
       stop = e;
       length = e - s;
       end-is = refl;
-      stop-most = leb-true e 94607999 (most .1);
+      stop-most = leb-true e lastEnd (most .1);
       length-is = difference e s (leb-true s e (ends .1));
-      length-most = omega (arith, leb-true e 94607999 (most .1));
+      length-most = omega (arith, leb-true e lastEnd (most .1));
     }
 timed (negsuc s) (pos e) h =
-    let ends = both (leb 0 e && leb e 94607999 && leb s 31535999) true h in
-    let early = both (leb 0 e && leb e 94607999) (leb s 31535999) (ends .0) in
-    let most = both (leb 0 e) (leb e 94607999) (early .0) in
+    let ends = both (leb 0 e && leb e lastEnd && leb s (startBefore - 1)) true h in
+    let early = both (leb 0 e && leb e lastEnd) (leb s (startBefore - 1)) (ends .0) in
+    let most = both (leb 0 e) (leb e lastEnd) (early .0) in
     record {
       stop = e;
       length = e + suc s;
       end-is = refl;
-      stop-most = leb-true e 94607999 (most .1);
+      stop-most = leb-true e lastEnd (most .1);
       length-is = refl;
-      length-most = omega (arith, leb-true e 94607999 (most .1), leb-true s 31535999 (early .1));
+      length-most = omega (arith, leb-true e lastEnd (most .1), leb-true s (startBefore - 1) (early .1));
     }
 timed (pos s) (negsuc e) h = absurd (false≢true h)
 timed (negsuc s) (negsuc e) h = absurd (false≢true h)
@@ -93,10 +93,10 @@ module _ (start end : ℤ) where
     after-2019 t = rw (not-below (pos 0) end from, below end (pos lastEnd) t) refl
 
     module _ (to : ltZ (pos lastEnd) end ≡ false) where
-      pub too-early : ltZ start (negsuc 31535999) ≡ true → timesInRange start end ≡ false
+      pub too-early : ltZ start (negsuc (startBefore - 1)) ≡ true → timesInRange start end ≡ false
       unfolding timesInRange
-      too-early t = rw (not-below (pos 0) end from, not-below end (pos lastEnd) to, below (negsuc 31535999) start t) refl
+      too-early t = rw (not-below (pos 0) end from, not-below end (pos lastEnd) to, below (negsuc (startBefore - 1)) start t) refl
 
-      pub in-order : ltZ start (negsuc 31535999) ≡ false → timesInRange start end ≡ leZ start end
+      pub in-order : ltZ start (negsuc (startBefore - 1)) ≡ false → timesInRange start end ≡ leZ start end
       unfolding timesInRange
-      in-order early = rw (not-below (pos 0) end from, not-below end (pos lastEnd) to, not-below (negsuc 31535999) start early) refl
+      in-order early = rw (not-below (pos 0) end from, not-below end (pos lastEnd) to, not-below (negsuc (startBefore - 1)) start early) refl

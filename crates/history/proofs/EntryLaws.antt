@@ -10,7 +10,7 @@ use lib.Dec.{leb}
 use borrow.Author.Tests.{leb-false}
 use Rattle.calls.specs.declared.Call.{Call}
 use Rattle.calls.specs.declared.Call.the-variants.{Join, Setting, Interruption, Amount, Mark, Rates, Index}
-use Rattle.calls.specs.Limits.{operators, years, figureCount}
+use Rattle.calls.specs.Limits.{operators, years, figureCount, shortMost}
 use Rattle.calls.specs.Answers.{Acceptance, counted-in, left-out-as-short, left-out-under}
 use Rattle.calls.specs.Call.{Entry, yearOf, secondsOf, outcome, interruptionEntries, factsOf}
 use Rattle.ledger.specs.Table.{some}
@@ -76,7 +76,7 @@ unfolding factsOf some outcome
 entries-within (Join operator) known r = tt
 entries-within (Setting operator which value) known r = tt
 entries-within (Interruption operator sign level cause start end weight) known r =
-    judged-within operator sign level weight (secondsOf start end) (yearOf end) cause (leb (secondsOf start end) 180) (leb 1 cause && leb cause 3)
+    judged-within operator sign level weight (secondsOf start end) (yearOf end) cause (leb (secondsOf start end) shortMost) (leb 1 cause && leb cause 3)
     (known-lt operator known) (r .0) (r .1) (r .2)
 entries-within (Amount operator year figure sign value) known r =
     (record { operator-lt = known-lt operator known; year-lt = r .0; figure-lt = r .1; sign-le = r .2 }, tt)
@@ -89,7 +89,7 @@ unfolding factsOf outcome
 entries-distinct (Join operator) = tt
 entries-distinct (Setting operator which value) = tt
 entries-distinct (Interruption operator sign level cause start end weight) =
-    judged-distinct operator sign level weight (secondsOf start end) (yearOf end) cause (leb (secondsOf start end) 180) (leb 1 cause && leb cause 3)
+    judged-distinct operator sign level weight (secondsOf start end) (yearOf end) cause (leb (secondsOf start end) shortMost) (leb 1 cause && leb cause 3)
 entries-distinct (Amount operator year figure sign value) = (tt, tt)
 entries-distinct (Mark operator indicator mark) = tt
 entries-distinct (Rates pot cap) = tt
@@ -101,7 +101,7 @@ unfolding factsOf some outcome
 entries-joined joined (Join operator) there = tt
 entries-joined joined (Setting operator which value) there = tt
 entries-joined joined (Interruption operator sign level cause start end weight) there =
-    judged-joined operator sign level weight (secondsOf start end) (yearOf end) cause joined (leb (secondsOf start end) 180) (leb 1 cause && leb cause 3)
+    judged-joined operator sign level weight (secondsOf start end) (yearOf end) cause joined (leb (secondsOf start end) shortMost) (leb 1 cause && leb cause 3)
     (member-there _ there)
 entries-joined joined (Amount operator year figure sign value) there = (member-there _ there, tt)
 entries-joined joined (Mark operator indicator mark) there = tt

@@ -8,6 +8,7 @@ use mathlib.Core.Bool.{true}
 use mathlib.Core.List.{List, [], _∷_}
 use native.Mathlib.Omega.{arith}
 use lib.ListN.{getD-replicate}
+use Rattle.calls.specs.Limits.{freshIndex, indexCount}
 use Rattle.book.specs.declared.Book.{Book}
 use Rattle.calls.specs.declared.Call.{Call}
 use Rattle.calls.specs.Held.{Held, Same}
@@ -135,7 +136,7 @@ fresh =
             mark = λ o i lo li. rw (getD-replicate {A = ℕ} 6 i 0 0 li) (has-zero o);
             pot-rate = refl;
             cap-rate = refl;
-            index = λ n lt. getD-replicate {A = ℕ} 4 n 10000 0 lt;
+            index = λ n lt. getD-replicate {A = ℕ} indexCount n freshIndex 0 lt;
             total = λ o y f lo ly lf. getD-replicate {A = ℕ} 384 (figureSlot o y f) 0 0 (figure-slot-lt o y f lo ly lf);
           };
       covered = λ o y f. omega arith;

@@ -14,7 +14,7 @@ use Rattle.calls.proofs.Flags.{and-left, and-right}
 use Rattle.book.specs.declared.Book.{Book}
 use Rattle.calls.specs.declared.Call.{Call}
 use Rattle.calls.specs.declared.Call.the-variants.{Join, Setting, Amount, Mark, Rates, Index}
-use Rattle.calls.specs.Limits.{operators, years, figureCount, settingCount, indicatorCount, indexCount, settingLimit, figureLimit, rateLimit, indexLeast, indexMost}
+use Rattle.calls.specs.Limits.{operators, years, figureCount, settingCount, indicatorCount, indexCount, settingLimit, figureLimit, rateLimit, indexLeast, indexMost, freshIndex}
 use Rattle.calls.specs.Masks.{has, including}
 use Rattle.calls.specs.Answers.{yes-said}
 use Rattle.book.specs.Book.{bookWith, freshBook, isJoined, isMarked, settingOf, figureOf, indexOf, settingSlot, figureSlot, most, inRange}
@@ -38,7 +38,7 @@ abbrev noFigures : List ℕ
 noFigures = replicate 384 0
 
 abbrev freshIndices : List ℕ
-freshIndices = replicate 4 10000
+freshIndices = replicate indexCount freshIndex
 
 -- a value above 0 is a joined operator's
 joined-if : (t : Bool) (limit value : ℕ) → value ≤ cond t limit 0 → (value ≡ 0 → ⊥) → (t ≡ true) × (value ≤ limit)
@@ -232,9 +232,9 @@ module _ (b : Book) (ranged : inRange b ≡ true) where
   indexStage k = bookWith (b .joined) (b .marks) (b .settings) (b .figures) 0 0 (mix k (b .indices) freshIndices)
 
   index-step : (k : ℕ) → k < indexCount → inRange (indexStage k) ≡ true
-      → Leads (indexStage k) (unlessFresh (indexOf b k) 10000 (Index k (indexOf b k))) (indexStage (suc k))
+      → Leads (indexStage k) (unlessFresh (indexOf b k) freshIndex (Index k (indexOf b k))) (indexStage (suc k))
   unfolding indexStage indexOf
-  index-step k lt in-range = go (eqb (getD (b .indices) k 0) 10000) refl
+  index-step k lt in-range = go (eqb (getD (b .indices) k 0) freshIndex) refl
     where
       value : ℕ
       value = getD (b .indices) k 0
@@ -245,9 +245,9 @@ module _ (b : Book) (ranged : inRange b ≡ true) where
       long : length freshIndices ≡ length (b .indices)
       long = sym (bounds .indices-long)
 
-      go : (t : Bool) → eqb value 10000 ≡ t → Leads (indexStage k) (cond t [] (Index k value ∷ [])) (indexStage (suc k))
+      go : (t : Bool) → eqb value freshIndex ≡ t → Leads (indexStage k) (cond t [] (Index k value ∷ [])) (indexStage (suc k))
       go true e =
-          let same = mix-same (b .indices) freshIndices long k inside (eqb-true value 10000 e ∙ sym (getD-replicate {A = ℕ} 4 k 10000 0 lt)) in
+          let same = mix-same (b .indices) freshIndices long k inside (eqb-true value freshIndex e ∙ sym (getD-replicate {A = ℕ} indexCount k freshIndex 0 lt)) in
           rw same (leads-none (indexStage (suc k)) (rw (← same) in-range))
       go false e =
           leads-one (indexStage k) (Index k value) (indexStage (suc k)) yes-said in-range

@@ -11,7 +11,7 @@ use lib.ListN.{length, length-append}
 use Rattle.book.specs.declared.Book.{Book}
 use Rattle.calls.specs.declared.Call.{Call}
 use Rattle.calls.specs.declared.Call.the-variants.{Join, Setting, Amount, Mark, Rates, Index}
-use Rattle.calls.specs.Limits.{operators, years, figureCount, settingCount, indicatorCount, indexCount, settingLimit, figureLimit}
+use Rattle.calls.specs.Limits.{operators, years, figureCount, settingCount, indicatorCount, indexCount, settingLimit, figureLimit, freshIndex}
 use Rattle.book.specs.Book.{isJoined, isMarked, settingOf, figureOf, indexOf, most, inRange}
 use Rattle.book.proofs.Bounds.{Bounds, bounded}
 use Rattle.fields.specs.Encoding.{inBytes, fieldOf, encoded, FitsBytes}
@@ -108,7 +108,7 @@ module _ (b : Book) (ranged : inRange b ≡ true) where
   unfolding indexCalls encoded fieldOf inBytes
   indices-small =
       small-turns indexCount _ 8
-      (λ n ln. small-unless (eqb (indexOf b n) 10000) (Index n (indexOf b n)) 8 (omega (arith, bounds .index n ln .1)) (omega arith))
+      (λ n ln. small-unless (eqb (indexOf b n) freshIndex) (Index n (indexOf b n)) 8 (omega (arith, bounds .index n ln .1)) (omega arith))
 
   rates-small : Small (rateCalls b) 11
   unfolding rateCalls encoded fieldOf inBytes

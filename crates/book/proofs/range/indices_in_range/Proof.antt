@@ -7,6 +7,7 @@ use Prim.Native.Nat.{ℕ, _-_, _≤_, _<_}
 use native.Mathlib.Omega.{arith}
 use lib.Dec.{leb}
 use lib.ListN.{getD}
+use Rattle.calls.specs.Limits.{indexCount, indexLeast, indexMost}
 use Rattle.calls.proofs.Flags.{denied, granted}
 use borrow.Author.Count.{below-more}
 use Rattle.book.specs.Book.{indexOf, indicesInRange}
@@ -15,7 +16,7 @@ use Rattle.book.proofs.range.indices_in_range.Statement.{statement}
 use Rattle.book.proofs.range.indices_in_range.Tie as tie
 
 abbrev Inv-loop : tie.InvT-loop
-Inv-loop indices i₀ i = (i ≤ 4) × ((k : ℕ) → k < i → leb 1 (getD indices k 0) && leb (getD indices k 0) 100000 ≡ true)
+Inv-loop indices i₀ i = (i ≤ indexCount) × ((k : ℕ) → k < i → leb indexLeast (getD indices k 0) && leb (getD indices k 0) indexMost ≡ true)
 
 abbrev μ-loop : tie.MeasureT-loop
 μ-loop indices i₀ i = 4 - i

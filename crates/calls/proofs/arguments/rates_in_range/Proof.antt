@@ -1,17 +1,18 @@
 -- `calls::arguments::rates_in_range` meets its contract.
 -- Assumes nothing.
 use borrow.Author.Tests.{lt-leb, le-leb}
+use Rattle.calls.specs.Limits.{rateLimit}
 use Rattle.calls.specs.Call.{factsOf}
 use Rattle.calls.proofs.arguments.rates_in_range.Statement.{statement}
 use Rattle.calls.proofs.arguments.rates_in_range.Tie as tie
 
 returns : tie.Need-returns
 unfolding factsOf
-returns c = simp (lt-leb (c .before .args .pot) 20000 (c .if1 .taken))
+returns c = simp (lt-leb (c .before .args .pot) rateLimit (c .if1 .taken))
 
 returns-2 : tie.Need-returns-2
 unfolding factsOf
-returns-2 c = simp (le-leb (c .before .args .pot) 20000 (c .if1 .left))
+returns-2 c = simp (le-leb (c .before .args .pot) rateLimit (c .if1 .left))
 
 pub rates-in-range-spec : {M : Type 1} → statement M
 rates-in-range-spec = tie.close (tie.spec returns returns-2)

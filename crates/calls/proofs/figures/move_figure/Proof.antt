@@ -3,6 +3,7 @@
 use Prim.Native.Nat.{_+_}
 use native.Mathlib.Omega.{arith}
 use borrow.Author.Tests.{lt-ltb, le-ltb, eq-eqb, ne-eqb}
+use Rattle.calls.specs.Limits.{figureLimit}
 use Rattle.calls.specs.Steps.{movedBy}
 use borrow.Author.Needs.{needs}
 use Rattle.calls.proofs.figures.move_figure.Statement.{statement}
@@ -11,12 +12,12 @@ use Rattle.calls.proofs.figures.move_figure.Tie as tie
 -- the value alone passes the limit
 returns : tie.Need-returns
 unfolding movedBy
-returns c = simp (eq-eqb _ _ (c .before .if1 .taken), lt-ltb 100000000000 (c .before .before .args .old + c .before .before .args .value) (omega arith))
+returns c = simp (eq-eqb _ _ (c .before .if1 .taken), lt-ltb figureLimit (c .before .before .args .old + c .before .before .args .value) (omega arith))
 
 -- the sum passes it
 returns-2 : tie.Need-returns-2
 unfolding movedBy
-returns-2 c = simp (eq-eqb _ _ (c .before .before .if1 .taken), lt-ltb 100000000000 (c .before .before .before .args .old + c .before .before .before .args .value) (omega arith))
+returns-2 c = simp (eq-eqb _ _ (c .before .before .if1 .taken), lt-ltb figureLimit (c .before .before .before .args .old + c .before .before .before .args .value) (omega arith))
 
 add-t6 : tie.Need-add-t6
 add-t6 c = search needs
@@ -24,7 +25,7 @@ add-t6 c = search needs
 -- added
 returns-3 : tie.Need-returns-3
 unfolding movedBy
-returns-3 c = simp (eq-eqb _ _ (c .before .before .if1 .taken), le-ltb 100000000000 (c .before .before .before .args .old + c .before .before .before .args .value) (omega arith))
+returns-3 c = simp (eq-eqb _ _ (c .before .before .if1 .taken), le-ltb figureLimit (c .before .before .before .args .old + c .before .before .before .args .value) (omega arith))
 
 -- below 0
 returns-4 : tie.Need-returns-4
