@@ -8,7 +8,7 @@ rows=crates/cases/src/rows.rt
 printed=crates/book_test/stdout
 
 tests/cases.py --check
-cmp <(grep -v '^#' "$commands") <(sed 's/ =.*//' "$printed")
+cmp <(grep -v -e '^#' -e '^$' "$commands") <(sed 's/ =.*//' "$printed")
 echo "cases: the numbers of $rows are those of $(wc -l <"$printed") commands"
 
 work=$(mktemp -d)
