@@ -27,6 +27,7 @@ hold() { # SUBCOMMAND FILE
 
 hold product crates/exact_test/stdout
 hold share crates/apportion_test/stdout
+hold walk crates/walker_test/stdout
 hold calls crates/book_test/stdout
 # the calls with the book lent are held to the same output
 cmp crates/book_test/stdout crates/lent_test/stdout

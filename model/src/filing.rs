@@ -84,7 +84,7 @@ fn read_field(book: &mut Book, filing: &[u8], reading: &mut Reading) {
         return;
     }
     reading.applied += 1;
-    reading.offset += HEAD + length_at(filing, reading.offset);
+    reading.offset = after_field(filing, reading.offset);
 }
 
 /// The field whose tag is at the offset, or the refusal 1, 2 or 3.
@@ -108,6 +108,11 @@ pub fn field_at(filing: &[u8], offset: usize) -> Result<Field, u8> {
     }
     let start = offset + HEAD;
     Ok(decode(tag, &filing[start..start + length]))
+}
+
+/// The offset after the field whose tag is at the offset; the field is well formed.
+pub fn after_field(filing: &[u8], offset: usize) -> usize {
+    offset + HEAD + length_at(filing, offset)
 }
 
 /// The length written after the tag at the offset; its two bytes are there.

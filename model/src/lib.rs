@@ -20,4 +20,5 @@ pub mod report;
 pub mod script;
 pub mod settlement;
 pub mod sharing;
+pub mod walk;
 pub mod writer;

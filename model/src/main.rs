@@ -5,13 +5,13 @@ use model::book::Book;
 use model::compare::{Comparison, Programs};
 use model::files::of_file;
 use model::numbers::{number, numbers};
-use model::{exponent, product, program, script, sharing};
+use model::{exponent, product, program, script, sharing, walk};
 use std::fs;
 use std::io::{self, BufRead, BufWriter, ErrorKind, Write};
 use std::ops::Range;
 use std::process::ExitCode;
 
-const SUBCOMMANDS: &str = "expected one of: share, product, table, calls, encode, \
+const SUBCOMMANDS: &str = "expected one of: share, product, table, calls, encode, walk, \
     program FILE, rewrite FILE, compare QUALITY DIR SEED FIRST COUNT, \
     compare-rewrite REWRITE QUALITY DIR SEED FIRST COUNT";
 
@@ -50,6 +50,8 @@ fn dispatch(words: &[&str], output: &mut impl Write) -> Result<u8, String> {
         ["table"] => print_table(output),
         ["calls"] => answer_calls(input, output),
         ["encode"] => encode(input, output),
+        // Each line is a filing, the empty one too.
+        ["walk"] => for_lines(input, output, as_line(walk::answer)),
         ["program", file] => print_program(file, output),
         ["rewrite", file] => rewrite(file, output),
         ["compare", quality, folder, seed, first, count] => {
@@ -81,7 +83,7 @@ fn answer_calls(input: impl BufRead, output: &mut impl Write) -> Result<u8, Stri
 /// a part of a filing would be read as one.
 fn encode(input: impl BufRead, output: &mut impl Write) -> Result<u8, String> {
     let mut filing = Vec::new();
-    for_lines(input, &mut filing, script::encode)?;
+    for_lines(input, &mut filing, unless_comment(script::encode))?;
     print(output, &filing)?;
     Ok(DONE)
 }
@@ -141,15 +143,13 @@ fn numbers_of(first: &str, count: &str) -> Result<Range<u64>, String> {
     }
 }
 
-/// Answers each line by one line.
+/// Answers each line that is no comment by one line.
 fn answer_lines(
     input: impl BufRead,
     output: &mut impl Write,
-    mut answer: impl FnMut(&str) -> Result<String, String>,
+    answer: impl FnMut(&str) -> Result<String, String>,
 ) -> Result<u8, String> {
-    for_lines(input, output, |line| {
-        Ok(format!("{}\n", answer(line)?).into_bytes())
-    })
+    for_lines(input, output, unless_comment(as_line(answer)))
 }
 
 /// Answers each line by bytes.
@@ -164,7 +164,7 @@ fn for_lines(
     Ok(DONE)
 }
 
-/// The answer to one line: nothing if it is empty or starts with `#`.
+/// The answer to one line, or a message that has the line's number.
 fn answered(
     index: usize,
     line: io::Result<String>,
@@ -172,10 +172,26 @@ fn answered(
 ) -> Result<Vec<u8>, String> {
     let in_line = |message: String| format!("line {}: {message}", index + 1);
     let line = line.map_err(|error| in_line(error.to_string()))?;
-    if line.is_empty() || line.starts_with('#') {
-        return Ok(Vec::new());
-    }
     answer(&line).map_err(in_line)
+}
+
+/// Turns an answer in words into a line of them.
+fn as_line(
+    mut answer: impl FnMut(&str) -> Result<String, String>,
+) -> impl FnMut(&str) -> Result<Vec<u8>, String> {
+    move |line| Ok(format!("{}\n", answer(line)?).into_bytes())
+}
+
+/// Answers nothing to a line that is empty or starts with `#`.
+fn unless_comment(
+    mut answer: impl FnMut(&str) -> Result<Vec<u8>, String>,
+) -> impl FnMut(&str) -> Result<Vec<u8>, String> {
+    move |line| {
+        if line.is_empty() || line.starts_with('#') {
+            return Ok(Vec::new());
+        }
+        answer(line)
+    }
 }
 
 /// Turns an answer to numbers into an answer to a line of them.
@@ -235,6 +251,7 @@ mod tests {
             &["program", "a", "b"],
             &["rewrite"],
             &["encode", "a"],
+            &["walk", "a"],
             &["rewrite", "a", "b"],
             &["compare", "quality", "folder", "1", "2"],
             &["compare", "quality", "folder", "1", "2", "3", "4"],

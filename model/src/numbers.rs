@@ -12,8 +12,8 @@ pub fn signed_number(word: &str) -> Result<i64, String> {
     parsed(word, word.strip_prefix('-').unwrap_or(word))
 }
 
-/// Decimal numbers below 2^64 with single spaces between them.
-pub fn numbers(line: &str) -> Result<Vec<u64>, String> {
+/// Decimal numbers that fit their type, with single spaces between them.
+pub fn numbers<T: FromStr>(line: &str) -> Result<Vec<T>, String> {
     line.split(' ').map(number).collect()
 }
 
@@ -47,7 +47,7 @@ mod tests {
             "a",
             "1\t2",
         ] {
-            assert!(numbers(line).is_err(), "{line:?}");
+            assert!(numbers::<u64>(line).is_err(), "{line:?}");
         }
     }
 
@@ -62,6 +62,8 @@ mod tests {
     fn numbers_fit_their_type() {
         assert_eq!(number("255"), Ok(255_u8));
         assert!(number::<u8>("256").is_err());
+        assert_eq!(numbers("0 255"), Ok(vec![0_u8, 255]));
+        assert!(numbers::<u8>("0 256").is_err());
     }
 
     #[test]

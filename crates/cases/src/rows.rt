@@ -1,5 +1,6 @@
 // The cases, eight numbers each: what to do, and its arguments. Of an interruption level and cause share a number, level * 16 + cause,
 // and 100,000,000 is added to its times. A store names a kind of value, a place and the value.
+// Made by tests/cases.py from commands.txt, a command a row: change the commands, not this file.
 ghost use Prim.Native.Nat.{_<_};
 
 pub(crate) const COUNT: usize = 628;
