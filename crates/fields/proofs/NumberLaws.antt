@@ -1,10 +1,10 @@
 -- Numbers of a filing: one byte more, a number inside a content, and bits read as a signed number.
 -- Assumes nothing.
 use Prim.Native.Nat.{ℕ, zero, suc, _+_, _*_, _-_, _^_, _≤_, _<_}
-use mathlib.Core.Path.{_≡_, refl, ap, _∙_}
+use mathlib.Core.Path.{_≡_, refl, sym, ap, _∙_}
 use mathlib.Core.List.{List, [], _∷_, _++_}
 use native.Mathlib.Numerals.{add-one}
-use native.Mathlib.Nat.{pow-suc, pow-le-pow-right}
+use native.Mathlib.Nat.{pow-suc, pow-le-pow-right, add-zero}
 use native.Mathlib.Omega.{arith}
 use lib.IntN.{pos, negsuc, _-ℤ_}
 use lib.ListN.{length, getD, take, drop, length-append, length-drop}
@@ -30,6 +30,25 @@ unfolding unsigned
 unsigned-more bytes at done lt =
     let within : done < length (drop at bytes) = rw length-drop (omega arith) in
     rw (add-one done, take-suc (drop at bytes) done 0 within, big-endian-more, getD-drop) refl
+
+-- a number by its first bytes and the others
+unsigned-split : (bytes : List ℕ) (at done more : ℕ) → at + done + more ≤ length bytes
+    → unsigned (done + more) bytes at ≡ unsigned done bytes at * 256 ^ more + unsigned more bytes (at + done)
+unfolding unsigned bigEndian
+unsigned-split bytes at done zero le = rw (add-zero done) (omega arith)
+unsigned-split bytes at done (suc more) le =
+    let first : ℕ = unsigned done bytes at in
+    let longer : done + suc more ≡ done + more + 1 = omega arith in
+    let power : first * 256 ^ suc more ≡ first * (256 ^ more * 256) = ap (λ (n : ℕ). first * n) (pow-suc 256 more) in
+    let place : at + (done + more) ≡ at + done + more = omega arith in
+    let whole = unsigned-more bytes at (done + more) (omega arith) in
+    let rest = rw (add-one more) at (unsigned-more bytes (at + done) more (omega arith)) in
+    rw longer (omega (arith, whole, rest, power, unsigned-split bytes at done more (omega arith), ap (λ (n : ℕ). getD bytes n 0) place))
+
+-- 64 bits by their two halves
+pub unsigned-halves : (bytes : List ℕ) (at : ℕ) → at + 8 ≤ length bytes
+    → unsigned 4 bytes at * 4294967296 + unsigned 4 bytes (at + 4) ≡ unsigned 8 bytes at
+unsigned-halves bytes at le = sym (unsigned-split bytes at 4 4 (omega arith))
 
 pub power-more : (done : ℕ) → 256 ^ (done + 1) ≡ 256 ^ done * 256
 power-more done = rw (add-one done) (pow-suc 256 done)
