@@ -8,14 +8,14 @@ use native.Mathlib.Numerals.{add-one}
 use native.Mathlib.Omega.{arith}
 use lib.ListN.{length, take, drop, set, length-append}
 use lib.Seq.{set-append-left, take-set-lt, take-suc-set, append-snoc, length-take-le}
-use Rattle.text.specs.Steps.{written}
+use Rattle.text.specs.Steps.{withTextAt}
 use Rattle.text.proofs.WrittenLaws.{put-nothing}
 use Rattle.fields.specs.Encoding.{inBytes}
 use Rattle.fields.proofs.EncodingLaws.{bytes-length}
 
 -- a byte stored just before a text that was put
-byte-before : (old : List ℕ) (at byte : ℕ) (text : List ℕ) → at + 1 ≤ length old → set (written old (at + 1) text) at byte ≡ written old at (byte ∷ text)
-unfolding written
+byte-before : (old : List ℕ) (at byte : ℕ) (text : List ℕ) → at + 1 ≤ length old → set (withTextAt old (at + 1) text) at byte ≡ withTextAt old at (byte ∷ text)
+unfolding withTextAt
 byte-before old at byte text room =
     let head : List ℕ = take (at + 1) old in
     let rest : List ℕ = drop (at + 1 + length text) old in
@@ -31,7 +31,7 @@ byte-before old at byte text room =
 pub record Storing (old : List ℕ) (at width number : ℕ) (new : List ℕ) (rest left : ℕ) : Type 0 where
   pub stored : ℕ
   pub counted : left + stored ≡ width
-  pub bytes : new ≡ written old (at + left) (inBytes stored number)
+  pub bytes : new ≡ withTextAt old (at + left) (inBytes stored number)
   pub remaining : rest ≡ number / 256 ^ stored
   pub room : at + width ≤ length old
 
@@ -55,7 +55,7 @@ module _ {old : List ℕ} {at width number : ℕ} where
         room = storing .room;
       }
 
-  pub storing-all : {new : List ℕ} {rest : ℕ} → Storing old at width number new rest 0 → new ≡ written old at (inBytes width number)
+  pub storing-all : {new : List ℕ} {rest : ℕ} → Storing old at width number new rest 0 → new ≡ withTextAt old at (inBytes width number)
   storing-all storing =
       let here : at + 0 ≡ at = omega arith in
       let all : storing .stored ≡ width = omega (arith, storing .counted) in

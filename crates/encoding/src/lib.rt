@@ -3,7 +3,7 @@ ghost use mathlib.Core.Path.{_≡_};
 ghost use Prim.Native.Nat.{_+_, _≤_};
 ghost use lib.ListN.{length};
 ghost use Rattle.fields.specs.Encoding.{inBytes};
-ghost use Rattle.text.specs.Steps.{written};
+ghost use Rattle.text.specs.Steps.{withTextAt};
 ghost use Rattle.encoding.specs.Fields.{bytesIn};
 
 // A field to be written. Its content is two numbers: the single bytes in front, as one number, and the value after them. Of rates
@@ -19,7 +19,7 @@ pub struct Encoded {
 // The lowest byte last.
 fn put_number(out: &mut [u8], at: usize, number: u64, width: usize) -> usize
     requires { ⌜ at + length (inBytes width number) ≤ length (now out) ⌝ }
-    ensures { λ r. ⌜ (now (out .exit) ≡ written (now (out .entry)) at (inBytes width number)) × (r ≡ at + length (inBytes width number)) ⌝ }
+    ensures { λ r. ⌜ (now (out .exit) ≡ withTextAt (now (out .entry)) at (inBytes width number)) × (r ≡ at + length (inBytes width number)) ⌝ }
 {
     let mut rest = number;
     let mut left = width;
@@ -33,7 +33,7 @@ fn put_number(out: &mut [u8], at: usize, number: u64, width: usize) -> usize
 
 pub fn put_field(out: &mut [u8], at: usize, field: Encoded) -> usize
     requires { ⌜ at + length (bytesIn field) ≤ length (now out) ⌝ }
-    ensures { λ r. ⌜ (now (out .exit) ≡ written (now (out .entry)) at (bytesIn field)) × (r ≡ at + length (bytesIn field)) ⌝ }
+    ensures { λ r. ⌜ (now (out .exit) ≡ withTextAt (now (out .entry)) at (bytesIn field)) × (r ≡ at + length (bytesIn field)) ⌝ }
 {
     let length_at = put_number(out, at, field.tag as u64, 1);
     let content_at = put_number(

@@ -9,7 +9,7 @@ ghost use Rattle.book.specs.Book.{isJoined};
 ghost use Rattle.apportion.specs.Sum.{sum};
 ghost use Rattle.text.specs.Text.{decimal, signedDecimal};
 ghost use Rattle.lines.specs.Lines.{Printable, LineFits, numberLine, pointsOfOperator, operatorLine, operatorLines, lastLine, printed};
-ghost use Rattle.text.specs.Steps.{written};
+ghost use Rattle.text.specs.Steps.{withTextAt};
 use apportion::sum_of;
 use book::Book;
 use book::is_joined;
@@ -22,7 +22,7 @@ use text::put_word;
 // The header, the joined operators rising, and the sums.
 pub fn put_lines(out: &mut [u8], b: Book, s: Settlement) -> usize
     requires { ⌜ Printable s × (0 + length (printed b s) ≤ length (now out)) ⌝ }
-    ensures { λ r. ⌜ (now (out .exit) ≡ written (now (out .entry)) 0 (printed b s)) × (r ≡ 0 + length (printed b s)) ⌝ }
+    ensures { λ r. ⌜ (now (out .exit) ≡ withTextAt (now (out .entry)) 0 (printed b s)) × (r ≡ 0 + length (printed b s)) ⌝ }
 {
     let first = put_word(out, 0, b"operator points out in adjustment\n");
     let last = put_operators(out, first, b, s);
@@ -31,7 +31,7 @@ pub fn put_lines(out: &mut [u8], b: Book, s: Settlement) -> usize
 
 fn put_operators(out: &mut [u8], at: usize, b: Book, s: Settlement) -> usize
     requires { ⌜ Printable s × (at + length (operatorLines b s 16) ≤ length (now out)) ⌝ }
-    ensures { λ r. ⌜ (now (out .exit) ≡ written (now (out .entry)) at (operatorLines b s 16)) × (r ≡ at + length (operatorLines b s 16)) ⌝ }
+    ensures { λ r. ⌜ (now (out .exit) ≡ withTextAt (now (out .entry)) at (operatorLines b s 16)) × (r ≡ at + length (operatorLines b s 16)) ⌝ }
 {
     let mut next = at;
     let mut operator: u8 = 0;
@@ -44,7 +44,7 @@ fn put_operators(out: &mut [u8], at: usize, b: Book, s: Settlement) -> usize
 
 fn put_if_joined(out: &mut [u8], at: usize, b: Book, s: Settlement, operator: u8) -> usize
     requires { ⌜ LineFits s operator at (cond (isJoined b operator) (operatorLine s operator) []) (now out) ⌝ }
-    ensures { λ r. ⌜ (now (out .exit) ≡ written (now (out .entry)) at (cond (isJoined b operator) (operatorLine s operator) [])) × (r ≡ at + length (cond (isJoined b operator) (operatorLine s operator) [])) ⌝ }
+    ensures { λ r. ⌜ (now (out .exit) ≡ withTextAt (now (out .entry)) at (cond (isJoined b operator) (operatorLine s operator) [])) × (r ≡ at + length (cond (isJoined b operator) (operatorLine s operator) [])) ⌝ }
 {
     if !is_joined(b, operator) {
         return at;
@@ -54,7 +54,7 @@ fn put_if_joined(out: &mut [u8], at: usize, b: Book, s: Settlement, operator: u8
 
 fn put_operator(out: &mut [u8], at: usize, s: Settlement, operator: usize) -> usize
     requires { ⌜ LineFits s operator at (operatorLine s operator) (now out) ⌝ }
-    ensures { λ r. ⌜ (now (out .exit) ≡ written (now (out .entry)) at (operatorLine s operator)) × (r ≡ at + length (operatorLine s operator)) ⌝ }
+    ensures { λ r. ⌜ (now (out .exit) ≡ withTextAt (now (out .entry)) at (operatorLine s operator)) × (r ≡ at + length (operatorLine s operator)) ⌝ }
 {
     let paid = s.contributions;
     let received = s.returns;
@@ -73,7 +73,7 @@ fn put_operator(out: &mut [u8], at: usize, s: Settlement, operator: usize) -> us
 // The adjustments' sum is 0: `adjustments-cancel` of the settlement's laws.
 fn put_last(out: &mut [u8], at: usize, s: Settlement) -> usize
     requires { ⌜ Printable s × (at + length (lastLine s) ≤ length (now out)) ⌝ }
-    ensures { λ r. ⌜ (now (out .exit) ≡ written (now (out .entry)) at (lastLine s)) × (r ≡ at + length (lastLine s)) ⌝ }
+    ensures { λ r. ⌜ (now (out .exit) ≡ withTextAt (now (out .entry)) at (lastLine s)) × (r ≡ at + length (lastLine s)) ⌝ }
 {
     let points = s.points;
     let paid = s.contributions;
@@ -99,7 +99,7 @@ fn put_columns(
     adjustment: i64,
 ) -> usize
     requires { ⌜ (natAbs adjustment < 2 ^ 62) × (at + length (numberLine [] points paid received adjustment) ≤ length (now out)) ⌝ }
-    ensures { λ r. ⌜ (now (out .exit) ≡ written (now (out .entry)) at (numberLine [] points paid received adjustment)) × (r ≡ at + length (numberLine [] points paid received adjustment)) ⌝ }
+    ensures { λ r. ⌜ (now (out .exit) ≡ withTextAt (now (out .entry)) at (numberLine [] points paid received adjustment)) × (r ≡ at + length (numberLine [] points paid received adjustment)) ⌝ }
 {
     let first = put_column(out, at, points);
     let second = put_column(out, first, paid);
@@ -109,7 +109,7 @@ fn put_columns(
 
 fn put_column(out: &mut [u8], at: usize, n: u64) -> usize
     requires { ⌜ at + length (32 ∷ decimal n) ≤ length (now out) ⌝ }
-    ensures { λ r. ⌜ (now (out .exit) ≡ written (now (out .entry)) at (32 ∷ decimal n)) × (r ≡ at + length (32 ∷ decimal n)) ⌝ }
+    ensures { λ r. ⌜ (now (out .exit) ≡ withTextAt (now (out .entry)) at (32 ∷ decimal n)) × (r ≡ at + length (32 ∷ decimal n)) ⌝ }
 {
     let next = put_byte(out, at, b' ');
     put_decimal(out, next, n)
@@ -118,7 +118,7 @@ fn put_column(out: &mut [u8], at: usize, n: u64) -> usize
 // The last column, and the end of the line.
 fn put_adjustment(out: &mut [u8], at: usize, n: i64) -> usize
     requires { ⌜ (natAbs n < 2 ^ 62) × (at + length ((32 ∷ signedDecimal n) ++ (10 ∷ [])) ≤ length (now out)) ⌝ }
-    ensures { λ r. ⌜ (now (out .exit) ≡ written (now (out .entry)) at ((32 ∷ signedDecimal n) ++ (10 ∷ []))) × (r ≡ at + length ((32 ∷ signedDecimal n) ++ (10 ∷ []))) ⌝ }
+    ensures { λ r. ⌜ (now (out .exit) ≡ withTextAt (now (out .entry)) at ((32 ∷ signedDecimal n) ++ (10 ∷ []))) × (r ≡ at + length ((32 ∷ signedDecimal n) ++ (10 ∷ []))) ⌝ }
 {
     let first = put_byte(out, at, b' ');
     let last = put_signed(out, first, n);

@@ -5,7 +5,7 @@ ghost use mathlib.Core.List.{_++_};
 ghost use lib.ListN.{length};
 ghost use Rattle.text.specs.Text.{bytesOf};
 ghost use Rattle.text.specs.Buffer.{putInto};
-ghost use Rattle.text.specs.Steps.{written};
+ghost use Rattle.text.specs.Steps.{withTextAt};
 ghost use Rattle.output.specs.Output.{refusedBy, refusedField, settlementText, outputOf};
 use book::Book;
 use calls::Answer;
@@ -70,7 +70,7 @@ pub fn put_refused_field(out: &mut [u8], number: u8, offset: usize) -> usize
 
 fn put_refused(out: &mut [u8], number: u8) -> usize
     requires { ⌜ 2048 ≤ length (now out) ⌝ }
-    ensures { λ r. ⌜ (now (out .exit) ≡ written (now (out .entry)) 0 (refusedBy number)) × (r ≡ 0 + length (refusedBy number)) ⌝ }
+    ensures { λ r. ⌜ (now (out .exit) ≡ withTextAt (now (out .entry)) 0 (refusedBy number)) × (r ≡ 0 + length (refusedBy number)) ⌝ }
 {
     let next = put_word(out, 0, b"refused ");
     put_decimal(out, next, number as u64)

@@ -13,7 +13,7 @@ use Rattle.calls.proofs.SaidLaws.{numbers-apart}
 use Rattle.text.specs.declared.Filled.{Filled}
 use Rattle.text.specs.declared.Filled.the-variants.{Bytes, Refused}
 use Rattle.text.specs.Buffer.{tooShort, filledSaid, putInto, bufferAfter, fitting}
-use Rattle.text.specs.Steps.{written}
+use Rattle.text.specs.Steps.{withTextAt}
 
 pub fillings-apart : ToldApart filledSaid
 fillings-apart (Bytes count) (Bytes other) same = cc
@@ -24,12 +24,12 @@ fillings-apart (Refused refusal) (Refused other) same =
     ap Refused (numbers-apart refusal other number)
 
 -- a text put at the front, and the front of what holds it
-pub written-front : (buffer text : List ℕ) → written buffer 0 text ≡ putInto buffer text
-unfolding written putInto
+pub written-front : (buffer text : List ℕ) → withTextAt buffer 0 text ≡ putInto buffer text
+unfolding withTextAt putInto
 written-front buffer text = rw (zero-add (length text)) refl
 
-pub take-front : (old text : List ℕ) → take (length text) (written old 0 text) ≡ text
-unfolding written
+pub take-front : (old text : List ℕ) → take (length text) (withTextAt old 0 text) ≡ text
+unfolding withTextAt
 take-front old text = take-append-seam text _
 
 module _ (buffer text : List ℕ) where

@@ -7,20 +7,20 @@ use native.Mathlib.Numerals.{add-one}
 use native.Mathlib.Omega.{arith}
 use lib.ListN.{length, take, drop, set, length-append, length-take, length-drop}
 use lib.Seq.{set-split, append-snoc, take-at, drop-drop, drop-append-add, length-take-le, paste, paste-zero, take-length}
-use Rattle.text.specs.Steps.{written}
+use Rattle.text.specs.Steps.{withTextAt}
 
-pub length-written : (old : List ℕ) (at : ℕ) (text : List ℕ) → at + length text ≤ length old → length (written old at text) ≡ length old
-unfolding written
+pub length-written : (old : List ℕ) (at : ℕ) (text : List ℕ) → at + length text ≤ length old → length (withTextAt old at text) ≡ length old
+unfolding withTextAt
 length-written old at text room = simp (length-append, length-take, length-drop) (omega arith)
 
 -- a store
-pub written-byte : (old : List ℕ) (at byte : ℕ) → at + 1 ≤ length old → set old at byte ≡ written old at (byte ∷ [])
-unfolding written
+pub written-byte : (old : List ℕ) (at byte : ℕ) → at + 1 ≤ length old → set old at byte ≡ withTextAt old at (byte ∷ [])
+unfolding withTextAt
 written-byte old at byte room = set-split old at byte (omega arith) ∙ (rw (add-one at) (sym (append-snoc (take at old) byte _)))
 
 -- a copy of all of a text
-pub written-paste : (old : List ℕ) (at : ℕ) (text : List ℕ) → paste old at text (length text) ≡ written old at text
-unfolding written
+pub written-paste : (old : List ℕ) (at : ℕ) (text : List ℕ) → paste old at text (length text) ≡ withTextAt old at text
+unfolding withTextAt
 written-paste old at text = rw (take-length text) refl
 
 -- what comes before a place, with a text there
@@ -29,8 +29,8 @@ front old at text room = length-append (take at old) text ∙ ap (λ (n : ℕ). 
 
 -- written twice is written once
 pub written-twice : (old : List ℕ) (at : ℕ) (first second : List ℕ) → at + length first ≤ length old
-    → written (written old at first) (at + length first) second ≡ written old at (first ++ second)
-unfolding written
+    → withTextAt (withTextAt old at first) (at + length first) second ≡ withTextAt old at (first ++ second)
+unfolding withTextAt
 written-twice old at first second room =
     let long = front old at first room in
     let rest : List ℕ = drop (at + length first) old in
@@ -44,11 +44,11 @@ written-twice old at first second room =
 
 -- a text was put at a place, and the place after it is known
 abbrev pub Put : List ℕ → ℕ → List ℕ → List ℕ → ℕ → Type 0
-Put old at text new after = (new ≡ written old at text) × (after ≡ at + length text)
+Put old at text new after = (new ≡ withTextAt old at text) × (after ≡ at + length text)
 
 -- no text
 pub put-nothing : (old : List ℕ) (at : ℕ) → Put old at [] old at
-unfolding written
+unfolding withTextAt
 put-nothing old at = (paste-zero old at [], omega arith)
 
 -- one text after another

@@ -5,5 +5,5 @@ use mathlib.Core.List.{List, _++_}
 use lib.ListN.{length, take, drop}
 
 -- a list with a text put at a place
-unfoldable pub written : List ℕ → ℕ → List ℕ → List ℕ
-written old at text = take at old ++ text ++ drop (at + length text) old
+unfoldable pub withTextAt : List ℕ → ℕ → List ℕ → List ℕ
+withTextAt old at text = take at old ++ text ++ drop (at + length text) old

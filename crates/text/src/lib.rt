@@ -5,7 +5,7 @@ ghost use Prim.Native.Nat.{_+_, _^_, _≤_, _<_};
 ghost use lib.IntN.{natAbs};
 ghost use lib.ListN.{length};
 ghost use Rattle.text.specs.Text.{decimal, signedDecimal};
-ghost use Rattle.text.specs.Steps.{written};
+ghost use Rattle.text.specs.Steps.{withTextAt};
 use calls::Refusal;
 
 // How many bytes a call has put into a lent buffer, or why none.
@@ -16,7 +16,7 @@ pub enum Filled {
 
 pub fn put_byte(out: &mut [u8], at: usize, byte: u8) -> usize
     requires { ⌜ at + 1 ≤ length (now out) ⌝ }
-    ensures { λ r. ⌜ (now (out .exit) ≡ written (now (out .entry)) at (byte ∷ [])) × (r ≡ at + 1) ⌝ }
+    ensures { λ r. ⌜ (now (out .exit) ≡ withTextAt (now (out .entry)) at (byte ∷ [])) × (r ≡ at + 1) ⌝ }
 {
     out[at] = byte;
     at + 1
@@ -24,7 +24,7 @@ pub fn put_byte(out: &mut [u8], at: usize, byte: u8) -> usize
 
 pub fn put_word(out: &mut [u8], at: usize, word: &[u8]) -> usize
     requires { ⌜ at + length (now word) ≤ length (now out) ⌝ }
-    ensures { λ r. ⌜ (now (out .exit) ≡ written (now (out .entry)) at (now (word .entry))) × (r ≡ at + length (now (word .entry))) ⌝ }
+    ensures { λ r. ⌜ (now (out .exit) ≡ withTextAt (now (out .entry)) at (now (word .entry))) × (r ≡ at + length (now (word .entry))) ⌝ }
 {
     let mut i = 0;
     while i < word.len() {
@@ -37,7 +37,7 @@ pub fn put_word(out: &mut [u8], at: usize, word: &[u8]) -> usize
 // The digits before the last first.
 pub fn put_decimal(out: &mut [u8], at: usize, n: u64) -> usize
     requires { ⌜ at + length (decimal n) ≤ length (now out) ⌝ }
-    ensures { λ r. ⌜ (now (out .exit) ≡ written (now (out .entry)) at (decimal n)) × (r ≡ at + length (decimal n)) ⌝ }
+    ensures { λ r. ⌜ (now (out .exit) ≡ withTextAt (now (out .entry)) at (decimal n)) × (r ≡ at + length (decimal n)) ⌝ }
 {
     if n < 10 {
         return put_byte(out, at, 48 + n as u8);
@@ -48,7 +48,7 @@ pub fn put_decimal(out: &mut [u8], at: usize, n: u64) -> usize
 
 pub fn put_signed(out: &mut [u8], at: usize, n: i64) -> usize
     requires { ⌜ (natAbs n < 2 ^ 62) × (at + length (signedDecimal n) ≤ length (now out)) ⌝ }
-    ensures { λ r. ⌜ (now (out .exit) ≡ written (now (out .entry)) at (signedDecimal n)) × (r ≡ at + length (signedDecimal n)) ⌝ }
+    ensures { λ r. ⌜ (now (out .exit) ≡ withTextAt (now (out .entry)) at (signedDecimal n)) × (r ≡ at + length (signedDecimal n)) ⌝ }
 {
     let size = magnitude(n);
     if n < 0 {

@@ -3,7 +3,7 @@ ghost use mathlib.Core.Path.{_≡_};
 ghost use Prim.Native.Nat.{_+_, _≤_};
 ghost use lib.ListN.{length};
 ghost use Rattle.text.specs.Buffer.{filledSaid, putInto};
-ghost use Rattle.text.specs.Steps.{written as Steps·written};
+ghost use Rattle.text.specs.Steps.{withTextAt};
 ghost use Rattle.writing.specs.Written.{written};
 ghost use Rattle.writer.specs.Writer.{writerAnswer, writerBuffer};
 ghost use Rattle.entries.specs.Entries.{entryBytes};
@@ -103,7 +103,7 @@ fn put_entries(b: Book, out: &mut [u8])
 
 fn put_entry(out: &mut [u8], at: usize, entry: Entry) -> usize
     requires { ⌜ at + length (entryBytes entry) ≤ length (now out) ⌝ }
-    ensures { λ r. ⌜ (now (out .exit) ≡ Steps·written (now (out .entry)) at (entryBytes entry)) × (r ≡ at + length (entryBytes entry)) ⌝ }
+    ensures { λ r. ⌜ (now (out .exit) ≡ withTextAt (now (out .entry)) at (entryBytes entry)) × (r ≡ at + length (entryBytes entry)) ⌝ }
 {
     match entry {
         Entry::Fresh => at,
