@@ -18,8 +18,8 @@ MEANINGS = {
     9: "The figure would fall below 0: more is withdrawn than stands in it by then. Correct the value, or file first what is withdrawn.",
     10: "No operator has joined, so there is nobody to settle. Add a join, and the settings, of each operator.",
     11: "An operator that has joined has no cabins, or no access points. File both settings of each operator, above 0.",
-    12: "Every operator that has joined is marked unreliable at all six indicators, so no points can be given. Take a mark back, as "
-    "in: mark 0 A1 0",
+    12: "Every operator that has joined is marked unreliable at all six indicators, so no points can be given. A join sets the "
+    "six marks: clear one when its attestation is in, as in: mark 0 A1 0",
     13: "The room lent for the output is too short. The programs here lend enough, so tell whoever keeps them.",
 }
 

@@ -5,7 +5,8 @@
 set -euo pipefail
 . "$(dirname "$0")/common.sh"
 
-# Sixteen operators with a network, then amounts, interruptions, or both by turns with marks between, up to 65,536 bytes exactly.
+# Sixteen operators with a network and all marks cleared, then amounts, interruptions, or both by turns with marks between, up to 65,536
+# bytes exactly.
 calls() { # KIND
     awk -v kind="$1" '
         function put(text, size) { print text; left -= size }
@@ -15,6 +16,7 @@ calls() { # KIND
             left = 65536
             for (o = 0; o < 16; o++) put("join " o, 4)
             for (o = 0; o < 16; o++) for (w = 0; w < 3; w++) put("setting " o " " w " " 2000 + 100 * o, 13)
+            for (o = 0; o < 16; o++) for (i = 0; i < 6; i++) put("mark " o " " i " 0", 6)
             put("rates 5000 10000", 11)
             for (i = 0; left >= 100; i++) {
                 if (kind == "amounts" || (kind == "mixed" && i % 2 == 0)) amount(i)

@@ -6,7 +6,7 @@ from front.refusals import MEANINGS
 from front.tests.common import InFolder, program_on, settle
 
 NETWORK = "join 0\nsetting 0 cabins 5\nsetting 0 access-points 7\n"
-MARKED = NETWORK + "".join(f"mark 0 {indicator} 1\n" for indicator in ("A1", "A2", "A3", "A4", "D1", "D2"))
+MARKED = NETWORK + "mark 0 A1 0\n" + "".join(f"mark 0 {indicator} 1\n" for indicator in ("A1", "A2", "A3", "A4", "D1", "D2"))
 
 # A filing; what is printed; where and what the refused field is; a part of what is said besides the meaning.
 FILINGS = [
@@ -74,6 +74,7 @@ SETTLING = [
     ("rates 5000 10000", "refused 10", ""),
     (NETWORK + "join 1\nsetting 1 cabins 5\nsetting 0 cabins 0", "refused 11", "Look at operator 0 cabins, operator 1 access-points."),
     ("join 2", "refused 11", "Look at operator 2 cabins, operator 2 access-points."),
+    (NETWORK, "refused 12", ""),
     (MARKED, "refused 12", ""),
 ]
 

@@ -139,7 +139,8 @@ impl Book {
         )
     }
 
-    /// Joins the operators whose bits are 1 and no others, without any check.
+    /// Has the operators joined whose bits are 1 and no others, without any check;
+    /// unlike a join it leaves the marks.
     pub fn put_joined_mask(&mut self, mask: u16) {
         for k in 0..OPERATORS {
             self.operators[k].joined = (mask >> k) % 2 == 1;

@@ -58,14 +58,17 @@ pub struct Interruption {
     pub weight: u32,
 }
 
-/// Adds an operator to the joined ones.
-/// Follows 01: "join of one already joined" gives 6.
+/// Adds an operator to the joined ones, all six marks set.
+/// Follows 01: "join of one already joined" gives 6; and 02, point 1: "A join
+/// therefore sets all six marks of the operator".
 pub fn join(book: &mut Book, operator: u8) -> Answer {
     let already = is_joined(book, operator);
     if let Some(number) = refusal(book, &[(4, above_15(operator)), (6, already)]) {
         return Answer::Refused(number);
     }
-    book.operators[usize::from(operator)].joined = true;
+    let operator = &mut book.operators[usize::from(operator)];
+    operator.joined = true;
+    operator.marks = vec![true; INDICATORS];
     Answer::Yes
 }
 
@@ -149,7 +152,8 @@ pub fn amount(book: &mut Book, operator: u8, year: u8, figure: u8, sign: u8, val
     }
 }
 
-/// Sets the mark of an operator at an indicator, 1 = unreliable.
+/// Sets (1 = unreliable) or clears (0) the mark of an operator at an indicator.
+/// Follows 02, point 1: "Staff clear each mark when the attestation is in."
 pub fn mark(book: &mut Book, operator: u8, indicator: u8, mark: u8) -> Answer {
     let indicator = usize::from(indicator);
     let in_range = indicator < INDICATORS && mark <= 1;

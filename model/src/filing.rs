@@ -467,7 +467,7 @@ mod tests {
             &joined_and_set(),
             &[4, 0, 12, 15, 2, 7, 0, 0, 0, 0, 4, 5, 6, 7, 8],
             &[4, 0, 12, 15, 2, 7, 1, 0, 0, 0, 0, 0, 0, 0, 8],
-            &[5, 0, 3, 15, 5, 1],
+            &[5, 0, 3, 15, 5, 0],
             &[6, 0, 8, 0, 0, 19, 136, 0, 0, 39, 16],
             &[7, 0, 5, 3, 0, 1, 134, 160],
         ]);
@@ -480,7 +480,7 @@ mod tests {
         operator.figures[0][0] = 258;
         operator.figures[0][1] = 258 * 31_536_000;
         operator.figures[2][7] = 0x04_0506_0700;
-        operator.marks[5] = true;
+        operator.marks = vec![true, true, true, true, true, false];
         expected.pot_rate = 5000;
         expected.cap_rate = 10_000;
         expected.indices[3] = 100_000;
@@ -527,9 +527,8 @@ mod tests {
             &[0, 0, 0, 1],
             &JOIN_1,
         ]);
-        let mut expected = Book::fresh();
-        expected.put_joined_mask(3);
-        assert_eq!(taken(&filing, 3), expected);
+        let both = taken(&joined(&[&JOIN_0, &JOIN_1]), 2);
+        assert_eq!(taken(&filing, 3), both);
     }
 
     #[test]

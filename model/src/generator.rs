@@ -32,7 +32,9 @@ pub enum Kind {
     Interruptions,
     /// Figures of which much is withdrawn.
     Withdrawals,
+    /// Some marks are kept, of some operators all six; some are set again.
     Marked,
+    /// Few marks are cleared in the whole book.
     NearlyAllMarked,
     /// Books that don't settle: 10, 11 and 12.
     Incomplete,

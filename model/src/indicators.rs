@@ -245,7 +245,7 @@ mod tests {
 
     const FRESH: [u128; 4] = [10_000; 4];
 
-    /// A joined operator with the given figures in year 0.
+    /// A joined operator with the given figures in year 0, all marks cleared.
     fn operator(cabins: u128, access_points: u128, figures: [u128; FIGURES]) -> Operator {
         let mut operator = Operator::fresh();
         operator.joined = true;

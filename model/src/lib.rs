@@ -1,5 +1,5 @@
-//! The independent reference model, written from 01 (the requirement) alone.
-//! This file only declares the modules.
+//! The independent reference model, written from the requirement alone: 01, and
+//! point 1 of 02 where it speaks. This file only declares the modules.
 
 pub mod book;
 pub mod calls;

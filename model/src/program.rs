@@ -62,6 +62,9 @@ mod tests {
     use crate::case_m;
     use crate::script;
 
+    /// An operator with its settings in, and no attestation.
+    const FRESHLY_JOINED: [&str; 3] = ["join 0", "setting 0 0 1", "setting 0 1 1"];
+
     /// The filing of text commands.
     fn encoded(commands: &[&str]) -> Vec<u8> {
         let mut filing = Vec::new();
@@ -120,9 +123,10 @@ mod tests {
                 "index 0 2",
                 "join 9",
                 "join 2",
-                "mark 9 5 1",
-                "mark 9 0 1",
-                "mark 2 3 1",
+                "mark 9 5 0",
+                "mark 9 0 0",
+                "mark 9 1 1",
+                "mark 2 3 0",
                 "interruption 9 0 0 4 100 300 3",
                 "amount 9 2 7 0 5",
                 "amount 2 0 6 0 8",
@@ -140,9 +144,9 @@ mod tests {
                 "amount 9 0 0 0 3",
                 "amount 9 0 1 0 600",
                 "amount 9 2 7 0 5",
-                "mark 2 3 1",
-                "mark 9 0 1",
-                "mark 9 5 1",
+                "mark 2 3 0",
+                "mark 9 0 0",
+                "mark 9 5 0",
                 "index 0 2",
                 "index 3 1",
                 "rates 0 7",
@@ -151,7 +155,7 @@ mod tests {
     }
 
     #[test]
-    fn fresh_values_are_not_rewritten() {
+    fn fresh_values_and_set_marks_are_not_rewritten() {
         rewrites(&["rates 0 0", "index 2 10000"], &[]);
         rewrites(
             &["rates 5 6", "index 1 1", "rates 0 0", "index 1 10000"],
@@ -161,11 +165,11 @@ mod tests {
             &[
                 "join 0",
                 "setting 0 2 7",
-                "mark 0 1 1",
+                "mark 0 1 0",
                 "amount 0 1 4 0 9",
                 "interruption 0 0 1 0 0 181 1",
                 "setting 0 2 0",
-                "mark 0 1 0",
+                "mark 0 1 1",
                 "amount 0 1 4 1 9",
                 "interruption 0 1 1 0 0 181 1",
                 "interruption 0 0 1 0 0 180 1",
@@ -187,26 +191,42 @@ mod tests {
         prints(&past, "refused 8 at 4\n");
         let below = encoded(&["join 0", "amount 0 0 0 1 1"]);
         prints(&below, "refused 9 at 4\n");
-        prints(&encoded(&["join 0"]), "refused 11\n");
-        let marked = [
-            "join 0",
-            "setting 0 0 1",
-            "setting 0 1 1",
-            "mark 0 0 1",
-            "mark 0 1 1",
-            "mark 0 2 1",
-            "mark 0 3 1",
-            "mark 0 4 1",
-            "mark 0 5 1",
-        ];
-        prints(&encoded(&marked), "refused 12\n");
         // Six marks without cabins and access points: the lower number.
-        let bare: Vec<&str> = marked
-            .iter()
-            .filter(|call| !call.starts_with("setting"))
-            .copied()
-            .collect();
-        prints(&encoded(&bare), "refused 11\n");
+        prints(&encoded(&["join 0"]), "refused 11\n");
+        prints(&encoded(&FRESHLY_JOINED), "refused 12\n");
+    }
+
+    /// A freshly joined operator settles once this mark is cleared, and not once
+    /// it is set again.
+    fn settles_once_cleared(indicator: usize, points: u32) {
+        let mut filing = encoded(&FRESHLY_JOINED);
+        filing.extend(encoded(&[&format!("mark 0 {indicator} 0")[..]]));
+        let line = "operator points out in adjustment\n";
+        prints(
+            &filing,
+            &format!("{line}0 {points} 0 0 0\nall {points} 0 0 0\n"),
+        );
+        filing.extend(encoded(&[&format!("mark 0 {indicator} 1")[..]]));
+        prints(&filing, "refused 12\n");
+    }
+
+    #[test]
+    fn one_cleared_mark_settles() {
+        for (indicator, points) in [46_200, 37_800, 19_800, 16_200, 6000, 1500]
+            .into_iter()
+            .enumerate()
+        {
+            settles_once_cleared(indicator, points);
+        }
+    }
+
+    #[test]
+    fn filing_of_the_old_default() {
+        // Case M without the clearing fields is read, and settles no more.
+        let mut calls = case_m::calls();
+        calls.retain(|call| !call.starts_with("mark"));
+        assert_eq!(calls.len() + 12, case_m::calls().len());
+        prints(&encoded(&calls), "refused 12\n");
     }
 
     #[test]

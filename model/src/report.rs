@@ -50,7 +50,7 @@ mod tests {
     use crate::generator;
     use crate::script;
 
-    /// A joined operator with one cabin.
+    /// A joined operator with one cabin, all marks cleared.
     fn operator(access_points: u128, income: u128) -> Operator {
         Operator {
             joined: true,

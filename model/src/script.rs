@@ -328,14 +328,17 @@ mod tests {
             ("amount 2 0 7 0 12", "yes"),
             ("amount 2 1 0 0 13", "yes"),
             ("amount 2 2 7 0 14", "yes"),
-            ("mark 15 0 1", "yes"),
-            ("mark 2 5 1", "yes"),
+            ("mark 15 0 0", "yes"),
+            ("mark 2 5 0", "yes"),
+            ("mark 2 4 0", "yes"),
+            ("mark 2 4 1", "yes"),
             ("rates 5000 10000", "yes"),
             ("index 0 1", "yes"),
             ("index 3 4", "yes"),
             (
                 "show",
-                "joined 32772 marks 32768 0 0 0 0 4 rates 5000 10000 indices 1 10000 10000 4 \
+                "joined 32772 marks 4 32772 32772 32772 32772 32768 rates 5000 10000 \
+                 indices 1 10000 10000 4 \
                  | 2 7 8 9 11 0 0 0 0 0 0 12 13 0 0 0 0 0 0 0 0 0 0 0 0 0 0 14 \
                  | 15 0 0 0 0 0 0 0 0 0 0 0 0 0 0 0 0 0 0 0 0 0 0 0 0 0 0 0",
             ),
@@ -425,11 +428,14 @@ mod tests {
             ("join 2", "yes"),
             ("setting 2 0 1", "yes"),
             ("setting 2 1 1", "yes"),
+            ("mark 2 0 0", "yes"),
+            ("mark 15 0 0", "yes"),
+            ("mark 15 5 0", "yes"),
             (
                 "settle",
-                "pot 0 pools 46200 37800 19800 16200 6000 1500 \
-                 | 2 points 23100 18900 9900 8100 3000 750 out 0 in 0 limit 0 adjustment 0 \
-                 | 15 points 23100 18900 9900 8100 3000 750 out 0 in 0 limit 0 adjustment 0",
+                "pot 0 pools 46200 0 0 0 0 750 \
+                 | 2 points 23100 0 0 0 0 0 out 0 in 0 limit 0 adjustment 0 \
+                 | 15 points 23100 0 0 0 0 750 out 0 in 0 limit 0 adjustment 0",
             ),
         ]);
     }
@@ -441,13 +447,16 @@ mod tests {
             ("join 3", "yes"),
             ("settle", "refused 11"),
             ("setting 3 0 1", "yes"),
+            ("settle", "refused 11"),
             ("setting 3 1 1", "yes"),
-            ("mark 3 0 1", "yes"),
-            ("mark 3 1 1", "yes"),
-            ("mark 3 2 1", "yes"),
-            ("mark 3 3 1", "yes"),
+            ("settle", "refused 12"),
+            ("mark 3 4 0", "yes"),
+            (
+                "settle",
+                "pot 0 pools 0 0 0 0 6000 0 \
+                 | 3 points 0 0 0 0 6000 0 out 0 in 0 limit 0 adjustment 0",
+            ),
             ("mark 3 4 1", "yes"),
-            ("mark 3 5 1", "yes"),
             ("settle", "refused 12"),
             ("store index 0 0", "stored"),
             ("settle", "refused 5"),
@@ -469,10 +478,14 @@ mod tests {
             ("store pot 20000", "stored"),
             ("join 0", "yes"),
             ("store joined 0", "stored"),
-            ("store cabins 0 1", "stored"),
+            // The marks of the join are left.
             ("index 0 5", "refused 5"),
             ("store joined 1", "stored"),
             ("index 0 5", "yes"),
+            ("store cabins 1 1", "stored"),
+            ("index 0 6", "refused 5"),
+            ("store joined 3", "stored"),
+            ("index 0 6", "yes"),
         ]);
     }
 

@@ -23,7 +23,8 @@ pub fn written(book: &Book) -> Vec<u8> {
 /// Follows 01: "The writer writes only what differs from fresh: joins, settings,
 /// amounts, marks (by operator, then year, then which, figure or indicator),
 /// indices, rates (one field if either isn't 0); amounts with sign 0". All joins
-/// come before all settings, these before all amounts, and so on.
+/// come before all settings, these before all amounts, and so on. Of the marks
+/// 02, point 1, decides which are written.
 pub fn fields(book: &Book) -> Vec<Field> {
     [
         by_operator(book, joins),
@@ -78,14 +79,16 @@ fn amounts(operator: u8, kept: &Operator) -> Vec<Field> {
         .collect()
 }
 
+/// Follows 02, point 1: "the writer now writes the cleared marks of joined operators
+/// and no set ones". The join that is written before them sets all six.
 fn marks(operator: u8, kept: &Operator) -> Vec<Field> {
     let field = |indicator: usize| Field::Mark {
         operator,
         indicator: indicator as u8,
-        mark: 1,
+        mark: 0,
     };
     (0..INDICATORS)
-        .filter(|&indicator| kept.marks[indicator])
+        .filter(|&indicator| kept.joined && !kept.marks[indicator])
         .map(field)
         .collect()
 }
@@ -126,10 +129,11 @@ pub fn put(output: &[u8], buffer: &mut [u8]) -> Result<usize, u8> {
 #[cfg(test)]
 mod tests {
     use super::*;
+    use crate::calls::{join, mark, Answer};
     use crate::filing::read;
     use crate::generator;
 
-    /// Operator k with every value other than the fresh one.
+    /// Operator k of which everything is written.
     fn full_operator(k: u128) -> Operator {
         let year = |year: u128| {
             (0..8)
@@ -138,7 +142,7 @@ mod tests {
         };
         Operator {
             joined: true,
-            marks: vec![true; 6],
+            marks: vec![false; 6],
             cabins: 1 + k,
             access_points: 4_000_000 - k,
             income: 100_000_000_000 - k,
@@ -146,7 +150,8 @@ mod tests {
         }
     }
 
-    /// A book in which every value differs from the fresh one.
+    /// A book of which everything is written: every mark is cleared, and every
+    /// other value differs from the fresh one.
     fn full() -> Book {
         Book {
             operators: (0..16).map(full_operator).collect(),
@@ -203,9 +208,37 @@ mod tests {
     #[test]
     fn example_of_the_table() {
         let mut book = Book::fresh();
-        book.operators[0].joined = true;
+        assert_eq!(join(&mut book, 0), Answer::Yes);
         leaves_buffer(&book, 3, 13);
         writes(&book, &[1, 0, 1, 0]);
+    }
+
+    /// Operator 3 joined, then given these marks in turn, is written as its join
+    /// and these fields.
+    fn writes_after_its_join(marks: &[(u8, u8)], fields: &[[u8; 6]]) {
+        let mut book = Book::fresh();
+        assert_eq!(join(&mut book, 3), Answer::Yes);
+        for &(indicator, value) in marks {
+            assert_eq!(mark(&mut book, 3, indicator, value), Answer::Yes);
+        }
+        writes(&book, &[&[1, 0, 1, 3], fields.as_flattened()].concat());
+        round_trip(&book);
+    }
+
+    #[test]
+    fn only_cleared_marks_are_written() {
+        // Freshly joined.
+        writes_after_its_join(&[], &[]);
+        for indicator in 0..6 {
+            let cleared = [5, 0, 3, 3, indicator, 0];
+            writes_after_its_join(&[(indicator, 0)], &[cleared]);
+            writes_after_its_join(&[(indicator, 1)], &[]);
+            writes_after_its_join(&[(indicator, 0), (indicator, 1)], &[]);
+        }
+        // All cleared, from the last to the first.
+        let marks = [5, 4, 3, 2, 1, 0].map(|indicator| (indicator, 0));
+        let fields = [0, 1, 2, 3, 4, 5].map(|indicator| [5, 0, 3, 3, indicator, 0]);
+        writes_after_its_join(&marks, &fields);
     }
 
     /// A joined operator with some values of each sort.
@@ -218,8 +251,7 @@ mod tests {
         operator.figures[0][7] = 4;
         operator.figures[2][0] = 5;
         operator.figures[2][1] = 6;
-        operator.marks[0] = true;
-        operator.marks[5] = true;
+        operator.marks = vec![false, true, true, true, true, false];
         operator
     }
 
@@ -254,10 +286,10 @@ mod tests {
             some_settings(12),
             some_amounts(3),
             some_amounts(12),
-            vec![5, 0, 3, 3, 0, 1],
-            vec![5, 0, 3, 3, 5, 1],
-            vec![5, 0, 3, 12, 0, 1],
-            vec![5, 0, 3, 12, 5, 1],
+            vec![5, 0, 3, 3, 0, 0],
+            vec![5, 0, 3, 3, 5, 0],
+            vec![5, 0, 3, 12, 0, 0],
+            vec![5, 0, 3, 12, 5, 0],
             vec![7, 0, 5, 0, 0, 0, 0, 9],
             vec![7, 0, 5, 2, 0, 0, 0, 10],
             vec![7, 0, 5, 3, 0, 0, 0, 11],
@@ -285,7 +317,8 @@ mod tests {
 
     #[test]
     fn longest_filing() {
-        // 16 joins, 48 settings, 384 amounts, 96 marks, 4 indices and the rates.
+        // 16 joins, 48 settings, 384 amounts, 96 cleared marks, 4 indices and the
+        // rates.
         let book = full();
         assert!(book.in_range());
         assert_eq!(fields(&book).len(), 16 + 48 + 384 + 96 + 4 + 1);
@@ -293,11 +326,11 @@ mod tests {
         assert_eq!(filing.len(), 7067);
         writes(&book, &filing);
         round_trip(&book);
-        // Any value back at its fresh one makes it shorter.
+        // Any value back at its fresh one, and any mark set again, makes it shorter.
         let mut other = book.clone();
         other.indices[2] = 10_000;
         assert_eq!(written(&other).len(), 7067 - 8);
-        other.operators[3].marks[2] = false;
+        other.operators[3].marks[2] = true;
         assert_eq!(written(&other).len(), 7067 - 8 - 6);
         other.operators[15].figures[2][7] = 0;
         assert_eq!(written(&other).len(), 7067 - 8 - 6 - 15);
@@ -308,6 +341,16 @@ mod tests {
         other.cap_rate = 0;
         assert_eq!(written(&other).len(), 7067 - 8 - 6 - 15 - 13 - 11);
         round_trip(&other);
+    }
+
+    #[test]
+    fn full_book_with_all_marks_set() {
+        let mut book = full();
+        for operator in &mut book.operators {
+            operator.marks = vec![true; 6];
+        }
+        assert_eq!(written(&book).len(), 7067 - 96 * 6);
+        round_trip(&book);
     }
 
     fn refuses_every_buffer(book: &Book) {
@@ -322,10 +365,13 @@ mod tests {
         past.operators[15].figures[2][7] = 100_000_000_001;
         let mut not_joined = full();
         not_joined.operators[15].joined = false;
+        let mut marked = Book::fresh();
+        marked.operators[15].marks[5] = true;
         let mut index = Book::fresh();
         index.indices[0] = 0;
         refuses_every_buffer(&past);
         refuses_every_buffer(&not_joined);
+        refuses_every_buffer(&marked);
         refuses_every_buffer(&index);
     }
 

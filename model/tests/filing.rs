@@ -20,7 +20,7 @@ fn done(output: impl Into<Vec<u8>>) -> (i32, Vec<u8>, Vec<u8>) {
 #[test]
 fn case_m_from_commands_to_print() {
     let (status, filing, _) = run(&["encode"], case_m::calls().join("\n").as_bytes());
-    assert_eq!((status, filing.len()), (0, 127));
+    assert_eq!((status, filing.len()), (0, 199));
     let file = folder("case_m").join("filing.q");
     fs::write(&file, &filing).unwrap();
     let file = file.to_str().unwrap();
@@ -31,6 +31,8 @@ fn case_m_from_commands_to_print() {
         setting 0 0 100\nsetting 0 1 1000\nsetting 0 2 100000000\n\
         setting 1 0 100\nsetting 1 1 3000\nsetting 1 2 200000000\n\
         amount 1 0 4 0 50000\namount 1 0 5 0 100\n\
+        mark 0 0 0\nmark 0 1 0\nmark 0 2 0\nmark 0 3 0\nmark 0 4 0\nmark 0 5 0\n\
+        mark 1 0 0\nmark 1 1 0\nmark 1 2 0\nmark 1 3 0\nmark 1 4 0\nmark 1 5 0\n\
         rates 5000 10000\n";
     let (_, rewritten, _) = run(&["encode"], by_operator);
     assert_ne!(rewritten, filing);
@@ -110,13 +112,13 @@ fn refused_files() {
     written_as_it_is(&[1, 0, 1, 0], "refused 11\n");
 }
 
-/// The calls of a book in which every value differs from the fresh one, in the
-/// order of the writer.
+/// The calls of a book in which every mark is cleared and every other value
+/// differs from the fresh one, in the order of the writer.
 fn largest_book() -> Vec<String> {
     let joins = (0..16).map(|operator| format!("join {operator}"));
     let settings = places(&[16, 3]).map(|place| format!("setting {place} 1"));
     let amounts = places(&[16, 3, 8]).map(|place| format!("amount {place} 0 1"));
-    let marks = places(&[16, 6]).map(|place| format!("mark {place} 1"));
+    let marks = places(&[16, 6]).map(|place| format!("mark {place} 0"));
     let indices = (0..4).map(|number| format!("index {number} 1"));
     let rates = ["rates 1 1".to_string()];
     joins

@@ -158,7 +158,7 @@ fn check_adjustment(cut: i128, adjustment: i128, surplus: i128) {
     assert!(cut * surplus > 0 || adjustment == cut);
 }
 
-/// A joined operator without interruptions and fees.
+/// A joined operator without interruptions and fees, all marks cleared.
 fn operator(cabins: u128, access_points: u128, income: u128) -> Operator {
     let mut operator = Operator::fresh();
     operator.joined = true;
@@ -236,6 +236,43 @@ fn examples_of_the_table() {
     book.operators[0] = operator(1, 1, 0);
     book.operators[0].marks = vec![true; 6];
     refuses(&book, 12);
+}
+
+/// These operators joined, with cabins and access points in.
+fn freshly_joined(operators: &[u8]) -> Book {
+    let mut book = Book::fresh();
+    for &k in operators {
+        assert_eq!(calls::join(&mut book, k), Answer::Yes);
+        assert_eq!(calls::setting(&mut book, k, 0, 1), Answer::Yes);
+        assert_eq!(calls::setting(&mut book, k, 1, 1), Answer::Yes);
+    }
+    book
+}
+
+/// One clearing is enough to settle: the pool is the part of that operator.
+fn settles_after_one_clearing(operators: &[u8], indicator: u8) {
+    let mut book = freshly_joined(operators);
+    refuses(&book, 12);
+    let last = operators[operators.len() - 1];
+    assert_eq!(calls::mark(&mut book, last, indicator, 0), Answer::Yes);
+    let settlement = settled(&book);
+    let number = usize::from(indicator);
+    let mut pools = vec![0; 6];
+    pools[number] = 300 * indicators()[number].points / operators.len() as u128;
+    assert_eq!(settlement.points.pools, pools);
+    assert_eq!(settlement.points.points[usize::from(last)], pools);
+    assert_eq!(calls::mark(&mut book, last, indicator, 1), Answer::Yes);
+    refuses(&book, 12);
+}
+
+#[test]
+fn freshly_joined_operators_meet_12_until_one_mark_is_cleared() {
+    for indicator in 0..6 {
+        settles_after_one_clearing(&[0], indicator);
+        settles_after_one_clearing(&[15], indicator);
+        settles_after_one_clearing(&[9, 2, 4], indicator);
+        settles_after_one_clearing(&(0..16).collect::<Vec<u8>>(), indicator);
+    }
 }
 
 /// Case M with one of its operators altered.

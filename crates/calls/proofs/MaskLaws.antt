@@ -138,7 +138,7 @@ has-first : (mask : ℕ) → has mask 0 ≡ eqb (mask % 2) 1
 unfolding has
 has-first mask = rw div-one refl
 
-same-parity : (a b : ℕ) → eqb (a % 2) 1 ≡ eqb (b % 2) 1 → a % 2 ≡ b % 2
+pub same-parity : (a b : ℕ) → eqb (a % 2) 1 ≡ eqb (b % 2) 1 → a % 2 ≡ b % 2
 same-parity a b e = go (eqb (a % 2) 1) refl
   where
     go : (t : Bool) → eqb (a % 2) 1 ≡ t → a % 2 ≡ b % 2

@@ -10,7 +10,7 @@ use crate::rows::cell;
 use calls::Call;
 
 pub(crate) fn command(kind: u8, at: usize) -> Command
-    requires { ⌜ at < 5017 ⌝ }
+    requires { ⌜ at < 5337 ⌝ }
 {
     match kind {
         1 => join(at),
@@ -25,14 +25,14 @@ pub(crate) fn command(kind: u8, at: usize) -> Command
 }
 
 fn join(at: usize) -> Command
-    requires { ⌜ at < 5017 ⌝ }
+    requires { ⌜ at < 5337 ⌝ }
 {
     let operator = put_byte(byte(at + 1));
     Command::Filing(Call::Join { operator })
 }
 
 fn setting(at: usize) -> Command
-    requires { ⌜ at < 5017 ⌝ }
+    requires { ⌜ at < 5337 ⌝ }
 {
     let operator = put_byte(byte(at + 1));
     let which = put_byte(byte(at + 2));
@@ -45,7 +45,7 @@ fn setting(at: usize) -> Command
 }
 
 fn interruption(at: usize) -> Command
-    requires { ⌜ at < 5017 ⌝ }
+    requires { ⌜ at < 5337 ⌝ }
 {
     let operator = put_byte(byte(at + 1));
     let sign = put_byte(byte(at + 2));
@@ -66,7 +66,7 @@ fn interruption(at: usize) -> Command
 }
 
 fn amount(at: usize) -> Command
-    requires { ⌜ at < 5017 ⌝ }
+    requires { ⌜ at < 5337 ⌝ }
 {
     let operator = put_byte(byte(at + 1));
     let year = put_byte(byte(at + 2));
@@ -83,7 +83,7 @@ fn amount(at: usize) -> Command
 }
 
 fn mark(at: usize) -> Command
-    requires { ⌜ at < 5017 ⌝ }
+    requires { ⌜ at < 5337 ⌝ }
 {
     let operator = put_byte(byte(at + 1));
     let indicator = put_byte(byte(at + 2));
@@ -96,7 +96,7 @@ fn mark(at: usize) -> Command
 }
 
 fn rates(at: usize) -> Command
-    requires { ⌜ at < 5017 ⌝ }
+    requires { ⌜ at < 5337 ⌝ }
 {
     let pot = put_word(cell(at + 1));
     let cap = put_word(cell(at + 2));
@@ -104,7 +104,7 @@ fn rates(at: usize) -> Command
 }
 
 fn index(at: usize) -> Command
-    requires { ⌜ at < 5017 ⌝ }
+    requires { ⌜ at < 5337 ⌝ }
 {
     let number = put_byte(byte(at + 1));
     let value = put_word(cell(at + 2));

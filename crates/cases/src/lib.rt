@@ -44,7 +44,7 @@ fn run(lends: bool) {
 
 // One row of the cases: what to do, and seven numbers for it.
 fn step(b: Book, lends: bool, i: usize) -> Book
-    requires { ⌜ i < 628 ⌝ }
+    requires { ⌜ i < 668 ⌝ }
 {
     let at = 8 * i;
     let kind = byte(at);
@@ -70,7 +70,7 @@ fn shown(filed: Answered) -> Book {
 }
 
 fn other(b: Book, kind: u8, at: usize) -> Book
-    requires { ⌜ at < 5017 ⌝ }
+    requires { ⌜ at < 5337 ⌝ }
 {
     match kind {
         8 => stores::store(b, at),

@@ -11,7 +11,7 @@ use crate::rows::cell;
 use book::Book;
 
 pub(crate) fn store(b: Book, at: usize) -> Book
-    requires { ⌜ at < 5017 ⌝ }
+    requires { ⌜ at < 5337 ⌝ }
 {
     let place = cell(at + 2);
     let value = cell(at + 3);

@@ -63,14 +63,14 @@ module _ (operator : ℕ) (small : operator < 16) where
       let fourth : (((operator * 256 + year) * 256 + figure) * 256 + 0) / 256 ^ 0 % 256 ≡ 0 = omega arith in
       field-there (Amount operator year figure 0 value) 4 (((operator * 256 + year) * 256 + figure) * 256 + 0) 4 value 8 one (rw (first, second, third, fourth) refl) (omega arith)
 
-  pub mark-there : {calls : List Call} (indicator : ℕ) → indicator < 256 → calls ≡ Mark operator indicator 1 ∷ []
-      → EntryOf (Differs (fieldBy 5 ((operator * 256 + indicator) * 256 + 1) 3 0 0)) calls
+  pub mark-there : {calls : List Call} (indicator : ℕ) → indicator < 256 → calls ≡ Mark operator indicator 0 ∷ []
+      → EntryOf (Differs (fieldBy 5 ((operator * 256 + indicator) * 256 + 0) 3 0 0)) calls
   unfolding bytesIn encoded fieldOf inBytes
   mark-there indicator li one =
-      let first : ((operator * 256 + indicator) * 256 + 1) / 256 ^ 2 % 256 ≡ operator = omega arith in
-      let second : ((operator * 256 + indicator) * 256 + 1) / 256 ^ 1 % 256 ≡ indicator = omega arith in
-      let third : ((operator * 256 + indicator) * 256 + 1) / 256 ^ 0 % 256 ≡ 1 = omega arith in
-      field-there (Mark operator indicator 1) 5 ((operator * 256 + indicator) * 256 + 1) 3 0 0 one (rw (first, second, third) refl) (omega arith)
+      let first : ((operator * 256 + indicator) * 256 + 0) / 256 ^ 2 % 256 ≡ operator = omega arith in
+      let second : ((operator * 256 + indicator) * 256 + 0) / 256 ^ 1 % 256 ≡ indicator = omega arith in
+      let third : ((operator * 256 + indicator) * 256 + 0) / 256 ^ 0 % 256 ≡ 0 = omega arith in
+      field-there (Mark operator indicator 0) 5 ((operator * 256 + indicator) * 256 + 0) 3 0 0 one (rw (first, second, third) refl) (omega arith)
 
 pub index-there : {calls : List Call} (number value : ℕ) → number < 256 → calls ≡ Index number value ∷ []
     → EntryOf (Differs (fieldBy 7 number 1 value 4)) calls

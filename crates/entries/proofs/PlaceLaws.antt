@@ -38,7 +38,7 @@ module _ (b : Book) (place : ℕ) where
   unfolding callsAt
   place-amount le lt = rw (le-ltb place settingsFrom (omega arith), le-ltb place amountsFrom le, lt-ltb place marksFrom lt) refl
 
-  pub place-mark : marksFrom ≤ place → place < indicesFrom → callsAt b place ≡ markAt (b .marks) (place - marksFrom)
+  pub place-mark : marksFrom ≤ place → place < indicesFrom → callsAt b place ≡ markAt (b .joined) (b .marks) (place - marksFrom)
   unfolding callsAt
   place-mark le lt = rw (le-ltb place settingsFrom (omega arith), le-ltb place amountsFrom (omega arith), le-ltb place marksFrom le, lt-ltb place indicesFrom lt) refl
 
@@ -113,10 +113,10 @@ module _ (b : Book) where
       ∙ turns-from figurePlaces amountsFrom at (amountAt (b .figures)) (λ k lt. place-amount b (amountsFrom + k) (omega arith) (omega arith))
 
   marks-placed : markCalls b ≡ inTurn markPlaces (λ (k : ℕ). at (marksFrom + k))
-  unfolding markCalls markAt isMarked
+  unfolding markCalls markAt isJoined isMarked
   marks-placed =
       turns-rows operators indicatorCount _
-      ∙ turns-from markPlaces marksFrom at (markAt (b .marks)) (λ k lt. place-mark b (marksFrom + k) (omega arith) (omega arith))
+      ∙ turns-from markPlaces marksFrom at (markAt (b .joined) (b .marks)) (λ k lt. place-mark b (marksFrom + k) (omega arith) (omega arith))
 
   indices-placed : indexCalls b ≡ inTurn indexCount (λ (k : ℕ). at (indicesFrom + k))
   unfolding indexCalls indexAt indexOf

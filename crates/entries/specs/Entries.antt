@@ -2,7 +2,7 @@
 -- Assumes nothing.
 use Prim.Native.Nat.{ℕ, _+_, _*_, _-_, _/_, _%_, _≤_}
 use mathlib.Core.Path.{_≡_}
-use mathlib.Core.Bool.{cond, _&&_}
+use mathlib.Core.Bool.{cond, not, _&&_}
 use mathlib.Core.List.{List, [], _∷_}
 use lib.Dec.{eqb, ltb}
 use lib.ListN.{length, getD}
@@ -44,9 +44,11 @@ amountAt figures place =
     let value : ℕ = getD figures (figureSlot operator year figure) 0 in
     unlessFresh value 0 (Amount operator year figure 0 value)
 
-unfoldable pub markAt : List ℕ → ℕ → List Call
-markAt marks place =
-    cond (has (getD marks (place % indicatorCount) 0) (place / indicatorCount)) (Mark (place / indicatorCount) (place % indicatorCount) 1 ∷ []) []
+unfoldable pub markAt : ℕ → List ℕ → ℕ → List Call
+markAt joined marks place =
+    let operator : ℕ = place / indicatorCount in
+    let indicator : ℕ = place % indicatorCount in
+    cond (has joined operator && not (has (getD marks indicator 0) operator)) (Mark operator indicator 0 ∷ []) []
 
 unfoldable pub indexAt : List ℕ → ℕ → List Call
 indexAt indices place = unlessFresh (getD indices place 0) freshIndex (Index place (getD indices place 0))
@@ -80,5 +82,5 @@ callsAt b place =
     cond (ltb place settingsFrom) (joinAt (b .joined) place)
     (cond (ltb place amountsFrom) (settingAt (b .settings) (place - settingsFrom))
     (cond (ltb place marksFrom) (amountAt (b .figures) (place - amountsFrom))
-    (cond (ltb place indicesFrom) (markAt (b .marks) (place - marksFrom))
+    (cond (ltb place indicesFrom) (markAt (b .joined) (b .marks) (place - marksFrom))
     (cond (ltb place ratesFrom) (indexAt (b .indices) (place - indicesFrom)) (ratesAt (b .«pot_rate») (b .«cap_rate»))))))

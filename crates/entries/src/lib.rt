@@ -1,5 +1,5 @@
 // The places of a written filing, in its order: joins, settings, amounts, marks, indices, rates. At each the book's value is fresh, or
-// there is a field for it.
+// there is a field for it. A mark is fresh as a join sets it.
 ghost use mathlib.Core.Path.{_≡_};
 ghost use Prim.Native.Nat.{_*_, _<_};
 ghost use Rattle.calls.specs.Limits.{operators, years, figureCount, settingCount, indicatorCount, indexCount};
@@ -39,8 +39,8 @@ pub const PLACES: usize = 549;
 // The sign of an amount that is filed.
 const FILE: u64 = 0;
 
-// A mark that is set.
-const UNRELIABLE: u64 = 1;
+// A mark that is cleared.
+const ATTESTED: u64 = 0;
 
 pub fn entry_at(
     joined: u16,
@@ -65,7 +65,7 @@ pub fn entry_at(
         return amount_entry(figures, place - AMOUNTS_FROM);
     }
     if place < INDICES_FROM {
-        return mark_entry(marks, place - MARKS_FROM);
+        return mark_entry(joined, marks, place - MARKS_FROM);
     }
     if place < RATES_FROM {
         return index_entry(indices, place - INDICES_FROM);
@@ -128,18 +128,21 @@ fn amount_entry(figures: &[u64; FIGURE_PLACES], place: usize) -> Entry
     })
 }
 
-fn mark_entry(marks: &[u16; INDICATORS], place: usize) -> Entry
+fn mark_entry(joined: u16, marks: &[u16; INDICATORS], place: usize) -> Entry
     requires { ⌜ place < operators * indicatorCount ⌝ }
-    ensures { λ r. ⌜ EntryOf r (markAt (now (marks .entry)) place) ⌝ }
+    ensures { λ r. ⌜ EntryOf r (markAt joined (now (marks .entry)) place) ⌝ }
 {
     let operator = place / INDICATORS;
     let indicator = place % INDICATORS;
-    if !has_bit(marks[indicator], operator as u8) {
+    if !has_bit(joined, operator as u8) {
+        return Entry::Fresh;
+    }
+    if has_bit(marks[indicator], operator as u8) {
         return Entry::Fresh;
     }
     Entry::Differs(Encoded {
         tag: 5,
-        front: (operator as u64 * 256 + indicator as u64) * 256 + UNRELIABLE,
+        front: (operator as u64 * 256 + indicator as u64) * 256 + ATTESTED,
         front_width: 3,
         value: 0,
         value_width: 0,

@@ -49,7 +49,7 @@ filings-refused = (
 )
 
 -- M's bytes are read to their end, and leave the book that M's calls leave
-read-m : read freshBook filingM ≡ reading (bookOf (caseM 10000)) 11 127 (accepted yes-said)
+read-m : read freshBook filingM ≡ reading (bookOf (caseM 10000)) 23 199 (accepted yes-said)
 unfolding filing-opened
 read-m = refl
 
@@ -73,4 +73,4 @@ join-too-long = refl
 pub all-hold : All marked
 unfolding output-opened
 all-hold =
-    (refl, (refl, (refl, (refl, (refl, (refl, (refl, (refl, (refl, (refl, (output-m, (refl, (filings-refused, (refl, (refl, (refl, (refl, (refl, (join-too-long, (refl, tt))))))))))))))))))))
+    (refl, (refl, (refl, (refl, (refl, (refl, (refl, (refl, (refl, (refl, (output-m, (refl, (filings-refused, (refl, (refl, (refl, (refl, (refl, (refl, (refl, (join-too-long, (refl, tt))))))))))))))))))))))

@@ -30,13 +30,16 @@ abbrev pub lasting : ℕ → ℕ → Call
 lasting start end = Interruption 0 0 0 0 (pos start) (pos end) 1
 
 -- "M: operators 0 and 1; cabins 100 each; access points 1000 and 3000; income 100,000,000 and 200,000,000; operator 1, year 0:
--- fees 50,000, connections 100; rates 5000 and" a cap rate
+-- fees 50,000, connections 100; rates 5000 and" a cap rate; all that is filed is attested ("case M gains twelve clearing fields", 02, point 1)
 abbrev pub caseM : ℕ → List Call
 caseM cap =
     Join 0 ∷ Join 1 ∷ Setting 0 0 100 ∷ Setting 1 0 100 ∷ Setting 0 1 1000 ∷ Setting 1 1 3000 ∷ Setting 0 2 100000000 ∷ Setting 1 2 200000000
-    ∷ Amount 1 0 4 0 50000 ∷ Amount 1 0 5 0 100 ∷ Rates 5000 cap ∷ []
+    ∷ Amount 1 0 4 0 50000 ∷ Amount 1 0 5 0 100
+    ∷ Mark 0 0 0 ∷ Mark 0 1 0 ∷ Mark 0 2 0 ∷ Mark 0 3 0 ∷ Mark 0 4 0 ∷ Mark 0 5 0
+    ∷ Mark 1 0 0 ∷ Mark 1 1 0 ∷ Mark 1 2 0 ∷ Mark 1 3 0 ∷ Mark 1 4 0 ∷ Mark 1 5 0
+    ∷ Rates 5000 cap ∷ []
 
--- the same in the bytes of a filing, two fields a line and the rates
+-- the same in the bytes of a filing: two fields a line, the marks of each operator, and the rates
 abbrev pub filingM : List ℕ
 filingM =
     1 ∷ 0 ∷ 1 ∷ 0 ∷ 1 ∷ 0 ∷ 1 ∷ 1
@@ -44,15 +47,21 @@ filingM =
     ∷ 2 ∷ 0 ∷ 10 ∷ 0 ∷ 1 ∷ 0 ∷ 0 ∷ 0 ∷ 0 ∷ 0 ∷ 0 ∷ 3 ∷ 232 ∷ 2 ∷ 0 ∷ 10 ∷ 1 ∷ 1 ∷ 0 ∷ 0 ∷ 0 ∷ 0 ∷ 0 ∷ 0 ∷ 11 ∷ 184
     ∷ 2 ∷ 0 ∷ 10 ∷ 0 ∷ 2 ∷ 0 ∷ 0 ∷ 0 ∷ 0 ∷ 5 ∷ 245 ∷ 225 ∷ 0 ∷ 2 ∷ 0 ∷ 10 ∷ 1 ∷ 2 ∷ 0 ∷ 0 ∷ 0 ∷ 0 ∷ 11 ∷ 235 ∷ 194 ∷ 0
     ∷ 4 ∷ 0 ∷ 12 ∷ 1 ∷ 0 ∷ 4 ∷ 0 ∷ 0 ∷ 0 ∷ 0 ∷ 0 ∷ 0 ∷ 0 ∷ 195 ∷ 80 ∷ 4 ∷ 0 ∷ 12 ∷ 1 ∷ 0 ∷ 5 ∷ 0 ∷ 0 ∷ 0 ∷ 0 ∷ 0 ∷ 0 ∷ 0 ∷ 0 ∷ 100
+    ∷ 5 ∷ 0 ∷ 3 ∷ 0 ∷ 0 ∷ 0 ∷ 5 ∷ 0 ∷ 3 ∷ 0 ∷ 1 ∷ 0 ∷ 5 ∷ 0 ∷ 3 ∷ 0 ∷ 2 ∷ 0 ∷ 5 ∷ 0 ∷ 3 ∷ 0 ∷ 3 ∷ 0 ∷ 5 ∷ 0 ∷ 3 ∷ 0 ∷ 4 ∷ 0 ∷ 5 ∷ 0 ∷ 3 ∷ 0 ∷ 5 ∷ 0
+    ∷ 5 ∷ 0 ∷ 3 ∷ 1 ∷ 0 ∷ 0 ∷ 5 ∷ 0 ∷ 3 ∷ 1 ∷ 1 ∷ 0 ∷ 5 ∷ 0 ∷ 3 ∷ 1 ∷ 2 ∷ 0 ∷ 5 ∷ 0 ∷ 3 ∷ 1 ∷ 3 ∷ 0 ∷ 5 ∷ 0 ∷ 3 ∷ 1 ∷ 4 ∷ 0 ∷ 5 ∷ 0 ∷ 3 ∷ 1 ∷ 5 ∷ 0
     ∷ 6 ∷ 0 ∷ 8 ∷ 0 ∷ 0 ∷ 19 ∷ 136 ∷ 0 ∷ 0 ∷ 39 ∷ 16 ∷ []
 
 -- the lines that 01 shows for M
 abbrev pub linesM : List ℕ
 linesM = bytesOf "operator points out in adjustment\n0 65036 375000 386463 11463\n1 62464 1125000 1113537 -11463\nall 127500 1500000 1500000 0\n"
 
--- operator 0 with a network, marked at all six indicators
+-- operator 0 has joined and has a network; then more calls
+abbrev pub newcomer : List Call → List Call
+newcomer more = Join 0 ∷ Setting 0 0 1 ∷ Setting 0 1 1 ∷ more
+
+-- it is marked at all six indicators
 abbrev pub sixMarks : List Call
-sixMarks = Join 0 ∷ Setting 0 0 1 ∷ Setting 0 1 1 ∷ Mark 0 0 1 ∷ Mark 0 1 1 ∷ Mark 0 2 1 ∷ Mark 0 3 1 ∷ Mark 0 4 1 ∷ Mark 0 5 1 ∷ []
+sixMarks = newcomer (Mark 0 0 1 ∷ Mark 0 1 1 ∷ Mark 0 2 1 ∷ Mark 0 3 1 ∷ Mark 0 4 1 ∷ Mark 0 5 1 ∷ [])
 
 -- every statement of a list holds
 abbrev pub All : List (Type 0) → Type 0
@@ -94,6 +103,8 @@ marked =
     ∷ (outputOf [] ≡ bytesOf "refused 10\n")
     -- "only a join"; "one operator, six marks", its network filed, since 11 would be the lower number
     ∷ (settled (bookOf (Join 0 ∷ [])) .said ≡ refused-by 11) ∷ (settled (bookOf sixMarks) .said ≡ refused-by 12)
+    -- "A freshly joined set meets refusal 12 once its settings are in" (02, point 1); with one mark cleared it settles
+    ∷ (settled (bookOf (newcomer [])) .said ≡ refused-by 12) ∷ (settled (bookOf (newcomer (Mark 0 0 0 ∷ []))) .said ≡ accepted yes-said)
     -- "writer, 3 bytes, one join"
     ∷ (writerAnswer (bookOf (Join 0 ∷ [])) (0 ∷ 0 ∷ 0 ∷ []) ≡ refused-by 13)
     -- "weights 10, 8, 4 with the first two better become 18, 18, 8"

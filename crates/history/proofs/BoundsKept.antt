@@ -1,7 +1,7 @@
 -- Each change of a book in range leaves a book in range: the values that stay, and the one that moves.
 -- Assumes nothing.
 use Prim.Native.Nat.{ℕ, _+_, _-_, _^_, _≤_, _<_}
-use mathlib.Core.Path.{_≡_, refl, _∙_}
+use mathlib.Core.Path.{_≡_, refl, sym, _∙_}
 use mathlib.Core.Logic.{_≢_}
 use mathlib.Core.Bool.{Bool, true, false, cond}
 use native.Mathlib.Omega.{arith}
@@ -14,10 +14,11 @@ use Rattle.calls.specs.Limits.{operators, settingCount, indicatorCount, setting
 use Rattle.calls.specs.Masks.{has, including, excluding, remasked}
 use Rattle.calls.specs.Call.{Entry}
 use Rattle.book.specs.Book.{isJoined, isMarked, settingOf, figureOf, indexOf, settingSlot, figureSlot, most}
-use Rattle.ledger.specs.Calls.{entered, changed}
+use Rattle.ledger.specs.Calls.{unattested, entered, changed}
 use Rattle.calls.proofs.MaskLaws.{including-has, including-other, including-lt, excluding-other, excluding-le}
 use Rattle.book.proofs.Bounds.{Bounds}
 use Rattle.book.proofs.SlotLaws.{store-holds}
+use Rattle.ledger.proofs.UnattestedLaws.{unattested-long, unattested-at}
 use Rattle.history.proofs.EntryLaws.{Within}
 use Rattle.history.proofs.TableLaws.{Enters}
 
@@ -46,6 +47,14 @@ including-keeps mask operator o held = rw (including-has mask operator o, held) 
     go true = refl
     go false = refl
 
+-- a number more in two masks of which one holds what is in the other
+included-both : (mask whole operator o : ℕ) → (has mask o ≡ true → has whole o ≡ true) → has (including mask operator) o ≡ true → has (including whole operator) o ≡ true
+included-both mask whole operator o inside held = rw (including-has whole operator o) (go (eqb o operator) (sym (including-has mask operator o) ∙ held))
+  where
+    go : (t : Bool) → cond t true (has mask o) ≡ true → cond t true (has whole o) ≡ true
+    go true e = refl
+    go false e = inside e
+
 -- an operator more lets no value out of its range
 allowed : (n limit : ℕ) (before now : Bool) → (before ≡ true → now ≡ true) → n ≤ cond before limit 0 → n ≤ cond now limit 0
 allowed n limit true now still le = rw (still refl) le
@@ -62,20 +71,23 @@ module _ (b : Book) (bounds : Bounds b) where
   unfolding changed settingOf figureOf isMarked indexOf isJoined most
   join-bounds operator lo =
       record {
-        marks-long = bounds .marks-long;
+        marks-long = unattested-long (b .marks) operator ∙ bounds .marks-long;
         settings-long = bounds .settings-long;
         figures-long = bounds .figures-long;
         indices-long = bounds .indices-long;
         joined-small = including-lt (b .joined) operator 16 (bounds .joined-small) lo;
-        marks-small = bounds .marks-small;
+        marks-small = λ i li. rw (marks-at i li) (including-lt (getD (b .marks) i 0) operator 16 (bounds .marks-small i li) lo);
         setting = λ o w lo′ lw. allowed _ _ (isJoined b o) _ (still-joined o) (bounds .setting o w lo′ lw);
         figure = λ o y f lo′ ly lf. allowed _ _ (isJoined b o) _ (still-joined o) (bounds .figure o y f lo′ ly lf);
-        mark = λ o i lo′ li marked. still-joined o (bounds .mark o i lo′ li marked);
+        mark = λ o i lo′ li marked. included-both (getD (b .marks) i 0) (b .joined) operator o (bounds .mark o i lo′ li) (rw (marks-at i li) at marked);
         pot-rate = bounds .pot-rate;
         cap-rate = bounds .cap-rate;
         index = bounds .index;
       }
     where
+      marks-at : (i : ℕ) → i < indicatorCount → getD (unattested (b .marks) operator) i 0 ≡ including (getD (b .marks) i 0) operator
+      marks-at i li = unattested-at (b .marks) operator i (rw (bounds .marks-long) li)
+
       still-joined : (o : ℕ) → isJoined b o ≡ true → has (including (b .joined) operator) o ≡ true
       still-joined o joined = including-keeps (b .joined) operator o joined
 

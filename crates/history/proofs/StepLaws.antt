@@ -23,6 +23,7 @@ use Rattle.history.specs.History.{History, total, heldIn, at1, at2, summ
 use Rattle.calls.proofs.Flags.{and-left, and-right, and-true-right, and-false-right}
 use Rattle.calls.proofs.MaskLaws.{including-has, excluding-has}
 use Rattle.book.proofs.Bounds.{Bounds}
+use Rattle.ledger.proofs.UnattestedLaws.{unattested-at}
 use Rattle.book.proofs.SlotLaws.{stored, setting-slot-lt, figure-slot-lt, same-setting-slot, same-figure-slot}
 use Rattle.history.proofs.EntryLaws.{All, Within, Distinct, known-lt, member-there, entries-distinct}
 use Rattle.history.proofs.TableLaws.{Passed, Enters, call-enters}
@@ -44,12 +45,18 @@ module _ (b : Book) (h : History) (bounds : Bounds b) (held : Same (heldBy b) (h
       record {
         joined = λ o lt. including-has (b .joined) operator o ∙ ap (cond (eqb o operator) true) (held .joined o lt);
         setting = held .setting;
-        mark = held .mark;
+        mark = λ o i lo li.
+            ap (λ (mask : ℕ). has mask o) (unattested-at (b .marks) operator i (rw (bounds .marks-long) li))
+            ∙ including-has (getD (b .marks) i 0) operator o ∙ go o i (eqb o operator) (held .mark o i lo li);
         pot-rate = held .pot-rate;
         cap-rate = held .cap-rate;
         index = held .index;
         total = held .total;
       }
+    where
+      go : (o i : ℕ) (t : Bool) → isMarked b o i ≡ h .mark o i → cond t true (isMarked b o i) ≡ cond t (λ (indicator : ℕ). true) (h .mark o) i
+      go o i true e = refl
+      go o i false e = e
 
   setting-holds : (operator which value : ℕ) → operator < operators → which < settingCount
       → Same (heldBy (changed b (Setting operator which value))) (heldIn (recorded h (Setting operator which value)))

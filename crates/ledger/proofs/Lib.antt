@@ -1,5 +1,6 @@
 -- The laws that the proofs of `ledger`, and of the crates above it, use.
 pub mod AdmissionLaws
+pub mod UnattestedLaws
 pub mod MoveLaws
 pub mod LowestOfCalls
 pub mod Opened

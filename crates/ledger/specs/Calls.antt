@@ -2,7 +2,7 @@
 -- Assumes nothing.
 use Prim.Native.Nat.{ℕ, _+_, _-_}
 use mathlib.Core.Bool.{cond}
-use mathlib.Core.List.{List, [], _∷_}
+use mathlib.Core.List.{List, [], _∷_, map}
 use lib.Dec.{eqb}
 use lib.ListN.{getD, set}
 use Rattle.book.specs.declared.Book.{Book}
@@ -29,10 +29,14 @@ unfoldable pub enterAll : Book → List Entry → Book
 enterAll b [] = b
 enterAll b (entry ∷ rest) = enterAll (entered b entry) rest
 
+-- marks with those of an operator set at every indicator: nothing of it is attested yet (02, point 1: "all six marks of the operator")
+unfoldable pub unattested : List ℕ → ℕ → List ℕ
+unattested marks operator = map (λ (mask : ℕ). including mask operator) marks
+
 -- the book after a call that nothing refuses
 unfoldable pub changed : Book → Call → Book
 changed b (Join operator) =
-    bookWith (including (b .joined) operator) (b .marks) (b .settings) (b .figures) (b .«pot_rate») (b .«cap_rate») (b .indices)
+    bookWith (including (b .joined) operator) (unattested (b .marks) operator) (b .settings) (b .figures) (b .«pot_rate») (b .«cap_rate») (b .indices)
 changed b (Setting operator which value) =
     bookWith (b .joined) (b .marks) (set (b .settings) (settingSlot operator which) value) (b .figures) (b .«pot_rate») (b .«cap_rate») (b .indices)
 changed b (Interruption operator sign level cause start end weight) =

@@ -31,7 +31,7 @@ pub fn apply_in(
     ensures { λ r. ⌜ Leaves (bookWith (now (joined .entry)) (now (marks .entry)) (now (settings .entry)) (now (figures .entry)) (now («pot_rate» .entry)) (now («cap_rate» .entry)) (now (indices .entry))) «filing_call» r (bookWith (now (joined .exit)) (now (marks .exit)) (now (settings .exit)) (now (figures .exit)) (now («pot_rate» .exit)) (now («cap_rate» .exit)) (now (indices .exit))) ⌝ }
 {
     match filing_call {
-        Call::Join { operator } => in_place::join(joined, operator),
+        Call::Join { operator } => in_place::join(joined, marks, operator),
         Call::Setting {
             operator,
             which,

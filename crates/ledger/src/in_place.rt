@@ -2,10 +2,12 @@
 // the order of the table: 4, 5, 6 or 7, then 8 and 9.
 ghost use mathlib.Core.Path.{_≡_};
 ghost use mathlib.Core.List.{List, [], _∷_};
-ghost use Prim.Native.Nat.{ℕ};
+ghost use Prim.Native.Nat.{ℕ, _<_};
+ghost use Rattle.calls.specs.Limits.{operators};
 ghost use Rattle.book.specs.Book.{bookWith};
 ghost use Rattle.calls.specs.Answers.{firstOf, yes-said, counted-in};
 ghost use Rattle.calls.specs.Call.{entry, interruptionEntries};
+ghost use Rattle.ledger.specs.Calls.{unattested};
 ghost use Rattle.ledger.specs.Steps.{Leaves, Enters, AmountInRange, CountedInRange, memberLines, admissionSaid};
 use crate::Admission;
 use book::figure_slot;
@@ -34,8 +36,8 @@ use calls::seconds_of;
 use calls::setting_in_range;
 use calls::year_of;
 
-pub(crate) fn join(joined: &mut u16, operator: u8) -> Answer
-    ensures { λ r. ⌜ ((marks settings figures indices : List ℕ) (pot cap : ℕ) → Leaves (bookWith (now (joined .entry)) marks settings figures pot cap indices) (Call.Join operator) r (bookWith (now (joined .exit)) marks settings figures pot cap indices)) ⌝ }
+pub(crate) fn join(joined: &mut u16, marks: &mut [u16; INDICATORS], operator: u8) -> Answer
+    ensures { λ r. ⌜ ((settings figures indices : List ℕ) (pot cap : ℕ) → Leaves (bookWith (now (joined .entry)) (now (marks .entry)) settings figures pot cap indices) (Call.Join operator) r (bookWith (now (joined .exit)) (now (marks .exit)) settings figures pot cap indices)) ⌝ }
 {
     if LAST_OPERATOR < operator {
         return Answer::Refused(Refusal::UnknownOperator);
@@ -44,7 +46,22 @@ pub(crate) fn join(joined: &mut u16, operator: u8) -> Answer
         return Answer::Refused(Refusal::AlreadyJoined);
     }
     *joined = include_bit(*joined, operator);
+    mark_unattested(marks, operator);
     Answer::Yes
+}
+
+// No attestation is in when an operator joins: its mark is set at every indicator.
+fn mark_unattested(marks: &mut [u16], operator: u8)
+    requires { ⌜ operator < operators ⌝ }
+    ensures { λ r. ⌜ now (marks .exit) ≡ unattested (now (marks .entry)) operator ⌝ }
+{
+    let mut indicator = 0;
+    while indicator < marks.len() {
+        let mask = marks[indicator];
+        let marked = include_bit(mask, operator);
+        marks[indicator] = marked;
+        indicator += 1;
+    }
 }
 
 // The checks that setting, interruption, amount and mark share: 4, 5 and 7, in the order of the table.

@@ -8,8 +8,8 @@ use libc::STDOUT_FILENO;
 use text::Filled;
 use writer::write;
 
-// Case M with cap rate 10,000: joins, settings, amounts and rates.
-const CASE_M: [u8; 127] = [
+// Case M with cap rate 10,000: joins, settings, amounts, cleared marks and rates.
+const CASE_M: [u8; 199] = [
     1,
     0,
     1,
@@ -126,6 +126,78 @@ const CASE_M: [u8; 127] = [
     0,
     0,
     100,
+    5,
+    0,
+    3,
+    0,
+    0,
+    0,
+    5,
+    0,
+    3,
+    0,
+    1,
+    0,
+    5,
+    0,
+    3,
+    0,
+    2,
+    0,
+    5,
+    0,
+    3,
+    0,
+    3,
+    0,
+    5,
+    0,
+    3,
+    0,
+    4,
+    0,
+    5,
+    0,
+    3,
+    0,
+    5,
+    0,
+    5,
+    0,
+    3,
+    1,
+    0,
+    0,
+    5,
+    0,
+    3,
+    1,
+    1,
+    0,
+    5,
+    0,
+    3,
+    1,
+    2,
+    0,
+    5,
+    0,
+    3,
+    1,
+    3,
+    0,
+    5,
+    0,
+    3,
+    1,
+    4,
+    0,
+    5,
+    0,
+    3,
+    1,
+    5,
+    0,
     6,
     0,
     8,
@@ -143,16 +215,16 @@ fn main() {
     let reading = read(book::fresh(), &CASE_M);
     let b = reading.book;
     show(b, 0);
-    show(b, 126);
-    show(b, 127);
-    show(b, 130);
+    show(b, 198);
+    show(b, 199);
+    show(b, 202);
 }
 
-// A buffer of 130 bytes, all 170, of which so many are lent.
+// A buffer of 202 bytes, all 170, of which so many are lent.
 fn show(b: Book, length: usize)
-    requires { ⌜ length ≤ 130 ⌝ }
+    requires { ⌜ length ≤ 202 ⌝ }
 {
-    let mut buffer = [170u8; 130];
+    let mut buffer = [170u8; 202];
     let answer = write(b, &mut buffer[..length]);
     io::print_decimal(STDOUT_FILENO, length as u64);
     io::write_all(STDOUT_FILENO, b" = ");
@@ -173,9 +245,9 @@ fn print_answer(answer: Filled) {
     io::write_all(STDOUT_FILENO, b" ");
 }
 
-fn print_bytes(bytes: &[u8; 130]) {
+fn print_bytes(bytes: &[u8; 202]) {
     let mut i = 0;
-    while i < 130 {
+    while i < 202 {
         print_byte(bytes[i]);
         i += 1;
     }

@@ -11,12 +11,12 @@ use borrow.Author.Tests.{lt-ltb, le-ltb, le-leb, lt-leb}
 use Rattle.book.specs.declared.Book.{Book}
 use Rattle.calls.specs.declared.Call.the-variants.{Join, Setting, Amount, Mark, Rates, Index}
 use Rattle.calls.specs.Limits.{operators, years, figureCount, settingCount, indicatorCount, indexCount, settingLimit, figureLimit, rateLimit, indexLeast, indexMost}
-use Rattle.calls.specs.Masks.{has, including, remasked}
+use Rattle.calls.specs.Masks.{has, including, excluding, remasked}
 use Rattle.calls.specs.Answers.{yes-said}
 use Rattle.calls.specs.Call.{entry, factsOf}
 use Rattle.book.specs.Book.{bookWith, isJoined, figureOf, settingSlot, figureSlot}
 use Rattle.ledger.specs.Table.{some}
-use Rattle.ledger.specs.Calls.{changed, withFigures, apply}
+use Rattle.ledger.specs.Calls.{unattested, changed, withFigures, apply}
 use Rattle.ledger.specs.Steps.{entering}
 use Rattle.ledger.proofs.AdmissionLaws.{acceptedCall, admitted, done}
 use Rattle.ledger.proofs.MoveLaws.{one-moved}
@@ -24,7 +24,7 @@ use Rattle.ledger.proofs.MoveLaws.{one-moved}
 module _ (c : Book) where
   pub join-accepted : (operator : ℕ) → operator < operators → has (c .joined) operator ≡ false
       → apply c (Join operator)
-      ≡ acceptedCall (bookWith (including (c .joined) operator) (c .marks) (c .settings) (c .figures) (c .«pot_rate») (c .«cap_rate») (c .indices)) yes-said
+      ≡ acceptedCall (bookWith (including (c .joined) operator) (unattested (c .marks) operator) (c .settings) (c .figures) (c .«pot_rate») (c .«cap_rate») (c .indices)) yes-said
   unfolding factsOf some changed isJoined
   join-accepted operator lo free =
       done c (Join operator) (rw (lt-leb operators operator lo) refl) refl (rw free refl) refl refl
@@ -54,12 +54,13 @@ module _ (c : Book) where
         reaches = rw none (omega arith);
       })
 
+  -- a mark that is cleared
   pub mark-accepted : (operator indicator : ℕ) → operator < operators → indicator < indicatorCount → has (c .joined) operator ≡ true
-      → apply c (Mark operator indicator 1)
-      ≡ acceptedCall (bookWith (c .joined) (set (c .marks) indicator (including (getD (c .marks) indicator 0) operator)) (c .settings) (c .figures) (c .«pot_rate») (c .«cap_rate») (c .indices)) yes-said
+      → apply c (Mark operator indicator 0)
+      ≡ acceptedCall (bookWith (c .joined) (set (c .marks) indicator (excluding (getD (c .marks) indicator 0) operator)) (c .settings) (c .figures) (c .«pot_rate») (c .«cap_rate») (c .indices)) yes-said
   unfolding factsOf some changed isJoined remasked
   mark-accepted operator indicator lo li joined =
-      done c (Mark operator indicator 1) (rw (lt-leb operators operator lo) refl) (rw (lt-ltb indicator indicatorCount li) refl) refl (rw joined refl) refl
+      done c (Mark operator indicator 0) (rw (lt-leb operators operator lo) refl) (rw (lt-ltb indicator indicatorCount li) refl) refl (rw joined refl) refl
 
   pub index-accepted : (number value : ℕ) → number < indexCount → indexLeast ≤ value → value ≤ indexMost
       → apply c (Index number value)

@@ -1,6 +1,6 @@
 -- The laws that the proofs of `writing`, and of the crates above it, use.
 pub mod Filings
-pub mod Mixed
+pub mod MixedMasks
 pub mod Accepting
 pub mod Rebuilt
 pub mod ReadBack

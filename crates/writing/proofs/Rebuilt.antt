@@ -2,12 +2,12 @@
 -- Assumes nothing.
 use Prim.Native.Nat.{ℕ, zero, suc, _+_, _*_, _%_, _^_, _≤_, _<_}
 use mathlib.Core.Path.{_≡_, refl, sym, ap, subst, _∙_}
-use mathlib.Core.Bool.{Bool, true, false, cond, _&&_, false≢true}
+use mathlib.Core.Bool.{Bool, true, false, cond, not, _&&_, false≢true}
 use mathlib.Core.List.{List, [], _∷_, _++_, map}
-use native.Mathlib.Nat.{mod-one, mod-eq-of-lt, zero-mod}
+use native.Mathlib.Nat.{mod-one, mod-eq-of-lt}
 use native.Mathlib.Omega.{arith}
 use lib.Dec.{eqb}
-use lib.ListN.{length, getD, set, replicate, length-replicate, getD-replicate, length-map, List·getD-map}
+use lib.ListN.{length, getD, set, replicate, length-replicate, getD-replicate, length-map}
 use lib.Seq.{ext-getD}
 use borrow.Author.Tests.{eqb-true, eqb-false}
 use Rattle.calls.proofs.Flags.{and-left, and-right}
@@ -21,16 +21,19 @@ use Rattle.book.specs.Book.{bookWith, freshBook, isJoined, isMarked, settingOf,
 use Rattle.book.proofs.Bounds.{Bounds, bounded}
 use Rattle.book.proofs.SlotLaws.{setting-slot-lt, figure-slot-lt}
 use Rattle.history.proofs.Kept.{fresh-in-range}
-use Rattle.ledger.specs.Calls.{withFigures}
+use Rattle.ledger.specs.Calls.{unattested, withFigures}
+use Rattle.ledger.proofs.AdmissionLaws.{acceptedCall}
 use Rattle.writing.specs.Written.{inTurn, unlessFresh, joinCalls, settingCalls, amountCalls, markCalls, indexCalls, rateCalls, writtenCalls}
 use Rattle.writing.proofs.Filings.{Leads, stays-ranged, leads-none, leads-one, leads-then, leads-turns, leads-rows}
-use Rattle.writing.proofs.Mixed.{mix, mix-set, mix-same, mix-at, mix-all, low-set, low-clear, low-free}
+use Rattle.book.proofs.Mixed.{mix, mix-set, mix-same, mix-at, mix-all, map-at}
+use Rattle.writing.proofs.MixedMasks.{low-set, low-clear, low-free, mixBits, mix-bit-same, mix-cleared, mix-no-bits, mix-all-bits}
 use Rattle.writing.proofs.Accepting.{join-accepted, setting-accepted, amount-accepted, mark-accepted, index-accepted, rates-accepted}
 
--- fresh lists
-abbrev noMarks : List ℕ
-noMarks = replicate 6 0
+-- the marks that joins leave: every mark of those who have joined
+abbrev joinedMarks : ℕ → List ℕ
+joinedMarks joined = replicate 6 joined
 
+-- fresh lists
 abbrev noSettings : List ℕ
 noSettings = replicate 48 0
 
@@ -51,20 +54,21 @@ module _ (b : Book) (ranged : inRange b ≡ true) where
 
   -- joins, bit by bit
   joinStage : ℕ → Book
-  joinStage k = bookWith (b .joined % 2 ^ k) noMarks noSettings noFigures 0 0 freshIndices
+  joinStage k = bookWith (b .joined % 2 ^ k) (joinedMarks (b .joined % 2 ^ k)) noSettings noFigures 0 0 freshIndices
 
   join-step : (k : ℕ) → k < operators → inRange (joinStage k) ≡ true
       → Leads (joinStage k) (cond (isJoined b k) (Join k ∷ []) []) (joinStage (suc k))
-  unfolding joinStage isJoined
+  unfolding joinStage isJoined unattested
   join-step k lt in-range = go (has (b .joined) k) refl
     where
       go : (t : Bool) → has (b .joined) k ≡ t → Leads (joinStage k) (cond t (Join k ∷ []) []) (joinStage (suc k))
       go true e =
           leads-one (joinStage k) (Join k) (joinStage (suc k)) yes-said in-range
-          (join-accepted (joinStage k) k lt (low-free (b .joined) k) ∙ rw (low-set (b .joined) k e) refl)
+          (join-accepted (joinStage k) k lt (low-free (b .joined) k)
+          ∙ ap (λ (mask : ℕ). acceptedCall (bookWith mask (joinedMarks mask) noSettings noFigures 0 0 freshIndices) yes-said) (low-set (b .joined) k e))
       go false e = rw (low-clear (b .joined) k e) (leads-none (joinStage (suc k)) (rw (← low-clear (b .joined) k e) in-range))
 
-  joins-lead : Leads freshBook (joinCalls b) (bookWith (b .joined) noMarks noSettings noFigures 0 0 freshIndices)
+  joins-lead : Leads freshBook (joinCalls b) (bookWith (b .joined) (joinedMarks (b .joined)) noSettings noFigures 0 0 freshIndices)
   unfolding joinCalls freshBook joinStage
   joins-lead =
       let whole = mod-eq-of-lt (bounds .joined-small) in
@@ -73,7 +77,7 @@ module _ (b : Book) (ranged : inRange b ≡ true) where
 
   -- settings, place by place
   settingStage : ℕ → Book
-  settingStage k = bookWith (b .joined) noMarks (mix k (b .settings) noSettings) noFigures 0 0 freshIndices
+  settingStage k = bookWith (b .joined) (joinedMarks (b .joined)) (mix k (b .settings) noSettings) noFigures 0 0 freshIndices
 
   setting-step : (operator which : ℕ) → operator < operators → which < settingCount → inRange (settingStage (settingSlot operator which)) ≡ true
       → Leads (settingStage (settingSlot operator which))
@@ -109,7 +113,7 @@ module _ (b : Book) (ranged : inRange b ≡ true) where
 
   -- figures, place by place
   figureStage : ℕ → Book
-  figureStage k = bookWith (b .joined) noMarks (b .settings) (mix k (b .figures) noFigures) 0 0 freshIndices
+  figureStage k = bookWith (b .joined) (joinedMarks (b .joined)) (b .settings) (mix k (b .figures) noFigures) 0 0 freshIndices
 
   figure-step : (operator year figure : ℕ) → operator < operators → year < years → figure < figureCount
       → inRange (figureStage (figureSlot operator year figure)) ≡ true
@@ -163,69 +167,83 @@ module _ (b : Book) (ranged : inRange b ≡ true) where
           let next : o * 24 + suc (y * 8 + f) ≡ suc ((o * 3 + y) * 8 + f) = omega arith in
           rw (place, next) (figure-step o y f lo ly lf (rw place at there))))
 
-  -- marks, operator by operator, indicator by indicator
-  lowMarks : ℕ → List ℕ
-  lowMarks o = map (λ (mask : ℕ). mask % 2 ^ o) (b .marks)
+  -- marks, operator by operator, indicator by indicator: of the first operators as the book has them, of the others as their joins set them
+  partMarks : ℕ → List ℕ
+  partMarks o = map (λ (mask : ℕ). mixBits o mask (b .joined)) (b .marks)
 
   markStage : ℕ → ℕ → Book
-  markStage o i = bookWith (b .joined) (mix i (lowMarks (suc o)) (lowMarks o)) (b .settings) (b .figures) 0 0 freshIndices
+  markStage o i = bookWith (b .joined) (mix i (partMarks (suc o)) (partMarks o)) (b .settings) (b .figures) 0 0 freshIndices
 
-  low-long : (o : ℕ) → length (lowMarks o) ≡ 6
-  unfolding lowMarks
-  low-long o = length-map (b .marks) (λ (mask : ℕ). mask % 2 ^ o) ∙ bounds .marks-long
+  part-long : (o : ℕ) → length (partMarks o) ≡ 6
+  unfolding partMarks
+  part-long o = length-map (b .marks) (λ (mask : ℕ). mixBits o mask (b .joined)) ∙ bounds .marks-long
 
-  low-at : (o i : ℕ) → getD (lowMarks o) i 0 ≡ getD (b .marks) i 0 % 2 ^ o
-  unfolding lowMarks
-  low-at o i = ap (λ (d : ℕ). getD (lowMarks o) i d) (sym (zero-mod (2 ^ o))) ∙ List·getD-map (λ (mask : ℕ). mask % 2 ^ o) (b .marks) i 0
+  part-at : (o i : ℕ) → i < indicatorCount → getD (partMarks o) i 0 ≡ mixBits o (getD (b .marks) i 0) (b .joined)
+  unfolding partMarks
+  part-at o i li = map-at (λ (mask : ℕ). mixBits o mask (b .joined)) (b .marks) i (rw (bounds .marks-long) li)
 
   mark-step : (o i : ℕ) → o < operators → i < indicatorCount → inRange (markStage o i) ≡ true
-      → Leads (markStage o i) (cond (isMarked b o i) (Mark o i 1 ∷ []) []) (markStage o (suc i))
+      → Leads (markStage o i) (cond (isJoined b o && not (isMarked b o i)) (Mark o i 0 ∷ []) []) (markStage o (suc i))
   unfolding markStage isMarked isJoined
-  mark-step o i lo li in-range = go (has (getD (b .marks) i 0) o) refl
+  mark-step o i lo li in-range = go (has (b .joined) o) (has mask o) refl refl
     where
+      mask : ℕ
+      mask = getD (b .marks) i 0
+
       new : List ℕ
-      new = lowMarks (suc o)
+      new = partMarks (suc o)
 
       old : List ℕ
-      old = lowMarks o
+      old = partMarks o
 
       long : length old ≡ length new
-      long = low-long o ∙ sym (low-long (suc o))
+      long = part-long o ∙ sym (part-long (suc o))
 
       inside : i < length new
-      inside = rw (low-long (suc o)) li
+      inside = rw (part-long (suc o)) li
 
-      go : (t : Bool) → has (getD (b .marks) i 0) o ≡ t → Leads (markStage o i) (cond t (Mark o i 1 ∷ []) []) (markStage o (suc i))
-      go true e =
-          leads-one (markStage o i) (Mark o i 1) (markStage o (suc i)) yes-said in-range
-          (mark-accepted (markStage o i) o i lo li (bounds .mark o i lo li e)
-          ∙ rw (mix-at new old long i inside, low-at o i, low-set (getD (b .marks) i 0) o e, ← low-at (suc o) i, mix-set new old long i inside) refl)
-      go false e =
-          let same = mix-same new old long i inside (low-at (suc o) i ∙ sym (low-clear (getD (b .marks) i 0) o e) ∙ sym (low-at o i)) in
+      -- no call where the mark is as the join set it, or no one has joined
+      stays : has mask o ≡ has (b .joined) o → Leads (markStage o i) [] (markStage o (suc i))
+      stays e =
+          let same = mix-same new old long i inside (part-at (suc o) i li ∙ sym (mix-bit-same mask (b .joined) o e) ∙ sym (part-at o i li)) in
           rw same (leads-none (markStage o (suc i)) (rw (← same) in-range))
 
+      go : (s t : Bool) → has (b .joined) o ≡ s → has mask o ≡ t
+          → Leads (markStage o i) (cond (s && not t) (Mark o i 0 ∷ []) []) (markStage o (suc i))
+      go true true joined marked = stays (marked ∙ sym joined)
+      go false false joined marked = stays (marked ∙ sym joined)
+      go false true joined marked = absurd (false≢true (sym joined ∙ bounds .mark o i lo li marked))
+      go true false joined marked =
+          leads-one (markStage o i) (Mark o i 0) (markStage o (suc i)) yes-said in-range
+          (mark-accepted (markStage o i) o i lo li joined
+          ∙ rw (mix-at new old long i inside, part-at o i li, mix-cleared mask (b .joined) o joined marked, ← part-at (suc o) i li, mix-set new old long i inside) refl)
+
   marksBook : ℕ → Book
-  marksBook o = bookWith (b .joined) (lowMarks o) (b .settings) (b .figures) 0 0 freshIndices
+  marksBook o = bookWith (b .joined) (partMarks o) (b .settings) (b .figures) 0 0 freshIndices
 
   marks-lead : inRange (marksBook 0) ≡ true → Leads (marksBook 0) (markCalls b) (marksBook 16)
   unfolding markCalls marksBook markStage
   marks-lead in-range = leads-turns operators _ marksBook in-range row
     where
       row : (o : ℕ) → o < operators → inRange (marksBook o) ≡ true
-          → Leads (marksBook o) (inTurn indicatorCount (λ (i : ℕ). cond (isMarked b o i) (Mark o i 1 ∷ []) [])) (marksBook (suc o))
+          → Leads (marksBook o) (inTurn indicatorCount (λ (i : ℕ). cond (isJoined b o && not (isMarked b o i)) (Mark o i 0 ∷ []) [])) (marksBook (suc o))
       row o lo here =
-          rw (mix-all 6 (lowMarks (suc o)) (lowMarks o) (low-long (suc o)) (low-long o)) at
+          rw (mix-all 6 (partMarks (suc o)) (partMarks o) (part-long (suc o)) (part-long o)) at
           (leads-turns indicatorCount _ (markStage o) here (λ i li there. mark-step o i lo li there))
 
-  low-none : lowMarks 0 ≡ noMarks
-  low-none =
-      ext-getD 0 (lowMarks 0) noMarks (low-long 0)
-      (λ i lt. low-at 0 i ∙ mod-one (getD (b .marks) i 0) ∙ sym (getD-replicate {A = ℕ} 6 i 0 0 (rw (low-long 0) at lt)))
+  part-none : partMarks 0 ≡ joinedMarks (b .joined)
+  part-none =
+      ext-getD 0 (partMarks 0) (joinedMarks (b .joined)) (part-long 0)
+      (λ i lt.
+      let li : i < 6 = rw (part-long 0) at lt in
+      part-at 0 i li ∙ mix-no-bits (getD (b .marks) i 0) (b .joined) ∙ sym (getD-replicate {A = ℕ} 6 i (b .joined) 0 li))
 
-  low-all : lowMarks 16 ≡ b .marks
-  low-all =
-      ext-getD 0 (lowMarks 16) (b .marks) (low-long 16 ∙ sym (bounds .marks-long))
-      (λ i lt. low-at 16 i ∙ mod-eq-of-lt (bounds .marks-small i (rw (low-long 16) at lt)))
+  part-all : partMarks 16 ≡ b .marks
+  part-all =
+      ext-getD 0 (partMarks 16) (b .marks) (part-long 16 ∙ sym (bounds .marks-long))
+      (λ i lt.
+      let li : i < 6 = rw (part-long 16) at lt in
+      part-at 16 i li ∙ mix-all-bits 16 (getD (b .marks) i 0) (b .joined) (bounds .marks-small i li) (bounds .joined-small))
 
   -- indices, place by place
   indexStage : ℕ → Book
@@ -288,6 +306,6 @@ module _ (b : Book) (ranged : inRange b ≡ true) where
       let joins = joins-lead in
       let settings = rw settings-all at (settings-lead (stays-ranged joins)) in
       let figures = rw figures-all at (figures-lead (stays-ranged settings)) in
-      let marks = rw (low-none, low-all) at (marks-lead (rw low-none (stays-ranged figures))) in
+      let marks = rw (part-none, part-all) at (marks-lead (rw part-none (stays-ranged figures))) in
       let indices = indices-lead (stays-ranged marks) in
       leads-then (leads-then (leads-then (leads-then (leads-then joins settings) figures) marks) indices) (rates-lead (stays-ranged indices))

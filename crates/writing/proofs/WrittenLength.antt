@@ -2,7 +2,7 @@
 -- Assumes nothing.
 use Prim.Native.Nat.{ℕ, zero, suc, _+_, _*_, _^_, _≤_, _<_}
 use mathlib.Core.Path.{_≡_, refl, sym, ap, _∙_}
-use mathlib.Core.Bool.{Bool, true, false, cond, _&&_}
+use mathlib.Core.Bool.{Bool, true, false, cond, not, _&&_}
 use mathlib.Core.List.{List, [], _∷_, _++_, append-assoc}
 use native.Mathlib.Nat.{suc-mul}
 use native.Mathlib.Omega.{arith}
@@ -102,7 +102,7 @@ module _ (b : Book) (ranged : inRange b ≡ true) where
   marks-small : Small (markCalls b) 576
   unfolding markCalls encoded fieldOf inBytes
   marks-small =
-      small-turns operators _ 36 (λ o lo. small-turns indicatorCount _ 6 (λ i li. small-if (isMarked b o i) (Mark o i 1) 6 tt (omega arith)))
+      small-turns operators _ 36 (λ o lo. small-turns indicatorCount _ 6 (λ i li. small-if (isJoined b o && not (isMarked b o i)) (Mark o i 0) 6 tt (omega arith)))
 
   indices-small : Small (indexCalls b) 32
   unfolding indexCalls encoded fieldOf inBytes

@@ -29,9 +29,9 @@ pub record WrittenOut (b : Book) (ranged : inRange b ≡ true) : Type 0 where
   -- "at most 7,067 bytes"
   pub most : length (written b) ≤ 7067
 
--- a book with every value filed, none of them fresh
+-- a book with every value filed, none of them fresh, and every mark cleared
 abbrev pub fullest : Book
-fullest = bookWith 65535 (replicate 6 65535) (replicate 48 1) (replicate 384 1) 1 1 (replicate 4 10001)
+fullest = bookWith 65535 (replicate 6 0) (replicate 48 1) (replicate 384 1) 1 1 (replicate 4 10001)
 
 -- it is in range, and needs exactly that many
 pub record Fullest : Type 0 where

@@ -1,7 +1,7 @@
 -- A book's written filing: the calls by which it differs from a fresh one, as fields (01, "The filing").
 -- Assumes nothing.
 use Prim.Native.Nat.{ℕ, zero, suc}
-use mathlib.Core.Bool.{cond, _&&_}
+use mathlib.Core.Bool.{cond, not, _&&_}
 use mathlib.Core.List.{List, [], _∷_, _++_}
 use lib.Dec.{eqb}
 use Rattle.book.specs.declared.Book.{Book}
@@ -36,10 +36,11 @@ module _ (b : Book) where
       inTurn operators (λ (operator : ℕ). inTurn years (λ (year : ℕ). inTurn figureCount (λ (figure : ℕ).
       unlessFresh (figureOf b operator year figure) 0 (Amount operator year figure 0 (figureOf b operator year figure)))))
 
+  -- "the cleared marks of joined operators and no set ones" (02, point 1)
   unfoldable pub markCalls : List Call
   markCalls =
       inTurn operators (λ (operator : ℕ). inTurn indicatorCount (λ (indicator : ℕ).
-      cond (isMarked b operator indicator) (Mark operator indicator 1 ∷ []) []))
+      cond (isJoined b operator && not (isMarked b operator indicator)) (Mark operator indicator 0 ∷ []) []))
 
   unfoldable pub indexCalls : List Call
   indexCalls = inTurn indexCount (λ (number : ℕ). unlessFresh (indexOf b number) freshIndex (Index number (indexOf b number)))

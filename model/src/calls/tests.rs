@@ -7,7 +7,7 @@ use std::ops::RangeInclusive;
 
 const MOST: u64 = 100_000_000_000;
 
-/// A book in which only the given operators are joined.
+/// A book in which only the given operators are joined, all marks set.
 fn with(operators: &[u8]) -> Book {
     let mut book = Book::fresh();
     for &operator in operators {
@@ -192,9 +192,11 @@ fn examples_of_the_table() {
 
 // Join.
 
+/// A join sets the six marks of its operator, and alters nothing else.
 fn joins_once(operator: u8) {
     let mut expected = Book::fresh();
     expected.operators[usize::from(operator)].joined = true;
+    expected.operators[usize::from(operator)].marks = vec![true; 6];
     assert_eq!(with(&[operator]), expected);
     refuses(&expected, 6, |book| join(book, operator));
 }
@@ -203,8 +205,23 @@ fn joins_once(operator: u8) {
 fn joins() {
     (0..16).for_each(joins_once);
     assert_eq!(with_all().joined_mask(), 65_535);
+    for indicator in 0..6 {
+        assert_eq!(with_all().mark_mask(indicator), 65_535);
+    }
     refuses_each(&with_all(), 4, 16..=255, join);
     refuses_each(&Book::fresh(), 4, 16..=255, join);
+}
+
+#[test]
+fn a_join_leaves_the_marks_of_the_others() {
+    let mut book = with(&[0]);
+    assert_eq!(mark(&mut book, 0, 2, 0), Answer::Yes);
+    assert_eq!(join(&mut book, 9), Answer::Yes);
+    let mut expected = with(&[0, 9]);
+    expected.operators[0].marks[2] = false;
+    assert_eq!(book, expected);
+    // A refused join doesn't set a mark again.
+    refuses(&book, 6, |book| join(book, 0));
 }
 
 // Settings.
@@ -523,22 +540,24 @@ fn order_of_refusals_of_an_amount() {
 
 // Marks.
 
-fn is_marked_and_unmarked(indicator: u8) {
+/// Each mark is given twice: the second leaves the book.
+fn is_cleared_and_set_again(indicator: u8) {
     let mut book = with(&[0, 9]);
-    let mut expected = with(&[0, 9]);
-    expected.operators[9].marks[usize::from(indicator)] = true;
-    assert_eq!(mark(&mut book, 9, indicator, 1), Answer::Yes);
-    assert_eq!(book, expected);
-    assert_eq!(mark(&mut book, 9, indicator, 1), Answer::Yes);
-    assert_eq!(book, expected);
+    let mut cleared = with(&[0, 9]);
+    cleared.operators[9].marks[usize::from(indicator)] = false;
     assert_eq!(mark(&mut book, 9, indicator, 0), Answer::Yes);
+    assert_eq!(book, cleared);
     assert_eq!(mark(&mut book, 9, indicator, 0), Answer::Yes);
+    assert_eq!(book, cleared);
+    assert_eq!(mark(&mut book, 9, indicator, 1), Answer::Yes);
+    assert_eq!(book, with(&[0, 9]));
+    assert_eq!(mark(&mut book, 9, indicator, 1), Answer::Yes);
     assert_eq!(book, with(&[0, 9]));
 }
 
 #[test]
 fn marks() {
-    (0..6).for_each(is_marked_and_unmarked);
+    (0..6).for_each(is_cleared_and_set_again);
     is_out_of_range(2..=255, |book, operator, value| {
         mark(book, operator, 0, value)
     });
@@ -695,6 +714,8 @@ fn book_with_values_of_an_operator_not_joined() {
     for indicator in 0..6 {
         refused_with_not_joined(|operator| operator.marks[indicator] = true);
     }
+    // What is left of a join.
+    refused_with_not_joined(|operator| operator.marks = vec![true; 6]);
 }
 
 #[test]

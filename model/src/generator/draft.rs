@@ -70,6 +70,13 @@ pub fn mark(operator: u8, indicator: usize, mark: u8) -> Field {
     }
 }
 
+/// All six marks of an operator, set or cleared.
+pub fn six_marks(operator: u8, value: u8) -> Vec<Field> {
+    (0..INDICATORS)
+        .map(|indicator| mark(operator, indicator, value))
+        .collect()
+}
+
 pub fn most_setting(which: usize) -> u64 {
     MOST_SETTINGS[which] as u64
 }
@@ -368,17 +375,28 @@ impl Draft {
         })
     }
 
-    /// Takes the mark from a place.
-    pub fn unmark(&mut self) {
-        let operator = self.joined_operator();
-        let indicator = self.random.place(INDICATORS);
-        self.file(mark(operator, indicator, 0));
-    }
-
     /// Takes the cabins or the access points from an operator.
     pub fn take_size(&mut self) {
         let operator = self.joined_operator();
         let which = self.random.place(2);
         self.file(setting(operator, which, 0));
+    }
+
+    // Marks.
+
+    pub fn clear_mark(&mut self) {
+        let operator = self.joined_operator();
+        let indicator = self.random.place(INDICATORS);
+        self.file(mark(operator, indicator, 0));
+    }
+
+    /// Sets a mark, whether it was cleared or not; for a while only, or for good.
+    pub fn set_mark_again(&mut self) {
+        let operator = self.joined_operator();
+        let indicator = self.random.place(INDICATORS);
+        self.file(mark(operator, indicator, 1));
+        if self.random.one_in(2) {
+            self.file(mark(operator, indicator, 0));
+        }
     }
 }

@@ -1,6 +1,6 @@
 //! Sound filings: what each kind of them has, and the making of it.
 
-use super::draft::{amount, mark, most_setting, setting, Draft, Style, MOST};
+use super::draft::{amount, mark, most_setting, setting, six_marks, Draft, Style, MOST};
 use super::Kind;
 use crate::book::{figure_places, Operator, INDICATORS, OPERATORS, SETTINGS, YEARS};
 use crate::filing::Field;
@@ -15,8 +15,12 @@ pub struct Plan {
     filled: u64,
     /// So many sets of values are shared by the operators; 0: each has its own.
     patterns: usize,
-    /// How many of a hundred marks are set.
+    /// How many of a hundred marks are kept; the others are cleared.
     marked: u64,
+    /// How many of a hundred operators keep all six.
+    unattested: u64,
+    /// How many marks are set again, some of them for a while only.
+    set_again: u64,
     interruptions: u64,
     withdrawals: u64,
     corrections: u64,
@@ -41,7 +45,8 @@ struct Alike {
 }
 
 impl Alike {
-    /// A join, the settings, the same amount at every figure, and the steps.
+    /// A join, the settings, the same amount at every figure, the steps, and
+    /// every mark cleared.
     fn fields(&self, operator: u8, steps: u64) -> Vec<Field> {
         let join = vec![Field::Join { operator }];
         let settings = (0..SETTINGS)
@@ -51,7 +56,8 @@ impl Alike {
             .map(|place| amount(operator, place, 0, self.base))
             .collect();
         let higher = vec![amount(operator, self.place, 0, self.step * steps)];
-        [join, settings, amounts, higher].concat()
+        let marks = six_marks(operator, 0);
+        [join, settings, amounts, higher, marks].concat()
     }
 }
 
@@ -60,6 +66,11 @@ impl Draft {
     pub fn sound(&mut self, kind: Kind) {
         let plan = self.plan(kind);
         self.make(&plan);
+        // With all of them kept nothing would settle.
+        if kind == Kind::NearlyAllMarked {
+            let places = 1 + self.random.up_to(2);
+            self.repeat(places, Draft::clear_mark);
+        }
         if self.random.one_in(60) {
             self.take_size();
         }
@@ -85,6 +96,8 @@ impl Draft {
             filled: self.random.pick(&[10, 50, 80, 100]),
             patterns: 0,
             marked: 0,
+            unattested: 0,
+            set_again: self.random.pick(&[0, 0, 0, 2]),
             interruptions: 0,
             withdrawals: self.random.pick(&[0, 0, 2]),
             corrections: self.random.pick(&[0, 0, 3]),
@@ -120,10 +133,15 @@ impl Draft {
                 plan.withdrawals = 10 + self.random.up_to(60);
                 plan.interruptions = self.random.pick(&[0, 30]);
             }
-            Kind::Marked => plan.marked = self.random.pick(&[5, 20, 50, 80]),
+            Kind::Marked => {
+                plan.marked = self.random.pick(&[5, 20, 50, 80]);
+                plan.unattested = self.random.pick(&[0, 30]);
+                plan.set_again = self.random.pick(&[0, 5]);
+            }
             Kind::NearlyAllMarked => plan.marked = self.random.pick(&[90, 97, 100]),
             _ => {
                 plan.marked = self.random.pick(&[0, 0, 0, 10]);
+                plan.unattested = self.random.pick(&[0, 0, 0, 20]);
                 plan.interruptions = self.random.pick(&[0, 0, 10]);
             }
         }
@@ -162,12 +180,9 @@ impl Draft {
         self.repeat(plan.interruptions, Draft::file_any_interruption);
         self.repeat(plan.withdrawals, Draft::withdrawal);
         self.repeat(plan.corrections, Draft::file_correction);
+        self.repeat(plan.set_again, Draft::set_mark_again);
         if plan.figures == Style::Ends && self.random.one_in(3) {
             self.fill_figure();
-        }
-        if plan.marked >= 90 {
-            let places = 1 + self.random.up_to(2);
-            self.repeat(places, Draft::unmark);
         }
     }
 
@@ -264,9 +279,7 @@ impl Draft {
                 self.amount_fields(operator, (year, figure), total)
             })
             .collect();
-        let marks = (0..INDICATORS)
-            .filter_map(|indicator| self.mark_field(operator, indicator, plan))
-            .collect();
+        let marks = self.mark_fields(operator, plan);
         [settings, amounts, marks].concat()
     }
 
@@ -295,11 +308,24 @@ impl Draft {
             .collect()
     }
 
-    /// A mark if one is set, rarely if not.
-    fn mark_field(&mut self, operator: u8, indicator: usize, plan: &Plan) -> Option<Field> {
-        let marked = self.random.percent(plan.marked);
-        if marked || self.random.one_in(20) {
-            Some(mark(operator, indicator, u8::from(marked)))
+    /// The marks of one operator that are cleared, and few of those that are kept.
+    fn mark_fields(&mut self, operator: u8, plan: &Plan) -> Vec<Field> {
+        let marked = if self.random.percent(plan.unattested) {
+            100
+        } else {
+            plan.marked
+        };
+        (0..INDICATORS)
+            .filter_map(|indicator| self.mark_field(operator, indicator, marked))
+            .collect()
+    }
+
+    /// A mark that is cleared; rarely one that is kept, because the join has set
+    /// it.
+    fn mark_field(&mut self, operator: u8, indicator: usize, marked: u64) -> Option<Field> {
+        let kept = self.random.percent(marked);
+        if !kept || self.random.one_in(20) {
+            Some(mark(operator, indicator, u8::from(kept)))
         } else {
             None
         }
@@ -383,7 +409,13 @@ impl Draft {
                 self.take_size();
             }
             2 => self.join_without_size(plan),
-            _ => self.all_marked(&plan),
+            _ => {
+                self.all_marked(plan);
+                // Refused by 11 and 12 at once.
+                if self.random.one_in(6) {
+                    self.take_size();
+                }
+            }
         }
     }
 
@@ -399,13 +431,28 @@ impl Draft {
         }
     }
 
-    fn all_marked(&mut self, plan: &Plan) {
-        self.make(plan);
-        if self.random.one_in(6) {
-            self.take_size();
+    /// Every mark is set: none was ever cleared, or all are set again.
+    fn all_marked(&mut self, plan: Plan) {
+        if self.random.one_in(2) {
+            self.none_cleared(plan);
+        } else {
+            self.make(&plan);
+            self.set_all_marks();
         }
+    }
+
+    /// Operators freshly joined, but for settings, amounts and interruptions.
+    fn none_cleared(&mut self, mut plan: Plan) {
+        plan.unattested = 100;
+        // These may clear a mark.
+        plan.corrections = 0;
+        plan.set_again = 0;
+        self.make(&plan);
+    }
+
+    fn set_all_marks(&mut self) {
         let marks = (0..OPERATORS as u8)
-            .flat_map(|operator| (0..INDICATORS).map(move |indicator| mark(operator, indicator, 1)))
+            .flat_map(|operator| six_marks(operator, 1))
             .collect();
         self.file_all(marks);
     }

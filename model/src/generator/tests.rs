@@ -1,5 +1,7 @@
 //! The generated filings show what they are made for.
 
+mod marks;
+
 use super::draft::MOST;
 use super::*;
 use crate::book::{Book, INDICATORS};
@@ -19,15 +21,12 @@ fn numbered(text: &str, numbers: impl IntoIterator<Item = u32>) -> Vec<String> {
         .collect()
 }
 
-/// What the field files the fresh value of, other than a figure.
+/// What the field files the fresh value of, other than a figure or a mark.
 fn files_fresh(field: &Field) -> Option<String> {
     match *field {
         Field::Setting {
             which, value: 0, ..
         } => Some(format!("setting {which}")),
-        Field::Mark {
-            indicator, mark: 0, ..
-        } => Some(format!("mark {indicator}")),
         Field::Index {
             number,
             value: 10_000,
@@ -35,6 +34,21 @@ fn files_fresh(field: &Field) -> Option<String> {
         Field::Rates { pot: 0, cap: 0 } => Some("rates".to_string()),
         _ => None,
     }
+}
+
+/// The indicator of a mark, and what the book has at its place.
+fn mark_in(book: &Book, field: &Field) -> Option<(u8, bool)> {
+    let Field::Mark {
+        operator,
+        indicator,
+        ..
+    } = *field
+    else {
+        return None;
+    };
+    let marks = &book.operators.get(usize::from(operator))?.marks;
+    let marked = *marks.get(usize::from(indicator))?;
+    Some((indicator, marked))
 }
 
 #[test]
@@ -74,7 +88,7 @@ fn has_all_outcomes(seed: u64) {
     assert!(refusals.iter().all(often), "{counts:?}");
     assert!(counts.contains_key("too long"), "{counts:?}");
     let settled = counts["operator points out in adjustment"];
-    assert!(settled >= 1200, "{counts:?}");
+    assert!(settled >= 1400, "{counts:?}");
     assert_eq!(counts.len(), 14, "{counts:?}");
 }
 
@@ -195,8 +209,12 @@ impl Notes {
     fn field_at(&mut self, book: &mut Book, filing: &[u8], offset: usize) -> Option<usize> {
         let field = field_at(filing, offset).ok()?;
         let before = files_fresh(&field).map(|what| (what, book.clone()));
+        let was_marked = mark_in(book, &field);
         let answer = apply(book, &field);
         self.answer(&field, answer);
+        if answer == Answer::Yes {
+            self.mark(was_marked, mark_in(book, &field));
+        }
         if let Some((what, before)) = before {
             self.note_if(before != *book, format!("{what} fresh again"));
         }
@@ -224,6 +242,14 @@ impl Notes {
             }
         );
         self.note_if(withdrawn && answer == Answer::Yes, "amount withdrawn");
+    }
+
+    /// Notes what a mark was before it was filed, and is after that.
+    fn mark(&mut self, before: Option<(u8, bool)>, after: Option<(u8, bool)>) {
+        if let (Some((indicator, before)), Some((_, after))) = (before, after) {
+            let [before, after] = [before, after].map(u8::from);
+            self.note(format!("mark {indicator} from {before} to {after}"));
+        }
     }
 
     /// Notes an amount that takes away all of its figure.
@@ -368,7 +394,10 @@ fn expected_numbers() -> Vec<String> {
         numbered("rate #", [0, 20_000]),
         numbered("setting # fresh again", 0..=2),
         numbered("figure # fresh again", 0..=7),
-        numbered("mark # fresh again", 0..=5),
+        numbered("mark # from 1 to 0", 0..=5),
+        numbered("mark # from 0 to 1", 0..=5),
+        numbered("mark # from 0 to 0", 0..=5),
+        numbered("mark # from 1 to 1", 0..=5),
         numbered("index # fresh again", 0..=3),
     ]
     .concat()

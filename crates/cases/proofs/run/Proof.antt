@@ -7,10 +7,10 @@ use Rattle.cases.proofs.run.Statement.{statement}
 use Rattle.cases.proofs.run.Tie as tie
 
 abbrev Inv-loop : tie.InvT-loop
-Inv-loop lends b₀ i₀ b i = i ≤ 628
+Inv-loop lends b₀ i₀ b i = i ≤ 668
 
 abbrev μ-loop : tie.MeasureT-loop
-μ-loop lends b₀ i₀ b i = 628 - i
+μ-loop lends b₀ i₀ b i = 668 - i
 
 fresh-requires : tie.Need-fresh-requires Inv-loop μ-loop
 fresh-requires c κs = search needs

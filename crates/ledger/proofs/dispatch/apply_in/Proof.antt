@@ -52,8 +52,8 @@ index-requires c κs = search needs
 -- join
 returns : tie.Need-returns
 returns c =
-    let start = c .before .before .before .before .before in
-    rw (c .before .before .before .filing-call .given .1) (c .join .ensures (start .args .marks .now) (start .args .settings .now) (start .args .figures .now) (start .args .indices .now) (start .args .pot-rate .now) (start .args .cap-rate .now))
+    let start = c .before .before .before .before .before .before in
+    rw (c .before .before .before .before .filing-call .given .1) (c .join .ensures (start .args .settings .now) (start .args .figures .now) (start .args .indices .now) (start .args .pot-rate .now) (start .args .cap-rate .now))
 
 -- setting
 returns-2 : tie.Need-returns-2

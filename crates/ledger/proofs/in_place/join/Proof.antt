@@ -18,9 +18,9 @@ use Rattle.ledger.proofs.in_place.join.Tie as tie
 -- 4
 returns : tie.Need-returns
 unfolding factsOf some
-returns c = λ marks settings figures indices pot cap.
+returns c = λ settings figures indices pot cap.
     let start = c .before in
-    rw (unknown-operator (bookWith (start .args .joined .now) marks settings figures pot cap indices) (Join (start .args .operator)) (rw (le-leb 16 (start .args .operator) (c .if1 .taken)) refl)) (refl, refl)
+    rw (unknown-operator (bookWith (start .args .joined .now) (start .args .marks .now) settings figures pot cap indices) (Join (start .args .operator)) (rw (le-leb 16 (start .args .operator) (c .if1 .taken)) refl)) (refl, refl)
 
 has-bit-requires : tie.Need-has-bit-requires
 has-bit-requires c κs = search needs
@@ -28,20 +28,31 @@ has-bit-requires c κs = search needs
 -- 6
 returns-2 : tie.Need-returns-2
 unfolding factsOf some isJoined
-returns-2 c = λ marks settings figures indices pot cap.
+returns-2 c = λ settings figures indices pot cap.
     let start = c .before .before .before .before in
-    rw (already-joined (bookWith (start .args .joined .now) marks settings figures pot cap indices) (Join (start .args .operator)) (rw (lt-leb 16 (start .args .operator) (omega arith)) refl) refl (rw (sym (c .before .has-bit .ensures) ∙ c .if2 .taken) refl)) (refl, refl)
+    rw (already-joined (bookWith (start .args .joined .now) (start .args .marks .now) settings figures pot cap indices) (Join (start .args .operator)) (rw (lt-leb 16 (start .args .operator) (omega arith)) refl) refl (rw (sym (c .before .has-bit .ensures) ∙ c .if2 .taken) refl)) (refl, refl)
 
 include-bit-requires : tie.Need-include-bit-requires
 include-bit-requires c κs = search needs
 
+mark-unattested-requires : tie.Need-mark-unattested-requires
+mark-unattested-requires c κs = search needs
+
 -- joined
 returns-3 : tie.Need-returns-3
 unfolding factsOf some isJoined changed
-returns-3 c = λ marks settings figures indices pot cap.
-    let start = c .before .before .before .before .before in
-    let free : has (start .args .joined .now) (start .args .operator) ≡ false = sym (c .before .before .has-bit .ensures) ∙ c .before .if2 .left in
-    rw (done (bookWith (start .args .joined .now) marks settings figures pot cap indices) (Join (start .args .operator)) (rw (lt-leb 16 (start .args .operator) (omega arith)) refl) refl (rw free refl) refl refl, ← c .include-bit .ensures) (refl, refl)
+returns-3 c = λ settings figures indices pot cap.
+    let start = c .before .before .before .before .before .before .before in
+    let free : has (start .args .joined .now) (start .args .operator) ≡ false = sym (c .before .before .before .before .has-bit .ensures) ∙ c .before .before .before .if2 .left in
+    rw (done (bookWith (start .args .joined .now) (start .args .marks .now) settings figures pot cap indices) (Join (start .args .operator)) (rw (lt-leb 16 (start .args .operator) (omega arith)) refl) refl (rw free refl) refl refl, ← c .before .before .include-bit .ensures, ← c .mark-unattested .ensures) (refl, refl)
 
 pub join-spec : {M : Type 1} → statement M
-join-spec = tie.close (tie.spec returns has-bit-requires returns-2 include-bit-requires returns-3)
+join-spec =
+    tie.close
+    (tie.spec
+    returns
+    has-bit-requires
+    returns-2
+    include-bit-requires
+    mark-unattested-requires
+    returns-3)
