@@ -2,7 +2,9 @@
 // there is a field for it. A mark is fresh as a join sets it.
 ghost use mathlib.Core.Path.{_≡_};
 ghost use Prim.Native.Nat.{_*_, _<_};
+ghost use mathlib.Core.Bool.{not, _&&_};
 ghost use Rattle.calls.specs.Limits.{operators, years, figureCount, settingCount, indicatorCount, indexCount};
+ghost use Rattle.calls.specs.Masks.{has};
 ghost use Rattle.book.specs.Book.{bookWith};
 ghost use Rattle.entries.specs.Entries.{EntryOf, places, joinAt, settingAt, amountAt, markAt, indexAt, ratesAt, callsAt};
 use book::figure_slot;
@@ -134,10 +136,7 @@ fn mark_entry(joined: u16, marks: &[u16; INDICATORS], place: usize) -> Entry
 {
     let operator = place / INDICATORS;
     let indicator = place % INDICATORS;
-    if !has_bit(joined, operator as u8) {
-        return Entry::Fresh;
-    }
-    if has_bit(marks[indicator], operator as u8) {
+    if !is_cleared(joined, marks[indicator], operator as u8) {
         return Entry::Fresh;
     }
     Entry::Differs(Encoded {
@@ -147,6 +146,16 @@ fn mark_entry(joined: u16, marks: &[u16; INDICATORS], place: usize) -> Entry
         value: 0,
         value_width: 0,
     })
+}
+
+// The mark of an operator that has joined, cleared since.
+fn is_cleared(joined: u16, marked: u16, operator: u8) -> bool
+    ensures { λ r. ⌜ r ≡ has joined operator && not (has marked operator) ⌝ }
+{
+    if has_bit(marked, operator) {
+        return false;
+    }
+    has_bit(joined, operator)
 }
 
 fn index_entry(indices: &[u32; INDICES], place: usize) -> Entry
