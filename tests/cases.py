@@ -4,7 +4,7 @@
 tests/cases.py >crates/cases/src/rows.rt    writes it anew
 tests/cases.py --check                      compares it with the one in the tree, and fails at the first line that differs
 
-With another number of commands the bounds in the crate's other files and in its proof change too; the prover tells where.
+With another number of commands the count in crates/cases/specs/Rows.antt changes too; the prover tells if it does not.
 """
 
 import argparse
@@ -59,6 +59,7 @@ ROWS = string.Template("""\
 // and 100,000,000 is added to its times. A store names a kind of value, a place and the value.
 // Made by tests/cases.py from commands.txt, a command a row: change the commands, not this file.
 ghost use Prim.Native.Nat.{_<_};
+ghost use Rattle.cases.specs.Rows.{cellCount};
 
 pub(crate) const COUNT: usize = $count;
 
@@ -66,13 +67,13 @@ const CASES: [u64; $size] = [
 $numbers];
 
 pub(crate) fn cell(at: usize) -> u64
-    requires { ⌜ at < $size ⌝ }
+    requires { ⌜ at < cellCount ⌝ }
 {
     CASES[at]
 }
 
 pub(crate) fn byte(at: usize) -> u8
-    requires { ⌜ at < $size ⌝ }
+    requires { ⌜ at < cellCount ⌝ }
 {
     (cell(at) % 256) as u8
 }

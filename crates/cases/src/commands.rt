@@ -1,5 +1,6 @@
 // The filing calls among the cases: a call's arguments are printed and put together.
 ghost use Prim.Native.Nat.{_+_, _<_};
+ghost use Rattle.cases.specs.Rows.{cellCount};
 use crate::Command;
 use crate::print::put_byte;
 use crate::print::put_number;
@@ -10,7 +11,7 @@ use crate::rows::cell;
 use calls::Call;
 
 pub(crate) fn command(kind: u8, at: usize) -> Command
-    requires { ⌜ at < 5337 ⌝ }
+    requires { ⌜ at + 7 < cellCount ⌝ }
 {
     match kind {
         1 => join(at),
@@ -25,14 +26,14 @@ pub(crate) fn command(kind: u8, at: usize) -> Command
 }
 
 fn join(at: usize) -> Command
-    requires { ⌜ at < 5337 ⌝ }
+    requires { ⌜ at + 7 < cellCount ⌝ }
 {
     let operator = put_byte(byte(at + 1));
     Command::Filing(Call::Join { operator })
 }
 
 fn setting(at: usize) -> Command
-    requires { ⌜ at < 5337 ⌝ }
+    requires { ⌜ at + 7 < cellCount ⌝ }
 {
     let operator = put_byte(byte(at + 1));
     let which = put_byte(byte(at + 2));
@@ -45,7 +46,7 @@ fn setting(at: usize) -> Command
 }
 
 fn interruption(at: usize) -> Command
-    requires { ⌜ at < 5337 ⌝ }
+    requires { ⌜ at + 7 < cellCount ⌝ }
 {
     let operator = put_byte(byte(at + 1));
     let sign = put_byte(byte(at + 2));
@@ -66,7 +67,7 @@ fn interruption(at: usize) -> Command
 }
 
 fn amount(at: usize) -> Command
-    requires { ⌜ at < 5337 ⌝ }
+    requires { ⌜ at + 7 < cellCount ⌝ }
 {
     let operator = put_byte(byte(at + 1));
     let year = put_byte(byte(at + 2));
@@ -83,7 +84,7 @@ fn amount(at: usize) -> Command
 }
 
 fn mark(at: usize) -> Command
-    requires { ⌜ at < 5337 ⌝ }
+    requires { ⌜ at + 7 < cellCount ⌝ }
 {
     let operator = put_byte(byte(at + 1));
     let indicator = put_byte(byte(at + 2));
@@ -96,7 +97,7 @@ fn mark(at: usize) -> Command
 }
 
 fn rates(at: usize) -> Command
-    requires { ⌜ at < 5337 ⌝ }
+    requires { ⌜ at + 7 < cellCount ⌝ }
 {
     let pot = put_word(cell(at + 1));
     let cap = put_word(cell(at + 2));
@@ -104,7 +105,7 @@ fn rates(at: usize) -> Command
 }
 
 fn index(at: usize) -> Command
-    requires { ⌜ at < 5337 ⌝ }
+    requires { ⌜ at + 7 < cellCount ⌝ }
 {
     let number = put_byte(byte(at + 1));
     let value = put_word(cell(at + 2));

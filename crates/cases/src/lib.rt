@@ -7,7 +7,8 @@ mod settle;
 mod show;
 mod stores;
 
-ghost use Prim.Native.Nat.{_*_, _<_};
+ghost use Prim.Native.Nat.{_+_, _*_, _<_};
+ghost use Rattle.cases.specs.Rows.{caseCount, cellCount};
 use book::Book;
 use calls::Call;
 use ledger::Answered;
@@ -44,7 +45,7 @@ fn run(lends: bool) {
 
 // One row of the cases: what to do, and seven numbers for it.
 fn step(b: Book, lends: bool, i: usize) -> Book
-    requires { ⌜ i < 668 ⌝ }
+    requires { ⌜ i < caseCount ⌝ }
 {
     let at = 8 * i;
     let kind = byte(at);
@@ -70,7 +71,7 @@ fn shown(filed: Answered) -> Book {
 }
 
 fn other(b: Book, kind: u8, at: usize) -> Book
-    requires { ⌜ at < 5337 ⌝ }
+    requires { ⌜ at + 7 < cellCount ⌝ }
 {
     match kind {
         8 => stores::store(b, at),

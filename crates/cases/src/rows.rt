@@ -2,6 +2,7 @@
 // and 100,000,000 is added to its times. A store names a kind of value, a place and the value.
 // Made by tests/cases.py from commands.txt, a command a row: change the commands, not this file.
 ghost use Prim.Native.Nat.{_<_};
+ghost use Rattle.cases.specs.Rows.{cellCount};
 
 pub(crate) const COUNT: usize = 668;
 
@@ -5353,13 +5354,13 @@ const CASES: [u64; 5344] = [
 ];
 
 pub(crate) fn cell(at: usize) -> u64
-    requires { ⌜ at < 5344 ⌝ }
+    requires { ⌜ at < cellCount ⌝ }
 {
     CASES[at]
 }
 
 pub(crate) fn byte(at: usize) -> u8
-    requires { ⌜ at < 5344 ⌝ }
+    requires { ⌜ at < cellCount ⌝ }
 {
     (cell(at) % 256) as u8
 }

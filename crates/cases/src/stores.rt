@@ -1,5 +1,6 @@
 // Puts a raw value into a book, so that one out of range can be made.
 ghost use Prim.Native.Nat.{_+_, _<_};
+ghost use Rattle.cases.specs.Rows.{cellCount};
 use crate::print::put;
 use crate::print::put_figure;
 use crate::print::put_half;
@@ -11,7 +12,7 @@ use crate::rows::cell;
 use book::Book;
 
 pub(crate) fn store(b: Book, at: usize) -> Book
-    requires { ⌜ at < 5337 ⌝ }
+    requires { ⌜ at + 7 < cellCount ⌝ }
 {
     let place = cell(at + 2);
     let value = cell(at + 3);

@@ -3,14 +3,15 @@
 use borrow.Author.Needs.{needs}
 use Prim.Native.Nat.{_-_, _≤_}
 use native.Mathlib.Omega.{arith}
+use Rattle.cases.specs.Rows.{caseCount}
 use Rattle.cases.proofs.run.Statement.{statement}
 use Rattle.cases.proofs.run.Tie as tie
 
 abbrev Inv-loop : tie.InvT-loop
-Inv-loop lends b₀ i₀ b i = i ≤ 668
+Inv-loop lends b₀ i₀ b i = i ≤ caseCount
 
 abbrev μ-loop : tie.MeasureT-loop
-μ-loop lends b₀ i₀ b i = 668 - i
+μ-loop lends b₀ i₀ b i = caseCount - i
 
 fresh-requires : tie.Need-fresh-requires Inv-loop μ-loop
 fresh-requires c κs = search needs
