@@ -1,11 +1,9 @@
 -- The bytes of a field to be written are those of the call that it files.
 -- Assumes nothing.
 use Prim.Native.Nat.{ℕ, _+_, _*_, _/_, _%_, _^_, _≤_, _<_}
-use mathlib.Core.Path.{_≡_, refl, sym, ap, _∙_}
-use mathlib.Core.Bool.{Bool, true, false, cond}
-use mathlib.Core.List.{List, [], _∷_, _++_, append-nil}
+use mathlib.Core.Path.{_≡_, refl}
+use mathlib.Core.List.{List, [], _∷_, append-nil}
 use native.Mathlib.Omega.{arith}
-use lib.ListN.{length}
 use Rattle.calls.specs.declared.Call.{Call}
 use Rattle.calls.specs.declared.Call.the-variants.{Join, Setting, Amount, Mark, Rates, Index}
 use Rattle.fields.specs.Encoding.{inBytes, fieldOf, encoded}
@@ -14,7 +12,7 @@ use Rattle.encoding.specs.Fields.{bytesIn}
 use Rattle.encoding.proofs.FieldLaws.{field-length}
 use Rattle.writing.specs.Written.{filingOf}
 use Rattle.entries.specs.declared.Entry.the-variants.{Fresh, Differs}
-use Rattle.entries.specs.Entries.{entryBytes, EntryOf}
+use Rattle.entries.specs.Entries.{EntryOf}
 
 -- a field by its parts
 abbrev fieldBy : ℕ → ℕ → ℕ → ℕ → ℕ → Encoded

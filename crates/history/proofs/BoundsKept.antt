@@ -19,7 +19,6 @@ use Rattle.calls.proofs.MaskLaws.{including-has, including-other, including-lt,
 use Rattle.book.proofs.Bounds.{Bounds}
 use Rattle.book.proofs.SlotLaws.{store-holds}
 use Rattle.ledger.proofs.UnattestedLaws.{unattested-long, unattested-at}
-use Rattle.history.proofs.EntryLaws.{Within}
 use Rattle.history.proofs.TableLaws.{Enters}
 
 -- the mark of one operator leaves the others'

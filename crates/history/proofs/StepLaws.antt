@@ -12,7 +12,7 @@ use borrow.Author.Tests.{eqb-true, eqb-false, eq-eqb, ne-eqb}
 use Rattle.book.specs.declared.Book.{Book}
 use Rattle.calls.specs.declared.Call.{Call}
 use Rattle.calls.specs.declared.Call.the-variants.{Join, Setting, Interruption, Amount, Mark, Rates, Index}
-use Rattle.calls.specs.Limits.{operators, years, figureCount, settingCount, indicatorCount, indexCount, figureLimit}
+use Rattle.calls.specs.Limits.{operators, years, figureCount, settingCount, indicatorCount, indexCount}
 use Rattle.calls.specs.Masks.{has, including, excluding, remasked}
 use Rattle.calls.specs.Held.{Same}
 use Rattle.calls.specs.Call.{Entry, factsOf}

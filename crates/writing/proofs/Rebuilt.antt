@@ -1,27 +1,27 @@
 -- Filing the calls that a book in range is written as, from a fresh book, is accepted throughout and leads to the book.
 -- Assumes nothing.
-use Prim.Native.Nat.{ℕ, zero, suc, _+_, _*_, _%_, _^_, _≤_, _<_}
+use Prim.Native.Nat.{ℕ, suc, _+_, _*_, _%_, _^_, _≤_, _<_}
 use mathlib.Core.Path.{_≡_, refl, sym, ap, subst, _∙_}
 use mathlib.Core.Bool.{Bool, true, false, cond, not, _&&_, false≢true}
-use mathlib.Core.List.{List, [], _∷_, _++_, map}
+use mathlib.Core.List.{List, [], _∷_, map}
 use native.Mathlib.Nat.{mod-one, mod-eq-of-lt}
 use native.Mathlib.Omega.{arith}
 use lib.Dec.{eqb}
-use lib.ListN.{length, getD, set, replicate, length-replicate, getD-replicate, length-map}
+use lib.ListN.{length, getD, replicate, getD-replicate, length-map}
 use lib.Seq.{ext-getD}
 use borrow.Author.Tests.{eqb-true, eqb-false}
 use Rattle.calls.proofs.Flags.{and-left, and-right}
 use Rattle.book.specs.declared.Book.{Book}
 use Rattle.calls.specs.declared.Call.{Call}
 use Rattle.calls.specs.declared.Call.the-variants.{Join, Setting, Amount, Mark, Rates, Index}
-use Rattle.calls.specs.Limits.{operators, years, figureCount, settingCount, indicatorCount, indexCount, settingLimit, figureLimit, rateLimit, indexLeast, indexMost, freshIndex}
-use Rattle.calls.specs.Masks.{has, including}
+use Rattle.calls.specs.Limits.{operators, years, figureCount, settingCount, indicatorCount, indexCount, settingLimit, figureLimit, freshIndex}
+use Rattle.calls.specs.Masks.{has}
 use Rattle.calls.specs.Answers.{yes-said}
 use Rattle.book.specs.Book.{bookWith, freshBook, isJoined, isMarked, settingOf, figureOf, indexOf, settingSlot, figureSlot, most, inRange}
 use Rattle.book.proofs.Bounds.{Bounds, bounded}
 use Rattle.book.proofs.SlotLaws.{setting-slot-lt, figure-slot-lt}
 use Rattle.history.proofs.Kept.{fresh-in-range}
-use Rattle.ledger.specs.Calls.{unattested, withFigures}
+use Rattle.ledger.specs.Calls.{unattested}
 use Rattle.ledger.proofs.AdmissionLaws.{acceptedCall}
 use Rattle.writing.specs.Written.{inTurn, unlessFresh, joinCalls, settingCalls, amountCalls, markCalls, indexCalls, rateCalls, writtenCalls}
 use Rattle.writing.proofs.Filings.{Leads, stays-ranged, leads-none, leads-one, leads-then, leads-turns, leads-rows}

@@ -1,6 +1,6 @@
 -- The calls that a book in range is written as fit their bytes, and their filing has at most 7,067 bytes.
 -- Assumes nothing.
-use Prim.Native.Nat.{ℕ, zero, suc, _+_, _*_, _^_, _≤_, _<_}
+use Prim.Native.Nat.{ℕ, zero, suc, _+_, _*_, _≤_, _<_}
 use mathlib.Core.Path.{_≡_, refl, sym, ap, _∙_}
 use mathlib.Core.Bool.{Bool, true, false, cond, not, _&&_}
 use mathlib.Core.List.{List, [], _∷_, _++_, append-assoc}
@@ -15,8 +15,7 @@ use Rattle.calls.specs.Limits.{operators, years, figureCount, settingCount, ind
 use Rattle.book.specs.Book.{isJoined, isMarked, settingOf, figureOf, indexOf, most, inRange}
 use Rattle.book.proofs.Bounds.{Bounds, bounded}
 use Rattle.fields.specs.Encoding.{inBytes, fieldOf, encoded, FitsBytes}
-use Rattle.fields.proofs.EncodingLaws.{bytes-length}
-use Rattle.writing.specs.Written.{inTurn, unlessFresh, joinCalls, settingCalls, amountCalls, markCalls, indexCalls, rateCalls, writtenCalls, filingOf, written}
+use Rattle.writing.specs.Written.{inTurn, joinCalls, settingCalls, amountCalls, markCalls, indexCalls, rateCalls, writtenCalls, filingOf}
 use Rattle.writing.proofs.ReadBack.{AllFit}
 
 -- calls that fit their bytes, and a filing of at most so many bytes

@@ -1,6 +1,6 @@
 -- What holds of the written filing of every book in range. Proofs: proofs/ReadBack.antt, proofs/WrittenLength.antt.
 -- Assumes nothing.
-use Prim.Native.Nat.{ℕ, _≤_}
+use Prim.Native.Nat.{_≤_}
 use mathlib.Core.Path.{_≡_}
 use mathlib.Core.Logic.{_↔_}
 use mathlib.Core.Bool.{true, false}

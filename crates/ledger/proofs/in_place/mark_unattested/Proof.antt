@@ -1,7 +1,7 @@
 -- `ledger::in_place::mark_unattested` meets its contract. The loop's invariant: the first masks have the operator, the others are as
 -- they were.
 -- Assumes nothing.
-use mathlib.Core.Path.{_≡_, refl, sym, _∙_}
+use mathlib.Core.Path.{_≡_, refl, _∙_}
 use Prim.Native.Nat.{_-_}
 use native.Mathlib.Omega.{arith}
 use lib.ListN.{length, length-set}
