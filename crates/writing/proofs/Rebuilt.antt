@@ -1,16 +1,16 @@
 -- Filing the calls that a book in range is written as, from a fresh book, is accepted throughout and leads to the book.
 -- Assumes nothing.
-use Prim.Native.Nat.{ℕ, suc, _+_, _*_, _%_, _^_, _≤_, _<_}
+use Prim.Native.Nat.{ℕ, suc, _+_, _*_, _≤_, _<_}
 use mathlib.Core.Path.{_≡_, refl, sym, ap, subst, _∙_}
 use mathlib.Core.Bool.{Bool, true, false, cond, not, _&&_, false≢true}
 use mathlib.Core.List.{List, [], _∷_, map}
-use native.Mathlib.Nat.{mod-one, mod-eq-of-lt}
 use native.Mathlib.Omega.{arith}
 use lib.Dec.{eqb}
 use lib.ListN.{length, getD, replicate, getD-replicate, length-map}
 use lib.Seq.{ext-getD}
 use borrow.Author.Tests.{eqb-true, eqb-false}
 use Rattle.calls.proofs.Flags.{and-left, and-right}
+use Rattle.calls.proofs.MaskLaws.{has-zero}
 use Rattle.book.specs.declared.Book.{Book}
 use Rattle.calls.specs.declared.Call.{Call}
 use Rattle.calls.specs.declared.Call.the-variants.{Join, Setting, Amount, Mark, Rates, Index}
@@ -26,7 +26,7 @@ use Rattle.ledger.proofs.AdmissionLaws.{acceptedCall}
 use Rattle.writing.specs.Written.{inTurn, unlessFresh, joinCalls, settingCalls, amountCalls, markCalls, indexCalls, rateCalls, writtenCalls}
 use Rattle.writing.proofs.Filings.{Leads, stays-ranged, leads-none, leads-one, leads-then, leads-turns, leads-rows}
 use Rattle.book.proofs.Mixed.{mix, mix-set, mix-same, mix-at, mix-all, map-at}
-use Rattle.writing.proofs.MixedMasks.{low-set, low-clear, low-free, mixBits, mix-bit-same, mix-cleared, mix-no-bits, mix-all-bits}
+use Rattle.writing.proofs.MixedMasks.{mixBits, mix-bit-at, mix-bit-same, mix-cleared, mix-included, mix-no-bits, mix-all-bits}
 use Rattle.writing.proofs.Accepting.{join-accepted, setting-accepted, amount-accepted, mark-accepted, index-accepted, rates-accepted}
 
 -- the marks that joins leave: every mark of those who have joined
@@ -43,6 +43,10 @@ noFigures = replicate 384 0
 abbrev freshIndices : List ℕ
 freshIndices = replicate indexCount freshIndex
 
+-- a book after joins alone
+abbrev joinedBook : ℕ → Book
+joinedBook joined = bookWith joined (joinedMarks joined) noSettings noFigures 0 0 freshIndices
+
 -- a value above 0 is a joined operator's
 joined-if : (t : Bool) (limit value : ℕ) → value ≤ cond t limit 0 → (value ≡ 0 → ⊥) → (t ≡ true) × (value ≤ limit)
 joined-if true limit value le some = (refl, le)
@@ -54,7 +58,7 @@ module _ (b : Book) (ranged : inRange b ≡ true) where
 
   -- joins, bit by bit
   joinStage : ℕ → Book
-  joinStage k = bookWith (b .joined % 2 ^ k) (joinedMarks (b .joined % 2 ^ k)) noSettings noFigures 0 0 freshIndices
+  joinStage k = joinedBook (mixBits k (b .joined) 0)
 
   join-step : (k : ℕ) → k < operators → inRange (joinStage k) ≡ true
       → Leads (joinStage k) (cond (isJoined b k) (Join k ∷ []) []) (joinStage (suc k))
@@ -64,15 +68,16 @@ module _ (b : Book) (ranged : inRange b ≡ true) where
       go : (t : Bool) → has (b .joined) k ≡ t → Leads (joinStage k) (cond t (Join k ∷ []) []) (joinStage (suc k))
       go true e =
           leads-one (joinStage k) (Join k) (joinStage (suc k)) yes-said in-range
-          (join-accepted (joinStage k) k lt (low-free (b .joined) k)
-          ∙ ap (λ (mask : ℕ). acceptedCall (bookWith mask (joinedMarks mask) noSettings noFigures 0 0 freshIndices) yes-said) (low-set (b .joined) k e))
-      go false e = rw (low-clear (b .joined) k e) (leads-none (joinStage (suc k)) (rw (← low-clear (b .joined) k e) in-range))
+          (join-accepted (joinStage k) k lt (mix-bit-at (b .joined) 0 k ∙ has-zero k)
+          ∙ ap (λ (mask : ℕ). acceptedCall (joinedBook mask) yes-said) (mix-included (b .joined) 0 k (has-zero k) e))
+      go false e =
+          subst (λ (mask : ℕ). Leads (joinStage k) [] (joinedBook mask)) (mix-bit-same (b .joined) 0 k (e ∙ sym (has-zero k))) (leads-none (joinStage k) in-range)
 
-  joins-lead : Leads freshBook (joinCalls b) (bookWith (b .joined) (joinedMarks (b .joined)) noSettings noFigures 0 0 freshIndices)
+  joins-lead : Leads freshBook (joinCalls b) (joinedBook (b .joined))
   unfolding joinCalls freshBook joinStage
   joins-lead =
-      let whole = mod-eq-of-lt (bounds .joined-small) in
-      let none = mod-one (b .joined) in
+      let whole = mix-all-bits operators (b .joined) 0 (bounds .joined-small) (omega arith) in
+      let none = mix-no-bits (b .joined) 0 in
       rw (whole, none) at (leads-turns operators _ joinStage (rw none fresh-in-range) join-step)
 
   -- settings, place by place
