@@ -14,13 +14,13 @@ use Rattle.book.specs.Book.{inRange}
 use Rattle.ledger.specs.Calls.{apply, file, filedBook, filedAnswers}
 use Rattle.history.proofs.Kept.{filed-applied, filed-stays}
 use Rattle.fields.specs.Field.{Found, at-end, call-then, fieldAt}
-use Rattle.filing.specs.Reader.{Fields, field, ended, broken, followed, fieldsFrom, fieldsOf, Outcome, reading, run, read}
+use Rattle.filing.specs.Reader.{Fields, field, ended, broken, followed, fieldsFrom, fieldsOf, Reached, reading, run, readFrom, read}
 use Rattle.filing.specs.Laws.{callsIn, offsetsIn, ending, ReadAsCallsIfInRange}
 use Rattle.fields.proofs.FieldLaws.{Stands, stands}
 use Rattle.filing.proofs.WalkLaws.{after}
 
 -- a run of fields of which so many were applied
-record Runs (b : Book) (fields : Fields) (many : ℕ) (r : Outcome) : Type 0 where
+record Runs (b : Book) (fields : Fields) (many : ℕ) (r : Reached) : Type 0 where
   within : many ≤ length (callsIn fields)
   left-book : r .book ≡ filedBook b (take many (callsIn fields))
   none-refused : (place : ℕ) → place < many → isRefused (getD (filedAnswers b (take many (callsIn fields))) place (accepted yes-said)) ≡ false
@@ -30,7 +30,7 @@ record Runs (b : Book) (fields : Fields) (many : ℕ) (r : Outcome) : Type 0 whe
   at-offset : r .offset ≡ getD (offsetsIn fields) many 0
 
 -- a run that counts on from a number
-abbrev RunsFrom : Book → Fields → ℕ → Outcome → Type 0
+abbrev RunsFrom : Book → Fields → ℕ → Reached → Type 0
 RunsFrom b fields applied r = (many : ℕ) × (r .applied ≡ applied + many) × Runs b fields many r
 
 -- no call is left
@@ -101,10 +101,10 @@ runs (field call at rest) b applied ranged =
     one-more call at rest b applied ranged (runs rest (file b call .book) (suc applied) (filed-stays b call ranged))
 
 -- a run that nothing refuses gets to the end: as many fields are allowed as bytes are left
-abbrev ToTheEnd : List ℕ → Outcome → Type 0
+abbrev ToTheEnd : List ℕ → Reached → Type 0
 ToTheEnd bytes r = isRefused (r .said) ≡ false → r .offset ≡ length bytes
 
-end-by-answer : (bytes : List ℕ) (refused : Bool) (r next : Outcome) → isRefused (r .said) ≡ refused → ToTheEnd bytes next → ToTheEnd bytes (cond refused r next)
+end-by-answer : (bytes : List ℕ) (refused : Bool) (r next : Reached) → isRefused (r .said) ≡ refused → ToTheEnd bytes next → ToTheEnd bytes (cond refused r next)
 end-by-answer bytes true r next e later fine = absurd (true≢false (sym e ∙ fine))
 end-by-answer bytes false r next e later fine = later fine
 
@@ -125,7 +125,7 @@ to-the-end (suc most) bytes at enough inside b applied =
     go later (refused-by number) placed = λ fine. absurd (true≢false fine)
 
 read-runs : (b : Book) (bytes : List ℕ) → inRange b ≡ true → read b bytes ≡ run b 0 (fieldsOf bytes)
-unfolding read
+unfolding read readFrom fieldsOf
 read-runs b bytes valid = rw valid refl
 
 pub read-as-calls : (b : Book) (bytes : List ℕ) → ReadAsCallsIfInRange b bytes

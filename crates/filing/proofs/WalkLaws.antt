@@ -12,11 +12,11 @@ use Rattle.calls.specs.Answers.{Said, refused-by, accepted, onAnswer, isRefused
 use Rattle.book.specs.declared.Book.{Book}
 use Rattle.book.specs.Book.{isJoined, figureOf, inRange}
 use Rattle.ledger.specs.Table.{answerTo}
-use Rattle.ledger.specs.Calls.{changed, outcomeOf, apply, Outcome as Given}
+use Rattle.ledger.specs.Calls.{changed, outcomeOf, apply, Outcome}
 use Rattle.history.proofs.Kept.{stays}
 use Rattle.fields.specs.Field.{Found, at-end, call-then, fieldAt}
-use Rattle.filing.specs.Reader.{Fields, field, broken, followed, fieldsFrom, Outcome, reading, run}
-use Rattle.filing.specs.Steps.{Ready, Progress, stopped, advanced, steppedOn, stepped}
+use Rattle.filing.specs.Reader.{Fields, field, broken, followed, fieldsFrom, Reached, reading, run}
+use Rattle.filing.specs.Steps.{Ready, Turned, stopped, advanced, steppedOn, stepped}
 use Rattle.fields.proofs.FieldLaws.{Stands, ends, stands}
 
 -- what follows an answer of the field reader
@@ -49,40 +49,40 @@ refused-leaves b call = go (changed b call) (answerTo (isJoined b) (figureOf b) 
     go new (refused-by number) e = refl
 
 -- a call that was applied: the next field follows
-abbrev moved : Outcome → ℕ → Given → Progress
+abbrev moved : Reached → ℕ → Outcome → Turned
 moved r next given = record { reached = reading (given .book) (r .applied + 1) next (given .said); continues = true }
 
 -- what a reading comes to in the end
-unfoldable pub completed : List ℕ → Progress → Outcome
-completed bytes walk =
-    cond (walk .continues) (run (walk .reached .book) (walk .reached .applied) (fieldsFrom (length bytes) bytes (walk .reached .offset)))
-    (walk .reached)
+unfoldable pub completed : List ℕ → Turned → Reached
+completed bytes turn =
+    cond (turn .continues) (run (turn .reached .book) (turn .reached .applied) (fieldsFrom (length bytes) bytes (turn .reached .offset)))
+    (turn .reached)
 
 -- how much is left to read, more than nothing while it continues
-unfoldable pub remaining : List ℕ → Progress → ℕ
-remaining bytes walk = cond (walk .continues) (suc (length bytes - walk .reached .offset)) 0
+unfoldable pub remaining : List ℕ → Turned → ℕ
+remaining bytes turn = cond (turn .continues) (suc (length bytes - turn .reached .offset)) 0
 
 -- of a reading that continues
-module _ (bytes : List ℕ) (walk : Progress) (more : walk .continues ≡ true) where
-  pub remaining-more : remaining bytes walk ≡ suc (length bytes - walk .reached .offset)
+module _ (bytes : List ℕ) (turn : Turned) (more : turn .continues ≡ true) where
+  pub remaining-more : remaining bytes turn ≡ suc (length bytes - turn .reached .offset)
   unfolding remaining
   remaining-more = rw more refl
 
-  pub completed-more : completed bytes walk
-      ≡ run (walk .reached .book) (walk .reached .applied) (fieldsFrom (length bytes) bytes (walk .reached .offset))
+  pub completed-more : completed bytes turn
+      ≡ run (turn .reached .book) (turn .reached .applied) (fieldsFrom (length bytes) bytes (turn .reached .offset))
   unfolding completed
   completed-more = rw more refl
 
-pub completed-stopped : (bytes : List ℕ) (walk : Progress) → walk .continues ≡ false → completed bytes walk ≡ walk .reached
+pub completed-stopped : (bytes : List ℕ) (turn : Turned) → turn .continues ≡ false → completed bytes turn ≡ turn .reached
 unfolding completed
-completed-stopped bytes walk stops = rw stops refl
+completed-stopped bytes turn stops = rw stops refl
 
--- a walk that follows a reading: it is ready for a step again, and less is left to read
-pub record Follows (bytes : List ℕ) (r : Outcome) (walk : Progress) : Type 0 where
-  pub ready : Ready bytes (walk .reached)
-  pub less : remaining bytes walk < suc (length bytes - r .offset)
+-- a turn that follows a reading: it is ready for a step again, and less is left to read
+pub record Follows (bytes : List ℕ) (r : Reached) (turn : Turned) : Type 0 where
+  pub ready : Ready (turn .reached)
+  pub less : remaining bytes turn < suc (length bytes - r .offset)
 
-module _ (bytes : List ℕ) (r : Outcome) where
+module _ (bytes : List ℕ) (r : Reached) where
   abbrev left : Fields
   left = fieldsFrom (length bytes) bytes (r .offset)
 
@@ -102,17 +102,17 @@ module _ (bytes : List ℕ) (r : Outcome) where
       go (accepted at-end) = refl
       go (refused-by number) = refl
 
-  pub step-follows : Ready bytes r → Follows bytes r (stepped r (fieldAt bytes (r .offset)))
+  pub step-follows : Ready r → Follows bytes r (stepped r (fieldAt bytes (r .offset)))
   unfolding remaining stepped steppedOn stopped advanced onAnswer
   step-follows ready = go (fieldAt bytes (r .offset)) (stands bytes (r .offset))
     where
-      by-answer : (given : Given) (next : ℕ) (refused : Bool) → inRange (given .book) ≡ true → (r .offset + 3 ≤ next) × (next ≤ length bytes)
+      by-answer : (given : Outcome) (next : ℕ) (refused : Bool) → inRange (given .book) ≡ true → (r .offset + 3 ≤ next) × (next ≤ length bytes)
           → Follows bytes r (cond refused (stopped r (given .said)) (moved r next given))
-      by-answer given next true kept placed = record { ready = record { counted = ready .counted; inside = ready .inside; ranged = ready .ranged }; less = omega arith }
-      by-answer given next false kept placed = record { ready = record { counted = omega arith; inside = omega arith; ranged = kept }; less = omega arith }
+      by-answer given next true kept placed = record { ready = record { counted = ready .counted; ranged = ready .ranged }; less = omega arith }
+      by-answer given next false kept placed = record { ready = record { counted = omega arith; ranged = kept }; less = omega arith }
 
       go : (found : Said Found) → Stands bytes (r .offset) found → Follows bytes r (stepped r found)
       go (accepted (call-then call next)) placed =
           by-answer (apply (r .book) call) next (isRefused (apply (r .book) call .said)) (stays (r .book) call (ready .ranged)) placed
-      go (accepted at-end) placed = record { ready = record { counted = ready .counted; inside = ready .inside; ranged = ready .ranged }; less = omega arith }
-      go (refused-by number) placed = record { ready = record { counted = ready .counted; inside = ready .inside; ranged = ready .ranged }; less = omega arith }
+      go (accepted at-end) placed = record { ready = record { counted = ready .counted; ranged = ready .ranged }; less = omega arith }
+      go (refused-by number) placed = record { ready = record { counted = ready .counted; ranged = ready .ranged }; less = omega arith }

@@ -12,7 +12,7 @@ use Rattle.calls.specs.Answers.{Said, refused-by, accepted, isRefused, Acceptan
 use Rattle.book.specs.declared.Book.{Book}
 use Rattle.book.specs.Book.{inRange}
 use Rattle.ledger.specs.Calls.{file, filedBook, filedAnswers}
-use Rattle.filing.specs.Reader.{Fields, field, ended, broken, fieldsOf, Outcome, read}
+use Rattle.filing.specs.Reader.{Fields, field, ended, broken, fieldsOf, Reached, read}
 
 -- the calls of a run of fields, the offsets of their tags with that of the end or of the broken field, and what stands there
 unfoldable pub callsIn : Fields → List Call
@@ -31,7 +31,7 @@ ending (ended at) = accepted yes-said
 ending (broken number at) = refused-by number
 
 module _ (b : Book) (bytes : List ℕ) where
-  abbrev pub readInto : Outcome
+  abbrev pub readInto : Reached
   readInto = read b bytes
 
   -- the calls of the filing, and those that were applied

@@ -10,6 +10,7 @@ use Rattle.book.specs.declared.Book.{Book}
 use Rattle.book.specs.Book.{inRange}
 use Rattle.ledger.specs.Calls.{apply}
 use Rattle.fields.specs.Field.{Found, at-end, call-then, fieldAt}
+use Rattle.filing.specs.declared.Progress.{Progress}
 use Rattle.filing.specs.declared.Reading.{Reading}
 
 -- "A filing is a run of fields": each a call with the offset of its tag; the run goes to the end, or to a field refused by 1, 2 or 3
@@ -31,28 +32,35 @@ fieldsFrom (suc most) bytes at = onAnswer (λ (number : ℕ). broken number at) 
 unfoldable pub fieldsOf : List ℕ → Fields
 fieldsOf bytes = fieldsFrom (length bytes) bytes 0
 
--- what reading gives
-pub record Outcome : Type 0 where
+-- what a reading has reached: the book, how many fields were applied, the offset where it stands, and what is said there
+pub record Reached : Type 0 where
   pub book : Book
   pub applied : ℕ
   pub offset : ℕ
   pub said : Said Acceptance
 
-abbrev pub reading : Book → ℕ → ℕ → Said Acceptance → Outcome
+abbrev pub reading : Book → ℕ → ℕ → Said Acceptance → Reached
 reading b applied offset answer = record { book = b; applied = applied; offset = offset; said = answer }
 
 -- "applies fields in order up to the first refusal, keeps those before it, and answers with the number applied and the offset of the
 -- refused tag (the filing's length if none)"
-unfoldable pub run : Book → ℕ → Fields → Outcome
+unfoldable pub run : Book → ℕ → Fields → Reached
 run b applied (field call at rest) =
     cond (isRefused (apply b call .said)) (reading b applied at (apply b call .said)) (run (apply b call .book) (suc applied) rest)
 run b applied (ended at) = reading b applied at (accepted yes-said)
 run b applied (broken number at) = reading b applied at (refused-by number)
 
--- a book out of range: 5, "none applied, offset 0"
-unfoldable pub read : Book → List ℕ → Outcome
-read b bytes = cond (inRange b) (run b 0 (fieldsOf bytes)) (reading b 0 0 (refused-by 5))
+-- reading from an offset on; a book out of range: 5, none applied, the offset where it was to begin
+unfoldable pub readFrom : Book → List ℕ → ℕ → Reached
+readFrom b bytes at = cond (inRange b) (run b 0 (fieldsFrom (length bytes) bytes at)) (reading b 0 at (refused-by 5))
 
--- what the code's result says
-abbrev pub told : Reading → Outcome
-told r = reading (r .book) (r .applied) (r .offset) (said (r .answer))
+-- reading a filing: from its first byte on, so for a book out of range "none applied, offset 0"
+unfoldable pub read : Book → List ℕ → Reached
+read b bytes = readFrom b bytes 0
+
+-- what the code's progress says beside a book, and what its result says
+abbrev pub reachedBy : Book → Progress → Reached
+reachedBy b progress = reading b (progress .applied) (progress .offset) (said (progress .answer))
+
+abbrev pub told : Reading → Reached
+told r = reachedBy (r .book) (r .progress)

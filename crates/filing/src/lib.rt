@@ -3,13 +3,18 @@ mod reader;
 
 use book::Book;
 use calls::Answer;
-pub use reader::read;
+pub use reader::read_from;
 
-// What reading gives: the book afterwards, how many fields were applied, the offset of the refused one (the filing's length
-// if none, 0 for a book out of range), and yes or the refusal.
-pub struct Reading {
-    pub book: Book,
+// How far a reading has come: how many fields were applied, the offset of the next tag, and yes or the refusal. Of a reading that has
+// ended the offset is that of the refused tag (the filing's length if none).
+pub struct Progress {
     pub applied: usize,
     pub offset: usize,
     pub answer: Answer,
+}
+
+// What reading gives: the book afterwards, and how far the reading came.
+pub struct Reading {
+    pub book: Book,
+    pub progress: Progress,
 }

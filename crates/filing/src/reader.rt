@@ -1,5 +1,5 @@
-// Reading a filing into a book: its fields applied in order, up to the first refusal. The book's parts are taken out once, altered where
-// they stand by each field's call, and put together at the end.
+// Reading a filing into a book, on slice and number: its fields from an offset on, applied in order, up to the first refusal. The book's
+// parts are taken out once, altered where they stand by each field's call, and put together at the end.
 ghost use mathlib.Core.Path.{_≡_};
 ghost use mathlib.Core.Bool.{true};
 ghost use Prim.Native.Nat.{_<_};
@@ -8,8 +8,9 @@ ghost use Rattle.book.specs.declared.Book.{Book as Declared·Book};
 ghost use Rattle.book.specs.Book.{bookWith, inRange};
 ghost use Rattle.ledger.specs.Calls.{apply as Calls·apply};
 ghost use Rattle.fields.specs.Field.{fieldAt};
-ghost use Rattle.filing.specs.Reader.{reading, told, read as Reader·read};
-ghost use Rattle.filing.specs.Steps.{Ready, reachedBy, toldWalk, stopped, advanced, stepped};
+ghost use Rattle.filing.specs.Reader.{reachedBy, told, readFrom};
+ghost use Rattle.filing.specs.Steps.{Ready, toldTurn, stopped, advanced, stepped};
+use crate::Progress;
 use crate::Reading;
 use book::Book;
 use book::in_range;
@@ -24,25 +25,31 @@ use fields::Field;
 use fields::field_at;
 use ledger::apply_in;
 
-// A reading under way, but for the book: what it has reached, and whether it goes on with a next field.
-struct Walk {
-    applied: usize,
-    offset: usize,
-    answer: Answer,
+// A reading under way, but for the book: how far it has come, and whether it goes on with a next field.
+struct Turn {
+    progress: Progress,
     continues: bool,
 }
 
-pub fn read(b: Book, bytes: &[u8]) -> Reading
-    ensures { λ r. ⌜ told r ≡ Reader·read b (now (bytes .entry)) ⌝ }
+pub fn read_from(b: Book, bytes: &[u8], at: usize) -> Reading
+    ensures { λ r. ⌜ told r ≡ readFrom b (now (bytes .entry)) at ⌝ }
 {
     if !in_range(b) {
-        return Reading {
-            book: b,
+        let progress = Progress {
             applied: 0,
-            offset: 0,
+            offset: at,
             answer: Answer::Refused(Refusal::OutOfRange),
         };
+        return Reading { book: b, progress };
     }
+    read_fields(b, bytes, at)
+}
+
+// The fields of a filing, into a book in range.
+fn read_fields(b: Book, bytes: &[u8], at: usize) -> Reading
+    requires { ⌜ inRange b ≡ true ⌝ }
+    ensures { λ r. ⌜ told r ≡ readFrom b (now (bytes .entry)) at ⌝ }
+{
     let mut joined = b.joined;
     let mut marks = b.marks;
     let mut settings = b.settings;
@@ -50,14 +57,18 @@ pub fn read(b: Book, bytes: &[u8]) -> Reading
     let mut pot_rate = b.pot_rate;
     let mut cap_rate = b.cap_rate;
     let mut indices = b.indices;
-    let mut walk = Walk {
+    let progress = Progress {
         applied: 0,
-        offset: 0,
+        offset: at,
         answer: Answer::Yes,
+    };
+    let mut turn = Turn {
+        progress,
         continues: true,
     };
-    while walk.continues {
-        walk = step(
+    while turn.continues {
+        let reached = turn.progress;
+        turn = step(
             &mut joined,
             &mut marks,
             &mut settings,
@@ -65,7 +76,7 @@ pub fn read(b: Book, bytes: &[u8]) -> Reading
             &mut pot_rate,
             &mut cap_rate,
             &mut indices,
-            walk,
+            reached,
             bytes,
         );
     }
@@ -78,13 +89,8 @@ pub fn read(b: Book, bytes: &[u8]) -> Reading
         cap_rate,
         indices,
     };
-    let answer = walk.answer;
-    Reading {
-        book,
-        applied: walk.applied,
-        offset: walk.offset,
-        answer,
-    }
+    let progress = turn.progress;
+    Reading { book, progress }
 }
 
 // The field at the offset.
@@ -96,11 +102,11 @@ fn step(
     pot_rate: &mut u32,
     cap_rate: &mut u32,
     indices: &mut [u32; INDICES],
-    reached: Walk,
+    reached: Progress,
     bytes: &[u8],
-) -> Walk
-    requires { ⌜ Ready (now bytes) (reachedBy (bookWith (now joined) (now marks) (now settings) (now figures) (now «pot_rate») (now «cap_rate») (now indices)) reached) ⌝ }
-    ensures { λ r. ⌜ toldWalk (bookWith (now (joined .exit)) (now (marks .exit)) (now (settings .exit)) (now (figures .exit)) (now («pot_rate» .exit)) (now («cap_rate» .exit)) (now (indices .exit))) r ≡ stepped (reachedBy (bookWith (now (joined .entry)) (now (marks .entry)) (now (settings .entry)) (now (figures .entry)) (now («pot_rate» .entry)) (now («cap_rate» .entry)) (now (indices .entry))) reached) (fieldAt (now (bytes .entry)) (reached .offset)) ⌝ }
+) -> Turn
+    requires { ⌜ Ready (reachedBy (bookWith (now joined) (now marks) (now settings) (now figures) (now «pot_rate») (now «cap_rate») (now indices)) reached) ⌝ }
+    ensures { λ r. ⌜ toldTurn (bookWith (now (joined .exit)) (now (marks .exit)) (now (settings .exit)) (now (figures .exit)) (now («pot_rate» .exit)) (now («cap_rate» .exit)) (now (indices .exit))) r ≡ stepped (reachedBy (bookWith (now (joined .entry)) (now (marks .entry)) (now (settings .entry)) (now (figures .entry)) (now («pot_rate» .entry)) (now («cap_rate» .entry)) (now (indices .entry))) reached) (fieldAt (now (bytes .entry)) (reached .offset)) ⌝ }
 {
     match field_at(bytes, reached.offset) {
         Field::CallThen { filing_call, next } => advance(
@@ -129,12 +135,12 @@ fn advance(
     pot_rate: &mut u32,
     cap_rate: &mut u32,
     indices: &mut [u32; INDICES],
-    reached: Walk,
+    reached: Progress,
     filing_call: Call,
     next: usize,
-) -> Walk
+) -> Turn
     requires { ⌜ (reached .applied < next) × (inRange (bookWith (now joined) (now marks) (now settings) (now figures) (now «pot_rate») (now «cap_rate») (now indices)) ≡ true) ⌝ }
-    ensures { λ r. ⌜ toldWalk (bookWith (now (joined .exit)) (now (marks .exit)) (now (settings .exit)) (now (figures .exit)) (now («pot_rate» .exit)) (now («cap_rate» .exit)) (now (indices .exit))) r ≡ advanced (reachedBy (bookWith (now (joined .entry)) (now (marks .entry)) (now (settings .entry)) (now (figures .entry)) (now («pot_rate» .entry)) (now («cap_rate» .entry)) (now (indices .entry))) reached) next (Calls·apply (bookWith (now (joined .entry)) (now (marks .entry)) (now (settings .entry)) (now (figures .entry)) (now («pot_rate» .entry)) (now («cap_rate» .entry)) (now (indices .entry))) «filing_call») ⌝ }
+    ensures { λ r. ⌜ toldTurn (bookWith (now (joined .exit)) (now (marks .exit)) (now (settings .exit)) (now (figures .exit)) (now («pot_rate» .exit)) (now («cap_rate» .exit)) (now (indices .exit))) r ≡ advanced (reachedBy (bookWith (now (joined .entry)) (now (marks .entry)) (now (settings .entry)) (now (figures .entry)) (now («pot_rate» .entry)) (now («cap_rate» .entry)) (now (indices .entry))) reached) next (Calls·apply (bookWith (now (joined .entry)) (now (marks .entry)) (now (settings .entry)) (now (figures .entry)) (now («pot_rate» .entry)) (now («cap_rate» .entry)) (now (indices .entry))) «filing_call») ⌝ }
 {
     let answer = apply_in(
         joined,
@@ -149,22 +155,28 @@ fn advance(
     if is_refused(answer) {
         return stop(reached, answer);
     }
-    Walk {
+    let progress = Progress {
         applied: reached.applied + 1,
         offset: next,
         answer,
+    };
+    Turn {
+        progress,
         continues: true,
     }
 }
 
 // The end, or a field that is refused by its bytes or by its call.
-fn stop(reached: Walk, answer: Answer) -> Walk
-    ensures { λ r. ⌜ ((b : Declared·Book) → toldWalk b r ≡ stopped (reachedBy b reached) (said answer)) ⌝ }
+fn stop(reached: Progress, answer: Answer) -> Turn
+    ensures { λ r. ⌜ ((b : Declared·Book) → toldTurn b r ≡ stopped (reachedBy b reached) (said answer)) ⌝ }
 {
-    Walk {
+    let progress = Progress {
         applied: reached.applied,
         offset: reached.offset,
         answer,
+    };
+    Turn {
+        progress,
         continues: false,
     }
 }

@@ -16,7 +16,7 @@ use Rattle.ledger.specs.Table.{linesFor, answerTo}
 use Rattle.ledger.specs.Calls.{outcomeOf, changed, apply, file}
 use Rattle.ledger.proofs.LowestOfCalls.{lowest-of-calls}
 use Rattle.fields.proofs.LowestOfFields.{lowest-of-fields}
-use Rattle.filing.specs.Reader.{read}
+use Rattle.filing.specs.Reader.{readFrom, read}
 use Rattle.filing.proofs.ReadLaws.{read-as-calls}
 use Rattle.values.specs.Indicator.{Indicator}
 use Rattle.settlement.specs.Settlement.{settlingLines, nothing, settlementBy, settledBy}
@@ -54,7 +54,7 @@ module _ (b : Book) (call : Call) where
   filed false out = rw out (judged ((5, true) ∷ []) (factsOf call .answer) b (changed b call) (only-five call))
 
 pub demand-1 : Demand1
-unfolding read settledBy writerAnswer writerBuffer reportAnswer reportBuffer bufferAfter
+unfolding read readFrom settledBy writerAnswer writerBuffer reportAnswer reportBuffer bufferAfter
 demand-1 =
     record {
       filing = λ b call. filed b call (inRange b) refl;

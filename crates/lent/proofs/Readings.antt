@@ -6,12 +6,11 @@ use denote.Builtin.{u8}
 use denote.Ref.{now}
 use denote.Steps.{only}
 use denote.Struct.Laws as LL
-use Rattle.calls.specs.Answers.{said}
-use Rattle.filing.specs.Reader.{reading, read}
-use Rattle.lent.proofs.Progress as N
-use Rattle.lent.proofs.Progress.Laws as N′
-use Rattle.lent.proofs.ReadBook as F
-use Rattle.lent.proofs.ReadBook.Laws as F′
+use Rattle.filing.specs.Reader.{reachedBy, read}
+use Rattle.filing.proofs.Progress as N
+use Rattle.filing.proofs.Progress.Laws as N′
+use Rattle.filing.proofs.Reading as F
+use Rattle.filing.proofs.Reading.Laws as F′
 use Rattle.lent.proofs.Plain.{Plain, of-struct}
 use Rattle.lent.proofs.Passed.{Passed, shared-slice}
 use Rattle.lent.proofs.Contracts.{Paired, Promise}
@@ -20,8 +19,8 @@ use Rattle.lent.proofs.Filings.{book}
 abbrev pub progress : Plain
 progress = of-struct N.the-type N′.the-laws N′.the-plain N′.the-copy
 
-abbrev pub readBook : Paired book progress
-readBook = record {
+abbrev pub reading : Paired book progress
+reading = record {
   row = F.the-row;
   name = F.the-type .name;
   state = λ r. r .book;
@@ -39,5 +38,5 @@ abbrev pub Bytes : List (Passed 1)
 Bytes = shared-slice u8 ∷ []
 
 -- the book that is left, and what is told beside it, are what reading gives
-abbrev pub Reads : Promise readBook Bytes
-Reads b xs a b′ = reading b′ (a .applied) (a .offset) (said (a .answer)) ≡ read b (now (xs .0))
+abbrev pub Reads : Promise reading Bytes
+Reads b xs progress b′ = reachedBy b′ progress ≡ read b (now (xs .0))

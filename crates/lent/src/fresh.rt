@@ -9,14 +9,5 @@ use filing::Reading;
 pub fn read_fresh(bytes: &[u8]) -> Reading
     ensures { λ r. ⌜ told r ≡ Reader·read freshBook (now (bytes .entry)) ⌝ }
 {
-    let read = held::read(book::fresh(), bytes);
-    let book = read.book;
-    let progress = read.progress;
-    let answer = progress.answer;
-    Reading {
-        book,
-        applied: progress.applied,
-        offset: progress.offset,
-        answer,
-    }
+    held::read(book::fresh(), bytes)
 }

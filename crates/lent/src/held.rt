@@ -3,12 +3,12 @@
 ghost use mathlib.Core.Path.{_≡_};
 ghost use Rattle.calls.specs.Answers.{said};
 ghost use Rattle.ledger.specs.Calls.{file as Calls·file};
-ghost use Rattle.filing.specs.Reader.{reading, read as Reader·read};
-use crate::ReadBook;
+ghost use Rattle.filing.specs.Reader.{told, read as Reader·read};
 use crate::lending;
 use crate::reading;
 use book::Book;
 use calls::Call;
+use filing::Reading;
 use ledger::Answered;
 
 pub fn join(mut b: Book, operator: u8) -> Answered
@@ -69,9 +69,9 @@ pub fn index(mut b: Book, number: u8, value: u32) -> Answered
     Answered { book: b, answer }
 }
 
-pub fn read(mut b: Book, bytes: &[u8]) -> ReadBook
-    ensures { λ r. ⌜ reading (r .book) (r .progress .applied) (r .progress .offset) (said (r .progress .answer)) ≡ Reader·read b (now (bytes .entry)) ⌝ }
+pub fn read(mut b: Book, bytes: &[u8]) -> Reading
+    ensures { λ r. ⌜ told r ≡ Reader·read b (now (bytes .entry)) ⌝ }
 {
     let progress = reading::read(&mut b, bytes);
-    ReadBook { book: b, progress }
+    Reading { book: b, progress }
 }

@@ -5,8 +5,6 @@ pub mod held;
 mod lending;
 mod reading;
 
-use book::Book;
-use calls::Answer;
 pub use fresh::read_fresh;
 pub use lending::amount;
 pub use lending::index;
@@ -16,17 +14,3 @@ pub use lending::mark;
 pub use lending::rates;
 pub use lending::setting;
 pub use reading::read;
-
-// What reading gives beside the book: how many fields were applied, the offset of the refused one (the filing's length if none, 0 for
-// a book out of range), and yes or the refusal.
-pub struct Progress {
-    pub applied: usize,
-    pub offset: usize,
-    pub answer: Answer,
-}
-
-// A reading by value: the book afterwards, and the rest.
-pub struct ReadBook {
-    pub book: Book,
-    pub progress: Progress,
-}

@@ -8,7 +8,7 @@ use lib.ListN.{length}
 use borrow.Author.Tests.{lt-ltb, le-ltb}
 use Rattle.calls.specs.Answers.{Said, refused-by, accepted, onAnswer, isRefused}
 use Rattle.book.specs.Book.{freshBook}
-use Rattle.filing.specs.Reader.{Outcome, read}
+use Rattle.filing.specs.Reader.{Reached, read}
 use Rattle.text.specs.Text.{bytesOf}
 use Rattle.output.specs.Output.{refusedField, settlementText, readingText, outputOf}
 
@@ -32,7 +32,7 @@ module _ (filing : List ℕ) where
     pub output-read : isRefused (read freshBook filing .said) ≡ false → settlementText (read freshBook filing .book) ≡ outputOf filing
     unfolding outputOf readingText
     output-read fine =
-        let r : Outcome = read freshBook filing in
+        let r : Reached = read freshBook filing in
         rw (
           le-ltb 65536 (length filing) short,
           fine-text (r .said) fine (λ (number : ℕ). refusedField number (r .offset)) (settlementText (r .book)),

@@ -9,7 +9,7 @@ use Rattle.book.specs.declared.Book.{Book}
 use Rattle.calls.specs.Answers.{onAnswer, Acceptance}
 use Rattle.book.specs.Book.{freshBook}
 use Rattle.settlement.specs.Settlement.{settled}
-use Rattle.filing.specs.Reader.{Outcome, read}
+use Rattle.filing.specs.Reader.{Reached, read}
 use Rattle.text.specs.Text.{bytesOf, decimal}
 use Rattle.report.specs.Report.{textOf}
 
@@ -25,7 +25,7 @@ unfoldable pub settlementText : Book → List ℕ
 settlementText b = onAnswer (λ (number : ℕ). refusedBy number ++ bytesOf "\n") (λ (value : Acceptance). textOf b) (settled b .said)
 
 -- a filing that was read: the first field refused, or the settlement of the book
-unfoldable pub readingText : Outcome → List ℕ
+unfoldable pub readingText : Reached → List ℕ
 readingText r = onAnswer (λ (number : ℕ). refusedField number (r .offset)) (λ (value : Acceptance). settlementText (r .book)) (r .said)
 
 -- "at most 65,536 bytes (a longer file prints `too long` ..)"

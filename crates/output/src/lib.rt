@@ -27,9 +27,10 @@ pub fn output(filing: &[u8], out: &mut [u8; 2048]) -> usize
         return put_word(out, 0, b"too long\n");
     }
     let reading = read_fresh(filing);
-    let offset = reading.offset;
     let b = reading.book;
-    let answer = reading.answer;
+    let progress = reading.progress;
+    let offset = progress.offset;
+    let answer = progress.answer;
     match answer {
         Answer::Refused(refusal) => put_refused_field(out, number_of(refusal), offset),
         _ => put_settlement(out, b),

@@ -9,7 +9,7 @@ use Rattle.rewriting.specs.declared.Stream.{Stream}
 use Rattle.rewriting.specs.declared.Stream.the-variants.{Output, Error}
 use Rattle.calls.specs.Answers.{onAnswer, Acceptance}
 use Rattle.book.specs.Book.{freshBook}
-use Rattle.filing.specs.Reader.{Outcome, read}
+use Rattle.filing.specs.Reader.{Reached, read}
 use Rattle.text.specs.Text.{bytesOf}
 use Rattle.output.specs.Output.{refusedField}
 use Rattle.writing.specs.Written.{written}
@@ -23,7 +23,7 @@ abbrev pub onStream : Stream → List ℕ → Printout
 onStream stream text = record { stream = stream; text = text }
 
 -- a filing that was read: the line of the first field refused, or the book's written filing
-unfoldable pub writtenOr : Outcome → Printout
+unfoldable pub writtenOr : Reached → Printout
 writtenOr r =
     onAnswer (λ (number : ℕ). onStream Error (refusedField number (r .offset)))
     (λ (value : Acceptance). onStream Output (written (r .book))) (r .said)

@@ -42,9 +42,10 @@ pub fn rewritten(filing: &[u8], out: &mut [u8; 7067]) -> Printed
         };
     }
     let reading = read_fresh(filing);
-    let offset = reading.offset;
     let b = reading.book;
-    let answer = reading.answer;
+    let progress = reading.progress;
+    let offset = progress.offset;
+    let answer = progress.answer;
     match answer {
         Answer::Refused(refusal) => Printed {
             stream: Stream::Error,

@@ -27,6 +27,12 @@ use denote.Struct.Declared.{Declared}
 use denote.Struct.Laws as LL
 use denote.Struct.Rest.{all-own, ownAt, rest, own-open, own-out, own-shut}
 use denote.Struct.Values.{Values}
+use Rattle.book.specs.declared.Book.{Book}
+use Rattle.book.proofs.Book as B
+use Rattle.book.proofs.Book.Laws as B′
+use Rattle.filing.specs.declared.Reading.{Reading}
+use Rattle.filing.proofs.Reading as G
+use Rattle.filing.proofs.Reading.Laws as G′
 use Rattle.walker.specs.declared.Walker.{Walker}
 use Rattle.walker.specs.declared.Taken.{Taken}
 use Rattle.walker.specs.Walk.{walkerAt}
@@ -39,7 +45,16 @@ use Rattle.walker.proofs.Taken.Laws as R′
 abbrev pub walkerIn : Lfts 1 → RattleType
 walkerIn κs = T.the-row (namedLft 1 0 tt κs)
 
--- the machine values of a slice and of a walker
+-- the machine values of a book, of a reading, of a slice and of a walker
+abbrev pub bookVal : Book → Val
+bookVal b = LL.val B.the-type B′.the-laws b
+
+abbrev pub OfBook : Book → Type 0
+OfBook b = Is B.the-row b (bookVal b ∷ [])
+
+abbrev pub readingVal : Reading → Val
+readingVal r = LL.val G.the-type G′.the-laws r
+
 abbrev pub sliceIn : RefT (List ℕ) → Val
 sliceIn bytes = sliceVal (bytes .ptr) (length (bytes .now))
 

@@ -1,9 +1,12 @@
 // A walk over a filing: the lent bytes and the offset of the next tag in one record, with thin functions over it.
+mod readings;
 mod steps;
 mod walkers;
 mod walks;
 
 use fields::Field;
+pub use readings::read;
+pub use readings::read_on;
 pub use walkers::next;
 pub use walkers::offset;
 pub use walkers::walker_over;

@@ -3,7 +3,7 @@
 ghost use Prim.Native.Nat.{_≤_};
 use book::Book;
 use calls::number_of;
-use filing::read;
+use lent::read_fresh;
 use libc::STDOUT_FILENO;
 use text::Filled;
 use writer::write;
@@ -212,7 +212,7 @@ const CASE_M: [u8; 199] = [
 ];
 
 fn main() {
-    let reading = read(book::fresh(), &CASE_M);
+    let reading = read_fresh(&CASE_M);
     let b = reading.book;
     show(b, 0);
     show(b, 198);

@@ -17,7 +17,7 @@ use Rattle.fields.specs.Field.{call-then, fieldAt}
 use Rattle.fields.specs.Encoding.{inBytes, fieldOf, encoded, FitsBytes}
 use Rattle.fields.proofs.FieldLaws.{ends}
 use Rattle.fields.proofs.EncodingLaws.{decodes}
-use Rattle.filing.specs.Reader.{Fields, field, followed, fieldsFrom, fieldsOf, reading, run, read}
+use Rattle.filing.specs.Reader.{Fields, field, followed, fieldsFrom, fieldsOf, reading, run, readFrom, read}
 use Rattle.writing.specs.Written.{filingOf}
 use Rattle.writing.specs.Laws.{NoneRefused}
 
@@ -85,7 +85,7 @@ reads (call ∷ rest) before (suc most) b applied fits ranged fine enough =
 -- a whole filing into a fresh book
 pub read-calls : (calls : List Call) → AllFit calls → NoneRefused (filedAnswers freshBook calls)
     → read freshBook (filingOf calls) ≡ reading (filedBook freshBook calls) (length calls) (length (filingOf calls)) (accepted yes-said)
-unfolding read fieldsOf
+unfolding read readFrom fieldsOf
 read-calls calls fits fine =
     let none : 0 + length calls ≡ length calls = omega arith in
     rw fresh-in-range (rw none at (reads calls [] (length (filingOf calls)) freshBook 0 fits fresh-in-range fine (omega arith)))

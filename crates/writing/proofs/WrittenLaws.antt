@@ -10,7 +10,7 @@ use Rattle.book.specs.Book.{every, freshBook, isJoined, isMarked, settingOf, fi
 use Rattle.calls.specs.Masks.{has}
 use Rattle.fields.specs.Encoding.{inBytes, fieldOf, encoded}
 use lib.ListN.{length}
-use Rattle.filing.specs.Reader.{Outcome, reading, read}
+use Rattle.filing.specs.Reader.{Reached, reading, read}
 use Rattle.writing.specs.Written.{inTurn, joinCalls, settingCalls, amountCalls, markCalls, indexCalls, rateCalls, writtenCalls, filingOf, written}
 use Rattle.writing.specs.Laws.{WrittenOut, Fullest, fullest}
 use Rattle.writing.proofs.Rebuilt.{written-leads}
@@ -27,9 +27,9 @@ read-back b ranged =
 -- the same bytes give the same book back
 same-book : (b other : Book) → inRange b ≡ true → inRange other ≡ true → written b ≡ written other → b ≡ other
 same-book b other ranged ranged-too same =
-    sym (ap (λ (r : Outcome). r .book) (read-back b ranged))
+    sym (ap (λ (r : Reached). r .book) (read-back b ranged))
     ∙ ap (λ (bytes : List ℕ). read freshBook bytes .book) same
-    ∙ ap (λ (r : Outcome). r .book) (read-back other ranged-too)
+    ∙ ap (λ (r : Reached). r .book) (read-back other ranged-too)
 
 pub written-out : (b : Book) (ranged : inRange b ≡ true) → WrittenOut b ranged
 unfolding written

@@ -9,7 +9,7 @@ use Rattle.output.specs.Output.{refusedField, settlementText}
 use Rattle.book.specs.Book.{freshBook}
 use Rattle.calls.specs.Answers.{isRefused, said}
 use Rattle.calls.proofs.SaidLaws.{told-accepted}
-use Rattle.filing.specs.Reader.{Outcome, read, told}
+use Rattle.filing.specs.Reader.{Reached, read, told}
 use Rattle.output.proofs.RefusalLaws.{at-front}
 use Rattle.output.proofs.OutputLaws.{output-long, output-refused, output-read}
 use borrow.Author.Needs.{needs}
@@ -49,26 +49,26 @@ put-settlement-requires c κs = search needs
 -- a field is refused
 returns-2 : tie.Need-returns-2
 returns-2 c =
-    let begun = c .before .before .before .before .before .before .before .before .before .before in
+    let begun = c .before .before .before .before .before .before .before .before .before .before .before in
     let filing = begun .args .filing .now in
-    let reading = c .before .before .before .before .before .before .before .read-fresh in
+    let reading = c .before .before .before .before .before .before .before .before .read-fresh in
     let same : told (reading .result) ≡ read freshBook filing = reading .ensures in
-    let refused = ap (λ (r : Outcome). r .said) (sym same) ∙ ap said (c .before .before .before .before .answer .given .1) in
+    let refused = ap (λ (r : Reached). r .said) (sym same) ∙ ap said (c .before .before .before .before .answer .given .1) in
     let number = c .before .number-of .ensures in
     let line = c .put-refused-field .ensures in
-    let text = (λ i. refusedField (number i) (same i .offset)) ∙ output-refused filing (omega (arith, c .before .before .before .before .before .before .before .before .if1 .left)) _ refused in
+    let text = (λ i. refusedField (number i) (same i .offset)) ∙ output-refused filing (omega (arith, c .before .before .before .before .before .before .before .before .before .if1 .left)) _ refused in
     (line .0 ∙ ap length text, line .1 ∙ ap (putInto _) text)
 
 -- read to its end
 returns-3 : tie.Need-returns-3
 returns-3 c =
-    let begun = c .before .before .before .before .before .before .before in
+    let begun = c .before .before .before .before .before .before .before .before in
     let filing = begun .args .filing .now in
-    let reading = c .before .before .before .before .read-fresh in
+    let reading = c .before .before .before .before .before .read-fresh in
     let same : told (reading .result) ≡ read freshBook filing = reading .ensures in
-    let fine = ap (λ (r : Outcome). isRefused (r .said)) (sym same) ∙ told-accepted (reading .result .answer) (c .before .before .match .keys2) in
+    let fine = ap (λ (r : Reached). isRefused (r .said)) (sym same) ∙ told-accepted (reading .result .progress .answer) (c .before .before .match .keys2) in
     let lines = c .put-settlement .ensures in
-    let text = ap (λ (r : Outcome). settlementText (r .book)) same ∙ output-read filing (omega (arith, c .before .before .before .before .before .if1 .left)) fine in
+    let text = ap (λ (r : Reached). settlementText (r .book)) same ∙ output-read filing (omega (arith, c .before .before .before .before .before .before .if1 .left)) fine in
     (lines .0 ∙ ap length text, lines .1 ∙ ap (putInto _) text)
 
 pub output-spec : {M : Type 1} → statement M

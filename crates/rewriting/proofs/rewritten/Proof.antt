@@ -7,7 +7,7 @@ use lib.ListN.{length}
 use Rattle.book.specs.Book.{freshBook, inRange}
 use Rattle.calls.specs.Answers.{isRefused, said}
 use Rattle.calls.proofs.SaidLaws.{told-accepted}
-use Rattle.filing.specs.Reader.{Outcome, read, told}
+use Rattle.filing.specs.Reader.{Reached, read, told}
 use Rattle.text.specs.Text.{bytesOf}
 use Rattle.text.specs.Buffer.{putInto}
 use Rattle.output.specs.Output.{refusedField}
@@ -50,36 +50,36 @@ put-refused-field-requires c κs = search needs
 
 put-book-requires : tie.Need-put-book-requires
 put-book-requires c κs =
-    let begun = c .before .before .before .before .before .before in
+    let begun = c .before .before .before .before .before .before .before in
     let filing = begun .args .filing .now in
-    let reading = c .before .before .before .read-fresh in
+    let reading = c .before .before .before .before .read-fresh in
     let same : told (reading .result) ≡ read freshBook filing = reading .ensures in
-    let ranged : inRange (reading .result .book) ≡ true = ap (λ (r : Outcome). inRange (r .book)) same ∙ read-in-range filing in
+    let ranged : inRange (reading .result .book) ≡ true = ap (λ (r : Reached). inRange (r .book)) same ∙ read-in-range filing in
     (ranged, omega (arith, written-out (reading .result .book) ranged .most))
 
 -- a field is refused
 returns-2 : tie.Need-returns-2
 returns-2 c =
-    let begun = c .before .before .before .before .before .before .before .before .before .before in
+    let begun = c .before .before .before .before .before .before .before .before .before .before .before in
     let filing = begun .args .filing .now in
-    let reading = c .before .before .before .before .before .before .before .read-fresh in
+    let reading = c .before .before .before .before .before .before .before .before .read-fresh in
     let same : told (reading .result) ≡ read freshBook filing = reading .ensures in
-    let refused = ap (λ (r : Outcome). r .said) (sym same) ∙ ap said (c .before .before .before .before .answer .given .1) in
+    let refused = ap (λ (r : Reached). r .said) (sym same) ∙ ap said (c .before .before .before .before .answer .given .1) in
     let number = c .before .number-of .ensures in
     let line = c .put-refused-field .ensures in
-    let text : onStream Error (refusedField (c .before .number-of .result) (reading .result .offset)) ≡ _ = (λ i. onStream Error (refusedField (number i) (same i .offset))) ∙ printout-refused filing (omega (arith, c .before .before .before .before .before .before .before .before .if1 .left)) _ refused in
+    let text : onStream Error (refusedField (c .before .number-of .result) (reading .result .progress .offset)) ≡ _ = (λ i. onStream Error (refusedField (number i) (same i .offset))) ∙ printout-refused filing (omega (arith, c .before .before .before .before .before .before .before .before .before .if1 .left)) _ refused in
     ((λ i. (Error, line .0 i)) ∙ ap toldOf text, line .1 ∙ ap (λ (p : Printout). putInto (begun .args .out .now) (p .text)) text)
 
 -- read to its end
 returns-3 : tie.Need-returns-3
 returns-3 c =
-    let begun = c .before .before .before .before .before .before .before in
+    let begun = c .before .before .before .before .before .before .before .before in
     let filing = begun .args .filing .now in
-    let reading = c .before .before .before .before .read-fresh in
+    let reading = c .before .before .before .before .before .read-fresh in
     let same : told (reading .result) ≡ read freshBook filing = reading .ensures in
-    let fine = ap (λ (r : Outcome). isRefused (r .said)) (sym same) ∙ told-accepted (reading .result .answer) (c .before .before .match .keys2) in
+    let fine = ap (λ (r : Reached). isRefused (r .said)) (sym same) ∙ told-accepted (reading .result .progress .answer) (c .before .before .match .keys2) in
     let bytes = c .put-book .ensures in
-    let text = ap (λ (r : Outcome). onStream Output (written (r .book))) same ∙ printout-read filing (omega (arith, c .before .before .before .before .before .if1 .left)) fine in
+    let text = ap (λ (r : Reached). onStream Output (written (r .book))) same ∙ printout-read filing (omega (arith, c .before .before .before .before .before .before .if1 .left)) fine in
     ((λ i. (Output, bytes .0 i)) ∙ ap toldOf text, bytes .1 ∙ ap (λ (p : Printout). putInto (begun .args .out .now) (p .text)) text)
 
 pub rewritten-spec : {M : Type 1} → statement M

@@ -6,7 +6,8 @@ use Rattle.book.specs.declared.Book.{Book}
 use Rattle.calls.specs.Answers.{isRefused}
 use Rattle.book.specs.Book.{bookWith}
 use Rattle.ledger.specs.Calls.{apply}
-use Rattle.filing.specs.Steps.{reachedBy, stopped, advanced}
+use Rattle.filing.specs.Reader.{reachedBy}
+use Rattle.filing.specs.Steps.{stopped, advanced}
 use Rattle.filing.proofs.WalkLaws.{refused-leaves}
 use borrow.Author.Needs.{needs}
 use Rattle.filing.proofs.reader.advance.Statement.{statement}
@@ -33,8 +34,8 @@ returns c =
     rw stops
     (c .stop .ensures _ ∙ (λ i. stopped (reachedBy ((gives .1 ∙ refused-leaves old (start .args .filing-call) stops) i) (start .args .reached)) (gives .0 i)))
 
-add-t20 : tie.Need-add-t20
-add-t20 c = search needs
+add-t21 : tie.Need-add-t21
+add-t21 c = search needs
 
 -- applied
 returns-2 : tie.Need-returns-2
@@ -50,4 +51,4 @@ returns-2 c =
 pub advance-spec : {M : Type 1} → statement M
 advance-spec =
     tie.close
-    (tie.spec apply-in-requires is-refused-requires stop-requires returns add-t20 returns-2)
+    (tie.spec apply-in-requires is-refused-requires stop-requires returns add-t21 returns-2)

@@ -15,8 +15,8 @@ read-requires c κs = search needs
 
 returns : tie.Need-returns
 returns c =
-    let filing = c .before .before .before .before .before .args .bytes .now in
-    c .before .before .read .ensures ∙ ap (λ (b : Book). read b filing) (c .before .before .before .fresh .ensures)
+    let filing = c .before .before .before .args .bytes .now in
+    c .read .ensures ∙ ap (λ (b : Book). read b filing) (c .before .fresh .ensures)
 
 pub read-fresh-spec : {M : Type 1} → statement M
 read-fresh-spec = tie.close (tie.spec fresh-requires read-requires returns)

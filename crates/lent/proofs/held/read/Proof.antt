@@ -8,10 +8,10 @@ use Rattle.lent.proofs.held.read.Key.{name}
 use Rattle.lent.proofs.held.read.Statement.{statement}
 use Rattle.lent.proofs.held.read.Code as code
 use Rattle.lent.proofs.HeldCall.{held-call}
-use Rattle.lent.proofs.Readings.{readBook, Bytes, Reads}
+use Rattle.lent.proofs.Readings.{reading, Bytes, Reads}
 
 pub read-spec : {M : Type 1} → statement M
 unfolding code.routine
 read-spec 𝓤 H 𝓜 𝓖 𝓡 =
-    held-call readBook Bytes Reads 𝓤 H 𝓜 𝓖 𝓡 code.env name lent.name lent.routine (code.unfolded 𝓤 H 𝓜 𝓡) code.calls-lent·reading·read (lent-thm.met 𝓤 H 𝓜 𝓖 𝓡)
+    held-call reading Bytes Reads 𝓤 H 𝓜 𝓖 𝓡 code.env name lent.name lent.routine (code.unfolded 𝓤 H 𝓜 𝓡) code.calls-lent·reading·read (lent-thm.met 𝓤 H 𝓜 𝓖 𝓡)
     (λ κs a. own.clauses 𝓤 H (𝓖 .A) (𝓜 .mem) (𝓡 .run) κs a .ensures) (λ κs a r ws. id⊢ 𝓤 _)
