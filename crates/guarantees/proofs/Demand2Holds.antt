@@ -2,6 +2,7 @@
 -- Assumes nothing.
 use mathlib.Core.Path.{refl}
 use mathlib.Core.List.{List}
+use lib.ListN.{getD}
 use Rattle.book.specs.declared.Book.{Book}
 use Rattle.values.specs.Indicator.{Indicator, electricity}
 use Rattle.indicators.proofs.PointLaws.{points-made-up}
@@ -11,11 +12,12 @@ use Rattle.settlement.proofs.SettledLaws.{settles-ranged, settled-so, placed}
 use Rattle.writing.proofs.WrittenLaws.{written-out}
 use Rattle.guarantees.specs.Demand2.{Defined, Demand2}
 
--- the settlement that is defined for a book has the numbers that are defined
-defined-so : (b : Book) (indicators : List Indicator) → Defined b indicators (settlementBy b indicators)
+-- the settlement that is defined for a book has the numbers that are defined, and a book that settles gets it
+defined : (b : Book) (indicators : List Indicator) → Settles b indicators → Defined b indicators (settledBy b indicators .settlement)
 unfolding settlementBy pointsAt
-defined-so b indicators =
-    record {
+defined b indicators settles =
+    rw (settled-so b indicators settles)
+    (record {
       pools-are = refl;
       points-are = refl;
       pot-is = refl;
@@ -23,13 +25,10 @@ defined-so b indicators =
       returns-are = refl;
       limits-are = refl;
       adjustments-are = refl;
-      pool-at = λ place other lt. placed b indicators place other lt .1;
-      points-at = λ place other lt. placed b indicators place other lt .0;
-    }
-
--- and a book that settles gets it
-defined : (b : Book) (indicators : List Indicator) → Settles b indicators → Defined b indicators (settledBy b indicators .settlement)
-defined b indicators settles = rw (settled-so b indicators settles) (defined-so b indicators)
+      made-up = λ place other lt.
+          rw (placed b indicators place other lt .1, placed b indicators place other lt .0)
+          (points-made-up b (getD indicators place other) (settles-ranged b indicators settles));
+    })
 
 pub demand-2 : Demand2
 unfolding settled
@@ -38,7 +37,6 @@ demand-2 =
       defined = λ b. defined b electricity;
       defined-by-list = defined;
       points-made-up = points-made-up;
-      settles-in-range = settles-ranged;
       read-back = λ b ranged. written-out b ranged .read-back;
       most = λ b ranged. written-out b ranged .most;
     }

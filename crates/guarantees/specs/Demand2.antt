@@ -29,19 +29,18 @@ pub record Defined (b : Book) (indicators : List Indicator) (s : Settlement) : T
   pub returns-are : s .returns ≡ returns b indicators
   pub limits-are : s .limits ≡ limits b
   pub adjustments-are : s .adjustments ≡ adjustments b indicators
-  -- so at each place of the list stand the pool and the points of its indicator (no `other` is looked up there)
-  pub pool-at : (place : ℕ) (other : Indicator) → place < length indicators → getD (s .pools) place 0 ≡ pool b (getD indicators place other)
-  pub points-at : (place : ℕ) (other : Indicator) → place < length indicators → pointsAt s place ≡ points b (getD indicators place other)
+  -- of the indicator at a place of the list (there is one, so `other` is not looked up): n and m are counts, the joined operators without a
+  -- mark take part, the points add up to the pool, "Marked operators get 0", "Within the group points differ by at most a hundredth"
+  pub made-up : (place : ℕ) (other : Indicator) → place < length indicators
+      → PointsMadeUp b (getD indicators place other) (getD (s .pools) place 0) (pointsAt s place)
 
 pub record Demand2 : Type 0 where
   -- the settlement that `settle` gives a book that settles,
   pub defined : (b : Book) → Settles b electricity → Defined b electricity (settled b .settlement)
   -- and the same over any list of indicators
   pub defined-by-list : (b : Book) (indicators : List Indicator) → Settles b indicators → Defined b indicators (settledBy b indicators .settlement)
-  -- in a book in range, so in every one that settles: n and m are counts, the joined operators without a mark take part, their points add
-  -- up to the pool, "Marked operators get 0", and "Within the group points differ by at most a hundredth"
-  pub points-made-up : (b : Book) (indicator : Indicator) (ranged : inRange b ≡ true) → PointsMadeUp b indicator ranged
-  pub settles-in-range : (b : Book) (indicators : List Indicator) → Settles b indicators → inRange b ≡ true
+  -- the same of an indicator of any book in range
+  pub points-made-up : (b : Book) (indicator : Indicator) → inRange b ≡ true → PointsMadeUp b indicator (pool b indicator) (points b indicator)
   -- a written filing, read into a fresh book gives the book back: all its fields applied, the offset at its end
   pub read-back : (b : Book) → inRange b ≡ true
       → read freshBook (written b) ≡ reading b (length (writtenCalls b)) (length (written b)) (accepted yes-said)
