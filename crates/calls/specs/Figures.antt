@@ -15,7 +15,7 @@ movedSaid (To new) = accepted new
 movedSaid Above = refused-by 8
 movedSaid Below = refused-by 9
 
--- a value added with sign 0, subtracted with any other: only 0 and 1 come here from a call
+-- a figure with a value added, or with sign 1 subtracted; any other sign subtracts too, and no call gets here with one
 unfoldable pub movedBy : ℕ → ℕ → ℕ → Said ℕ
 movedBy sign value old =
     firstOf

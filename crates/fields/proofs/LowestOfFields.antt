@@ -44,9 +44,9 @@ module _ (bytes : List ℕ) (at : ℕ) where
   unfolding unsigned bigEndian
   no-size none = rw (drop-of-length-le bytes {i = at + 1} (omega (arith, none))) refl
 
-  end-whole : leftAt bytes at ≡ 0 → applies (fieldLines bytes at) 1 ≡ false
+  end-not-truncated : leftAt bytes at ≡ 0 → applies (fieldLines bytes at) 1 ≡ false
   unfolding applies fieldLines
-  end-whole none = rw (none, no-size none) refl
+  end-not-truncated none = rw (none, no-size none) refl
 
   answered : (none : Bool) → eqb (leftAt bytes at) 0 ≡ none → FieldAnswered bytes at
   unfolding fieldAt callAt
@@ -56,7 +56,7 @@ module _ (bytes : List ℕ) (at : ℕ) where
       record {
         number = λ n. ((λ e. absurd (true≢false (ap isEnd (sym ended ∙ e)))), (λ all. absurd (omega (arith, nothing, all .0))));
         ends = ((λ e. nothing), (λ e. ended));
-        end-whole = end-whole;
+        end-not-truncated = end-not-truncated;
         calls = ((λ e. absurd (true≢false (ap isEnd (sym ended ∙ e)))), (λ all. absurd (omega (arith, nothing, all .0))));
       }
   answered false more =
@@ -72,7 +72,7 @@ module _ (bytes : List ℕ) (at : ℕ) where
           (λ e. absurd (false≢true (sym field-no-end ∙ ap isEnd (sym judged ∙ e)))),
           (λ none. absurd (omega (arith, some, none))),
         );
-        end-whole = end-whole;
+        end-not-truncated = end-not-truncated;
         calls = ((λ e. (some, low .answered .0 (sym judged ∙ e))), (λ all. judged ∙ low .answered .1 (all .1)));
       }
 

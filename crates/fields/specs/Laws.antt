@@ -16,6 +16,6 @@ pub record FieldAnswered (bytes : List ℕ) (at : ℕ) : Type 0 where
       ↔ ((0 < leftAt bytes at) × (applies (fieldLines bytes at) n ≡ true) × ((lower : ℕ) → lower < n → applies (fieldLines bytes at) lower ≡ false))
   -- the end exactly when no byte is left; 1, "1 or 2 bytes left", does not apply there
   pub ends : (fieldAt bytes at ≡ accepted at-end) ↔ (leftAt bytes at ≡ 0)
-  pub end-whole : leftAt bytes at ≡ 0 → applies (fieldLines bytes at) 1 ≡ false
+  pub end-not-truncated : leftAt bytes at ≡ 0 → applies (fieldLines bytes at) 1 ≡ false
   -- a call exactly when a byte is left and none of the three applies
   pub calls : (fieldAt bytes at ≡ accepted (callAt bytes at)) ↔ ((0 < leftAt bytes at) × ((n : ℕ) → applies (fieldLines bytes at) n ≡ false))

@@ -63,7 +63,8 @@ pub demand-1 : Demand1
 unfolding read settled writerAnswer writerBuffer reportAnswer reportBuffer bufferAfter
 demand-1 =
     record {
-      filing = λ b call. filed b call (inRange b) refl;
+      filing = λ b call answer after files. rw (files .0, files .1) (filed b call (inRange b) refl);
+      filing-defined = λ b call. filed b call (inRange b) refl;
       table = lowest-of-calls;
       field = field-answered;
       field-table = lowest-of-fields;

@@ -9,13 +9,15 @@ use mathlib.Core.Bool.{Bool, true, false, cond}
 use mathlib.Core.List.{List, [], _∷_}
 use lib.ListN.{length}
 use Rattle.calls.specs.declared.Call.{Call}
-use Rattle.calls.specs.Answers.{Said, refused-by, accepted, yes-said}
+use Rattle.calls.specs.declared.Answer.{Answer}
+use Rattle.calls.specs.Answers.{Said, refused-by, accepted, yes-said, said}
 use Rattle.calls.specs.Call.{factsOf}
 use Rattle.calls.specs.Laws.{applies, Lowest}
 use Rattle.book.specs.declared.Book.{Book}
 use Rattle.book.specs.Book.{isJoined, figureOf, inRange}
 use Rattle.ledger.specs.Table.{linesFor}
 use Rattle.ledger.specs.Calls.{changed, file}
+use Rattle.ledger.specs.Filed.{Files}
 use Rattle.fields.specs.Field.{fieldLines, callAt}
 use Rattle.fields.specs.Laws.{FieldAnswered}
 use Rattle.filing.specs.Reader.{reading, read}
@@ -42,13 +44,17 @@ unfoldable pub callLines : Book → Call → List (ℕ × Bool)
 callLines b call = cond (inRange b) (linesFor (isJoined b) (figureOf b) call) ((5, true) ∷ [])
 
 pub record Demand1 : Type 0 where
-  -- the seven filing calls, each one case of `file`: "A refused filing call leaves the book"
-  pub filing : (b : Book) (call : Call) → Judged (callLines b call) (factsOf call .answer) (file b call .said) (file b call .book) b (changed b call)
+  -- the seven filing calls, by value or lent: `Files` is the contract of each; "A refused filing call leaves the book"
+  pub filing : (b : Book) (call : Call) (answer : Answer) (after : Book) → Files b call answer after
+      → Judged (callLines b call) (factsOf call .answer) (said answer) after b (changed b call)
+  -- the same of what is defined
+  pub filing-defined : (b : Book) (call : Call)
+      → Judged (callLines b call) (factsOf call .answer) (file b call .said) (file b call .book) b (changed b call)
   -- the table that the history looks up too, with whatever it holds
   pub table : (joined : ℕ → Bool) (total : ℕ → ℕ → ℕ → ℕ) (call : Call) → Lowest (linesFor joined total call) (factsOf call .answer)
   -- what stands at an offset, by `field_at`: 1, 2 or 3, the end, or a call, each both ways
   pub field : (bytes : List ℕ) (at : ℕ) → FieldAnswered bytes at
-  -- its table alone
+  -- its table for itself
   pub field-table : (bytes : List ℕ) (at : ℕ) → Lowest (fieldLines bytes at) (callAt bytes at)
   -- reading files the calls of the fields in order, "up to the first refusal, keeps those before it"
   pub reads : (b : Book) (bytes : List ℕ) → ReadAsCallsIfInRange b bytes

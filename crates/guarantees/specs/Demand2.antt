@@ -1,5 +1,5 @@
--- Demand 2: the settlement's numbers are those that 01 defines, and a written filing read into a fresh book gives the book back. Its value
--- is `demand-2` of proofs/Demand2Holds.antt.
+-- Demand 2: the settlement's numbers are those that 01 defines, its points are made up as 01 says, and a written filing read into a fresh
+-- book gives the book back. Its value is `demand-2` of proofs/Demand2Holds.antt.
 -- Assumes nothing.
 use Prim.Native.Nat.{ℕ, _≤_, _<_}
 use mathlib.Core.Path.{_≡_}

@@ -5,10 +5,10 @@
 --   1. crates/calls/specs/Answers.antt: `said`, what an answer of the code says by 01's numbers and values
 --   2. crates/calls/specs/Call.antt: `factsOf`, what is to be known of a call; crates/ledger/specs/Table.antt: `answerTo`, the table of answers
 --   3. crates/history/specs/History.antt: the plain history, `plain`, `notedAnswers`, `notedHistory`; nothing there knows of a book
---   4. crates/calls/specs/Held.antt: `Same`; `heldIn` of History.antt and `heldBy` of crates/book/specs/Book.antt say what is held
+--   4. crates/calls/specs/Held.antt: `Same`; crates/book/specs/Book.antt: `freshBook`, `inRange`, and what a book holds, `heldBy`
 --   5. crates/ledger/specs/Calls.antt: `file`, what a call does to a book, and a list of them, `filedBook` and `filedAnswers`
---   6. crates/ledger/specs/Filed.antt: `Files` is the contract of every filing call, of the seven by value (crates/ledger/src/by_value.rt) and
---      of the seven with the book lent (crates/lent/src/lending.rt), so a run, `FiledInTurn`, may mix them
+--   6. crates/ledger/specs/Filed.antt: `Files`, which the contract of each of the seven calls says, by value (crates/ledger/src/by_value.rt) and
+--      with the book lent (crates/lent/src/lending.rt, held.rt); so a run of calls in turn, `FiledInTurn`, may mix them
 --   7. crates/history/specs/Demand.antt: `bookOf` and `historyOf` of a list
 --   8. crates/writing/specs/Written.antt: `written`; crates/writer/specs/Writer.antt: what `write` answers and puts into a buffer
 --   9. crates/settlement/specs/Settlement.antt: `settled`, the contract of `settle`; crates/settlement/specs/Laws.antt: `Settles`, `Balanced`,
