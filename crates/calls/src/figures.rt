@@ -1,12 +1,12 @@
 // A figure that is filed to or withdrawn from.
 ghost use mathlib.Core.Path.{_≡_};
-ghost use Rattle.calls.specs.Steps.{movedBy};
+ghost use Rattle.calls.specs.Figures.{movedSaid, movedBy};
 use crate::Moved;
 use crate::limits::FIGURE_LIMIT;
 
 // A figure with a value added, or with sign 1 subtracted.
 pub fn move_figure(sign: u8, value: u64, old: u64) -> Moved
-    ensures { λ r. ⌜ r ≡ movedBy sign value old ⌝ }
+    ensures { λ r. ⌜ movedSaid r ≡ movedBy sign value old ⌝ }
 {
     if sign == 0 {
         if FIGURE_LIMIT < value {

@@ -119,7 +119,7 @@ pub enum Judged {
     LeftOut(Reason),
 }
 
-// A figure that is filed to or withdrawn from.
+// A figure that is filed to or withdrawn from: its new value, or above its limit (8) or below 0 (9).
 pub enum Moved {
     To(u64),
     Above,

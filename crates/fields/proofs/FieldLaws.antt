@@ -7,7 +7,7 @@ use mathlib.Core.List.{List}
 use native.Mathlib.Omega.{arith}
 use lib.Dec.{eqb, ltb}
 use lib.ListN.{length, take, drop}
-use borrow.Author.Tests.{lt-ltb, le-ltb, eq-eqb, ne-eqb, ltb-false, eqb-true}
+use borrow.Author.Tests.{lt-ltb, le-ltb, eq-eqb, ne-eqb, ltb-false, eqb-true, eqb-false}
 use Rattle.calls.specs.declared.Call.{Call}
 use Rattle.calls.specs.Answers.{Said, refused-by, accepted, firstOf}
 use Rattle.fields.specs.Field.{byte, unsigned, isKnown, tagged, Found, at-end, call-then, fieldLines, callAt, fieldAt}
@@ -36,46 +36,57 @@ module _ (bytes : List ℕ) (at : ℕ) where
     some-left : eqb left 0 ≡ false
     some-left = ne-eqb left 0 (λ e. omega arith)
 
+    one-or-two : left < 3 → eqb left 1 || eqb left 2 ≡ true
+    one-or-two lt = go (eqb left 1) refl
+      where
+        go : (one : Bool) → eqb left 1 ≡ one → one || eqb left 2 ≡ true
+        go true one = refl
+        go false more-or-none = eq-eqb left 2 (omega (arith, eqb-false left 1 more-or-none))
+
     pub no-length : left < 3 → fieldAt bytes at ≡ refused-by 1
     unfolding fieldAt fieldLines firstOf callAt
-    no-length lt = rw (some-left, lt-ltb left 3 lt) refl
+    no-length lt = rw (some-left, one-or-two lt) refl
 
     module _ (whole : 3 ≤ left) where
+      three-or-more : eqb left 1 || eqb left 2 ≡ false
+      three-or-more = rw (ne-eqb left 1 (λ e. omega arith), ne-eqb left 2 (λ e. omega arith)) refl
+
       pub passes-end : left - 3 < size → fieldAt bytes at ≡ refused-by 1
       unfolding fieldAt fieldLines firstOf callAt
-      passes-end lt = rw (some-left, le-ltb left 3 whole, lt-ltb (left - 3) size lt) refl
+      passes-end lt = rw (some-left, three-or-more, lt-ltb (left - 3) size lt) refl
 
       module _ (within : size ≤ left - 3) where
         pub unknown-tag : isKnown tag ≡ false → fieldAt bytes at ≡ refused-by 2
         unfolding fieldAt fieldLines firstOf callAt
-        unknown-tag e = rw (some-left, le-ltb left 3 whole, le-ltb (left - 3) size within, e) refl
+        unknown-tag e = rw (some-left, three-or-more, le-ltb (left - 3) size within, e) refl
 
         module _ (known : isKnown tag ≡ true) where
           pub wrong-length : (size ≡ tagged tag .size → ⊥) → fieldAt bytes at ≡ refused-by 3
           unfolding fieldAt fieldLines firstOf callAt
           wrong-length differs =
-              rw (some-left, le-ltb left 3 whole, le-ltb (left - 3) size within, known, ne-eqb size (tagged tag .size) differs) refl
+              rw (some-left, three-or-more, le-ltb (left - 3) size within, known, ne-eqb size (tagged tag .size) differs) refl
 
           pub filed : size ≡ tagged tag .size → fieldAt bytes at ≡ accepted (call-then (tagged tag .call (take size (drop (at + 3) bytes))) (at + 3 + size))
           unfolding fieldAt fieldLines firstOf callAt
-          filed same = rw (some-left, le-ltb left 3 whole, le-ltb (left - 3) size within, known, eq-eqb size (tagged tag .size) same) refl
+          filed same = rw (some-left, three-or-more, le-ltb (left - 3) size within, known, eq-eqb size (tagged tag .size) same) refl
 
   pub stands : Stands bytes at (fieldAt bytes at)
   unfolding fieldAt fieldLines firstOf callAt
   stands =
-      go (eqb left 0) (ltb left 3) (ltb (left - 3) size) (not (isKnown tag)) (not (eqb size (tagged tag .size))) _ refl refl refl
+      go (eqb left 0) (eqb left 1) (eqb left 2) (ltb (left - 3) size) (not (isKnown tag)) (not (eqb size (tagged tag .size))) _ refl refl refl refl
     where
-      go : (none short long unknown wrong : Bool) (call : Call) → eqb left 0 ≡ none → ltb left 3 ≡ short → ltb (left - 3) size ≡ long
+      go : (none one two long unknown wrong : Bool) (call : Call) → eqb left 0 ≡ none → eqb left 1 ≡ one → eqb left 2 ≡ two → ltb (left - 3) size ≡ long
           → Stands bytes at
           (cond none (accepted at-end)
-          (cond (short || long) (refused-by 1)
+          (cond (one || two || long) (refused-by 1)
           (cond unknown (refused-by 2) (cond wrong (refused-by 3) (accepted (call-then call (at + 3 + size)))))))
-      go true short long unknown wrong call none-left s l = omega (arith, eqb-true left 0 none-left)
-      go false true long unknown wrong call n s l = tt
-      go false false true unknown wrong call n s l = tt
-      go false false false true wrong call n s l = tt
-      go false false false false true call n s l = tt
-      go false false false false false call n s l =
-          let whole : 3 ≤ left = ltb-false left 3 s in
+      go true one two long unknown wrong call none-left o t l = omega (arith, eqb-true left 0 none-left)
+      go false true two long unknown wrong call n o t l = tt
+      go false false true long unknown wrong call n o t l = tt
+      go false false false true unknown wrong call n o t l = tt
+      go false false false false true wrong call n o t l = tt
+      go false false false false false true call n o t l = tt
+      go false false false false false false call n o t l =
+          let whole : 3 ≤ left = omega (arith, eqb-false left 0 n, eqb-false left 1 o, eqb-false left 2 t) in
           let within : size ≤ left - 3 = ltb-false (left - 3) size l in
           (omega arith, omega arith)

@@ -61,22 +61,27 @@ pub data Found : Type 0 where
   at-end : Found
   call-then : Call → ℕ → Found
 
+-- how many bytes are left from an offset on
+abbrev pub leftAt : List ℕ → ℕ → ℕ
+leftAt bytes at = length bytes - at
+
 -- the length that the field at an offset gives
 abbrev pub sizeAt : List ℕ → ℕ → ℕ
 sizeAt bytes at = unsigned 2 bytes (at + 1)
 
--- 1, 2 and 3, each with whether it applies to the field at an offset
+-- 1, 2 and 3, each with whether it applies to the field at an offset, where a byte is left
 unfoldable pub fieldLines : List ℕ → ℕ → List (ℕ × Bool)
 fieldLines bytes at =
     -- "1 or 2 bytes left, or the length passes the end"
-    (1, ltb (length bytes - at) 3 || ltb (length bytes - at - 3) (sizeAt bytes at))
+    (1, eqb (leftAt bytes at) 1 || eqb (leftAt bytes at) 2 || ltb (leftAt bytes at - 3) (sizeAt bytes at))
     ∷ (2, not (isKnown (byte bytes at))) ∷ (3, not (eqb (sizeAt bytes at) (tagged (byte bytes at) .size))) ∷ []
 
 unfoldable pub callAt : List ℕ → ℕ → Found
 callAt bytes at = call-then (tagged (byte bytes at) .call (take (sizeAt bytes at) (drop (at + 3) bytes))) (at + 3 + sizeAt bytes at)
 
+-- where no byte is left the end, else a field
 unfoldable pub fieldAt : List ℕ → ℕ → Said Found
-fieldAt bytes at = cond (eqb (length bytes - at) 0) (accepted at-end) (firstOf (fieldLines bytes at) (callAt bytes at))
+fieldAt bytes at = cond (eqb (leftAt bytes at) 0) (accepted at-end) (firstOf (fieldLines bytes at) (callAt bytes at))
 
 -- what the code's answer says
 abbrev pub fieldSaid : Field → Said Found

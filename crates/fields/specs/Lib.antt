@@ -1,3 +1,4 @@
 -- The definitions of `fields`.
 pub mod Field
 pub mod Encoding
+pub mod Laws

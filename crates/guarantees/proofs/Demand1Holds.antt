@@ -15,11 +15,11 @@ use Rattle.book.specs.Book.{isJoined, figureOf, inRange}
 use Rattle.ledger.specs.Table.{linesFor, answerTo}
 use Rattle.ledger.specs.Calls.{outcomeOf, changed, apply, file}
 use Rattle.ledger.proofs.LowestOfCalls.{lowest-of-calls}
-use Rattle.fields.proofs.LowestOfFields.{lowest-of-fields}
+use Rattle.fields.proofs.LowestOfFields.{lowest-of-fields, field-answered}
 use Rattle.filing.specs.Reader.{readFrom, read}
 use Rattle.filing.proofs.ReadLaws.{read-as-calls}
-use Rattle.values.specs.Indicator.{Indicator}
-use Rattle.settlement.specs.Settlement.{settlingLines, nothing, settlementBy, settledBy}
+use Rattle.values.specs.Indicator.{Indicator, electricity}
+use Rattle.settlement.specs.Settlement.{settlingLines, nothing, settlementBy, settledBy, settled}
 use Rattle.settlement.proofs.SettledLaws.{lowest-of-settling}
 use Rattle.text.specs.Buffer.{putInto, bufferAfter}
 use Rattle.report.specs.Report.{textOf, reportLines, reportAnswer, reportBuffer}
@@ -53,16 +53,25 @@ module _ (b : Book) (call : Call) where
       rw ranged (judged (linesFor (isJoined b) (figureOf b) call) (factsOf call .answer) b (changed b call) (lowest-of-calls (isJoined b) (figureOf b) call))
   filed false out = rw out (judged ((5, true) ∷ []) (factsOf call .answer) b (changed b call) (only-five call))
 
+settling-judged : (b : Book) (indicators : List Indicator)
+    → Judged (settlingLines b indicators) yes-said (settledBy b indicators .said) (settledBy b indicators .settlement) nothing (settlementBy b indicators)
+unfolding settledBy
+settling-judged b indicators =
+    judged (settlingLines b indicators) yes-said nothing (settlementBy b indicators) (lowest-of-settling b indicators)
+
 pub demand-1 : Demand1
-unfolding read readFrom settledBy writerAnswer writerBuffer reportAnswer reportBuffer bufferAfter
+unfolding read readFrom settled writerAnswer writerBuffer reportAnswer reportBuffer bufferAfter
 demand-1 =
     record {
-      filing = λ b call. filed b call (inRange b) refl;
+      filing = λ b call answer after files. rw (files .0, files .1) (filed b call (inRange b) refl);
+      filing-defined = λ b call. filed b call (inRange b) refl;
       table = lowest-of-calls;
-      field = lowest-of-fields;
+      field = field-answered;
+      field-table = lowest-of-fields;
       reads = read-as-calls;
       reads-out-of-range = λ b bytes out. rw out refl;
-      settles = λ b indicators. judged (settlingLines b indicators) yes-said nothing (settlementBy b indicators) (lowest-of-settling b indicators);
+      settles = λ b. settling-judged b electricity;
+      settles-by-list = settling-judged;
       writes = λ b buffer. judged (writerLines b buffer) (length (written b)) buffer (putInto buffer (written b)) (lowest-of-writing b buffer);
       reports = λ b buffer. judged (reportLines b buffer) (length (textOf b)) buffer (putInto buffer (textOf b)) (lowest-of-reports b buffer);
     }

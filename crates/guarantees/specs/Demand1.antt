@@ -9,18 +9,21 @@ use mathlib.Core.Bool.{Bool, true, false, cond}
 use mathlib.Core.List.{List, [], _∷_}
 use lib.ListN.{length}
 use Rattle.calls.specs.declared.Call.{Call}
-use Rattle.calls.specs.Answers.{Said, refused-by, accepted, yes-said}
+use Rattle.calls.specs.declared.Answer.{Answer}
+use Rattle.calls.specs.Answers.{Said, refused-by, accepted, yes-said, said}
 use Rattle.calls.specs.Call.{factsOf}
 use Rattle.calls.specs.Laws.{applies, Lowest}
 use Rattle.book.specs.declared.Book.{Book}
 use Rattle.book.specs.Book.{isJoined, figureOf, inRange}
 use Rattle.ledger.specs.Table.{linesFor}
 use Rattle.ledger.specs.Calls.{changed, file}
+use Rattle.ledger.specs.Filed.{Files}
 use Rattle.fields.specs.Field.{fieldLines, callAt}
+use Rattle.fields.specs.Laws.{FieldAnswered}
 use Rattle.filing.specs.Reader.{reading, read}
 use Rattle.filing.specs.Laws.{ReadAsCallsIfInRange}
-use Rattle.values.specs.Indicator.{Indicator}
-use Rattle.settlement.specs.Settlement.{settlingLines, nothing, settlementBy, settledBy}
+use Rattle.values.specs.Indicator.{Indicator, electricity}
+use Rattle.settlement.specs.Settlement.{settlingLines, nothing, settlementBy, settledBy, settled}
 use Rattle.text.specs.Buffer.{putInto}
 use Rattle.report.specs.Report.{textOf, reportLines, reportAnswer, reportBuffer}
 use Rattle.writing.specs.Written.{written}
@@ -41,18 +44,27 @@ unfoldable pub callLines : Book → Call → List (ℕ × Bool)
 callLines b call = cond (inRange b) (linesFor (isJoined b) (figureOf b) call) ((5, true) ∷ [])
 
 pub record Demand1 : Type 0 where
-  -- the seven filing calls, each one case of `file`: "A refused filing call leaves the book"
-  pub filing : (b : Book) (call : Call) → Judged (callLines b call) (factsOf call .answer) (file b call .said) (file b call .book) b (changed b call)
+  -- the seven filing calls, by value or lent: `Files` is the contract of each; "A refused filing call leaves the book"
+  pub filing : (b : Book) (call : Call) (answer : Answer) (after : Book) → Files b call answer after
+      → Judged (callLines b call) (factsOf call .answer) (said answer) after b (changed b call)
+  -- the same of what is defined
+  pub filing-defined : (b : Book) (call : Call)
+      → Judged (callLines b call) (factsOf call .answer) (file b call .said) (file b call .book) b (changed b call)
   -- the table that the history looks up too, with whatever it holds
   pub table : (joined : ℕ → Bool) (total : ℕ → ℕ → ℕ → ℕ) (call : Call) → Lowest (linesFor joined total call) (factsOf call .answer)
-  -- a field's bytes: 1, 2, 3, or a call
-  pub field : (bytes : List ℕ) (at : ℕ) → Lowest (fieldLines bytes at) (callAt bytes at)
+  -- what stands at an offset, by `field_at`: 1, 2 or 3, the end, or a call, each both ways
+  pub field : (bytes : List ℕ) (at : ℕ) → FieldAnswered bytes at
+  -- its table for itself
+  pub field-table : (bytes : List ℕ) (at : ℕ) → Lowest (fieldLines bytes at) (callAt bytes at)
   -- reading files the calls of the fields in order, "up to the first refusal, keeps those before it"
   pub reads : (b : Book) (bytes : List ℕ) → ReadAsCallsIfInRange b bytes
   -- "(the reader: none applied, offset 0)"
   pub reads-out-of-range : (b : Book) (bytes : List ℕ) → inRange b ≡ false → read b bytes ≡ reading b 0 0 (refused-by 5)
-  -- settling, over any list of indicators; its settlement "is all 0 on refusal"
-  pub settles : (b : Book) (indicators : List Indicator)
+  -- settling, by `settle`; its settlement "is all 0 on refusal"
+  pub settles : (b : Book)
+      → Judged (settlingLines b electricity) yes-said (settled b .said) (settled b .settlement) nothing (settlementBy b electricity)
+  -- the same over any list of indicators
+  pub settles-by-list : (b : Book) (indicators : List Indicator)
       → Judged (settlingLines b indicators) yes-said (settledBy b indicators .said) (settledBy b indicators .settlement) nothing (settlementBy b indicators)
   -- "a refused writer or report leaves the buffer. Accepted, these two answer with the number of bytes written and leave all bytes after
   -- their output"

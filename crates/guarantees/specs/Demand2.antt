@@ -1,34 +1,46 @@
--- Demand 2: the settlement's numbers are those that 01 defines, and a written filing read into a fresh book gives the book back. Its value
--- is `demand-2` of proofs/Demand2Holds.antt.
+-- Demand 2: the settlement's numbers are those that 01 defines, its points are made up as 01 says, and a written filing read into a fresh
+-- book gives the book back. Its value is `demand-2` of proofs/Demand2Holds.antt.
 -- Assumes nothing.
-use Prim.Native.Nat.{ℕ, _≤_}
+use Prim.Native.Nat.{ℕ, _≤_, _<_}
 use mathlib.Core.Path.{_≡_}
 use mathlib.Core.Bool.{true}
 use mathlib.Core.List.{List, map}
-use lib.ListN.{length}
+use lib.ListN.{length, getD}
 use Rattle.calls.specs.Answers.{accepted, yes-said}
 use Rattle.book.specs.declared.Book.{Book}
 use Rattle.book.specs.Book.{freshBook, inRange}
-use Rattle.values.specs.Indicator.{Indicator, pool}
+use Rattle.values.specs.Indicator.{Indicator, electricity, pool}
+use Rattle.indicators.specs.Points.{points}
+use Rattle.indicators.specs.Laws.{PointsMadeUp}
+use Rattle.settlement.specs.declared.Settlement.{Settlement}
 use Rattle.settlement.specs.Money.{pot, contributions, returns, limits, adjustments}
-use Rattle.settlement.specs.Settlement.{pointsOfAll, settledBy}
-use Rattle.settlement.specs.Laws.{Settles}
+use Rattle.settlement.specs.Settlement.{pointsOfAll, settledBy, settled}
+use Rattle.settlement.specs.Laws.{Settles, pointsAt}
 use Rattle.filing.specs.Reader.{reading, read}
 use Rattle.writing.specs.Written.{writtenCalls, written}
 
--- the settlement of a book that settles, over a list of indicators
-pub record Defined (b : Book) (indicators : List Indicator) (settles : Settles b indicators) : Type 0 where
+-- a settlement of a book over a list of indicators has the numbers that 01 defines
+pub record Defined (b : Book) (indicators : List Indicator) (s : Settlement) : Type 0 where
   -- each indicator's pool, and its points by operator, one indicator after the other
-  pub pools-are : settledBy b indicators .settlement .pools ≡ map (pool b) indicators
-  pub points-are : settledBy b indicators .settlement .points ≡ pointsOfAll b indicators
-  pub pot-is : settledBy b indicators .settlement .pot ≡ pot b
-  pub contributions-are : settledBy b indicators .settlement .contributions ≡ contributions b
-  pub returns-are : settledBy b indicators .settlement .returns ≡ returns b indicators
-  pub limits-are : settledBy b indicators .settlement .limits ≡ limits b
-  pub adjustments-are : settledBy b indicators .settlement .adjustments ≡ adjustments b indicators
+  pub pools-are : s .pools ≡ map (pool b) indicators
+  pub points-are : s .points ≡ pointsOfAll b indicators
+  pub pot-is : s .pot ≡ pot b
+  pub contributions-are : s .contributions ≡ contributions b
+  pub returns-are : s .returns ≡ returns b indicators
+  pub limits-are : s .limits ≡ limits b
+  pub adjustments-are : s .adjustments ≡ adjustments b indicators
+  -- of the indicator at a place of the list (there is one, so `other` is not looked up): n and m are counts, the joined operators without a
+  -- mark take part, the points add up to the pool, "Marked operators get 0", "Within the group points differ by at most a hundredth"
+  pub made-up : (place : ℕ) (other : Indicator) → place < length indicators
+      → PointsMadeUp b (getD indicators place other) (getD (s .pools) place 0) (pointsAt s place)
 
 pub record Demand2 : Type 0 where
-  pub defined : (b : Book) (indicators : List Indicator) (settles : Settles b indicators) → Defined b indicators settles
+  -- the settlement that `settle` gives a book that settles,
+  pub defined : (b : Book) → Settles b electricity → Defined b electricity (settled b .settlement)
+  -- and the same over any list of indicators
+  pub defined-by-list : (b : Book) (indicators : List Indicator) → Settles b indicators → Defined b indicators (settledBy b indicators .settlement)
+  -- the same of an indicator of any book in range
+  pub points-made-up : (b : Book) (indicator : Indicator) → inRange b ≡ true → PointsMadeUp b indicator (pool b indicator) (points b indicator)
   -- a written filing, read into a fresh book gives the book back: all its fields applied, the offset at its end
   pub read-back : (b : Book) → inRange b ≡ true
       → read freshBook (written b) ≡ reading b (length (writtenCalls b)) (length (written b)) (accepted yes-said)

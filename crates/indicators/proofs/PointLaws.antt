@@ -151,12 +151,14 @@ module _ (b : Book) (indicator : Indicator) where
         better-weight k inside is =
             weight-reliable _ _ _ k inside (better-reliable _ _ k is) ∙ one-better _ _ _ levels k inside is
 
-pub points-made-up : (b : Book) (indicator : Indicator) (ranged : inRange b ≡ true) → PointsMadeUp b indicator ranged
+pub points-made-up : (b : Book) (indicator : Indicator) → inRange b ≡ true → PointsMadeUp b indicator (pool b indicator) (points b indicator)
+unfolding pool
 points-made-up b indicator ranged =
     record {
       joined-counted = joined-counted b indicator ranged;
       reliable-counted = reliable-counted b indicator ranged;
       reliable-exactly = reliable-exactly b indicator ranged;
+      pool-counted = rw (reliable-counted b indicator ranged, joined-counted b indicator ranged) refl;
       whole = whole b indicator ranged;
       others-none = points-none b indicator;
       better-alike = better-alike b indicator ranged;

@@ -1,31 +1,36 @@
--- What holds of an indicator of every book in range. Proofs: proofs/PointLaws.antt.
+-- What holds of an indicator of every book in range. The proof is `points-made-up` of proofs/PointLaws.antt.
 -- Assumes nothing.
-use Prim.Native.Nat.{ℕ, _+_, _≤_, _<_}
+use Prim.Native.Nat.{ℕ, _+_, _*_, _≤_, _<_}
 use mathlib.Core.Path.{_≡_}
 use mathlib.Core.Bool.{true, false, not, _&&_}
+use mathlib.Core.List.{List}
 use lib.Count.{ones}
 use lib.ListN.{getD}
 use Rattle.calls.specs.Limits.{operators}
 use Rattle.calls.specs.Masks.{has}
 use Rattle.book.specs.declared.Book.{Book}
-use Rattle.book.specs.Book.{isJoined, isMarked, inRange}
+use Rattle.book.specs.Book.{isJoined, isMarked}
 use Rattle.apportion.specs.Sum.{sum}
+use Rattle.exact.specs.Division.{over}
 use Rattle.values.specs.Operators.{count}
-use Rattle.values.specs.Indicator.{Indicator, reliableMask, pool, scores}
-use Rattle.indicators.specs.Points.{isBetter, isLevelled, points}
+use Rattle.values.specs.Indicator.{Indicator, reliableMask, scores}
+use Rattle.indicators.specs.Points.{isBetter, isLevelled}
 
-pub record PointsMadeUp (b : Book) (indicator : Indicator) (ranged : inRange b ≡ true) : Type 0 where
+-- an indicator's pool, and the points given by operator
+pub record PointsMadeUp (b : Book) (indicator : Indicator) (pooled : ℕ) (given : List ℕ) : Type 0 where
   -- n and m, ones of masks, are the counts over the operators
   pub joined-counted : ones (b .joined) ≡ count operators (isJoined b)
   pub reliable-counted : ones (reliableMask b indicator) ≡ count operators (has (reliableMask b indicator))
   -- who takes part: the joined operators "without a mark at this indicator"
   pub reliable-exactly : (operator : ℕ) → operator < operators
       → has (reliableMask b indicator) operator ≡ isJoined b operator && not (isMarked b operator (indicator .number))
+  -- "Pool, in hundredths: 300 × points × m / n"
+  pub pool-counted : pooled ≡ over (300 * indicator .points * count operators (has (reliableMask b indicator))) (count operators (isJoined b))
   -- points add up to the pool
-  pub whole : sum (points b indicator) ≡ pool b indicator
+  pub whole : sum given ≡ pooled
   -- who does not take part gets 0
-  pub others-none : (operator : ℕ) → operator < operators → has (reliableMask b indicator) operator ≡ false → getD (points b indicator) operator 0 ≡ 0
+  pub others-none : (operator : ℕ) → operator < operators → has (reliableMask b indicator) operator ≡ false → getD given operator 0 ≡ 0
   -- "Within the group points differ by at most a hundredth"
   pub better-alike : isLevelled (indicator .measure) ≡ true → (operator other : ℕ) → operator < operators → other < operators
       → isBetter (reliableMask b indicator) (scores b indicator) operator ≡ true → isBetter (reliableMask b indicator) (scores b indicator) other ≡ true
-      → getD (points b indicator) operator 0 ≤ getD (points b indicator) other 0 + 1
+      → getD given operator 0 ≤ getD given other 0 + 1

@@ -3,4 +3,5 @@ pub mod AdmissionLaws
 pub mod UnattestedLaws
 pub mod MoveLaws
 pub mod LowestOfCalls
+pub mod TurnLaws
 pub mod Opened

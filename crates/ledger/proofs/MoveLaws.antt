@@ -1,8 +1,8 @@
 -- Figures that are filed to or withdrawn from, and the tests of 8 and 9.
 -- Assumes nothing.
-use mathlib.Core.Path.{_≡_, refl, subst}
+use mathlib.Core.Path.{_≡_, refl, sym, ap, subst, _∙_}
 use mathlib.Core.Logic.{_≢_}
-use mathlib.Core.Bool.{Bool, true, false, cond, _&&_, _||_}
+use mathlib.Core.Bool.{Bool, true, false, cond, not, _&&_, _||_}
 use mathlib.Core.List.{List, [], _∷_}
 use Prim.Native.Nat.{ℕ, _+_, _-_, _≤_}
 use native.Mathlib.Omega.{arith}
@@ -17,8 +17,9 @@ use Rattle.calls.specs.Limits.{figureLimit}
 use Rattle.calls.specs.Answers.{refused-by, accepted, onAnswer, firstOf, Acceptance}
 use Rattle.book.specs.Book.{figureSlot, figureOf}
 use Rattle.calls.specs.Call.{Entry}
-use Rattle.calls.specs.Steps.{movedBy}
+use Rattle.calls.specs.Figures.{movedSaid, movedBy}
 use Rattle.calls.proofs.Flags.{and-left}
+use Rattle.calls.proofs.SaidLaws.{movedSaying, moved-back}
 use Rattle.ledger.specs.Table.{some, passesLimit, fallsBelow}
 use Rattle.ledger.specs.Calls.{Outcome, withFigures, entered, enterAll, outcomeOf}
 use Rattle.ledger.specs.Steps.{entering}
@@ -55,12 +56,16 @@ module _ (sign value old : ℕ) (valid : sign ≤ 1) where
   files-only : eqb sign 0 ≡ true → eqb sign 1 ≡ false
   files-only e = ne-eqb sign 1 (λ o. omega (arith, eqb-true sign 0 e, o))
 
-  pub moved-as : (m : Moved) → movedBy sign value old ≡ m → As m
-  unfolding movedBy
-  moved-as m e = subst As e (go (eqb sign 0) (ltb figureLimit (old + value)) (ltb old value) refl refl refl)
+  -- a move that is told, and what its answer says
+  pub moved-as : {r m : Moved} → r ≡ m → movedSaid r ≡ movedBy sign value old → As m
+  unfolding movedBy firstOf
+  moved-as {r} {m} told says =
+      subst As (ap movedSaying (sym says) ∙ moved-back r ∙ told) (go (eqb sign 0) (ltb figureLimit (old + value)) (ltb old value) refl refl refl)
     where
       go : (files above below : Bool) → eqb sign 0 ≡ files → ltb figureLimit (old + value) ≡ above → ltb old value ≡ below
-          → As (cond files (cond above Above (To (old + value))) (cond below Below (To (old - value))))
+          → As
+          (movedSaying
+          (firstOf ((8, files && above) ∷ (9, not files && below) ∷ []) (cond files (old + value) (old - value))))
       go true true below f a b = rw (f, a) refl
       go true false below f a b = record { below-limit = rw (f, a) refl; above-zero = rw (files-only f) refl; reaches = rw f refl }
       go false above true f a b = rw (withdraws f, b) refl

@@ -18,7 +18,7 @@ use Rattle.book.specs.Book.{figureOf}
 use Rattle.ledger.specs.Table.{some, passesLimit, fallsBelow}
 use Rattle.ledger.specs.Calls.{Outcome, enterAll, outcomeOf, apply}
 
--- a call on a book whose parts are lent: the answer, and the book that the parts make afterwards
+-- a call on a book in range, by value or by its parts lent: the answer, and the book afterwards
 abbrev pub Leaves : Book → Call → Answer → Book → Type 0
 Leaves old call answer new = (said answer ≡ apply old call .said) × (new ≡ apply old call .book)
 

@@ -1,7 +1,5 @@
 // The filing calls on any book: one that is out of range gets 5, before any other check, and is left as it is.
-ghost use mathlib.Core.Path.{_≡_};
-ghost use Rattle.calls.specs.Answers.{said};
-ghost use Rattle.ledger.specs.Calls.{file as Calls·file};
+ghost use Rattle.ledger.specs.Filed.{Files};
 use crate::Answered;
 use crate::dispatch::apply;
 use book::Book;
@@ -12,7 +10,7 @@ use calls::Refusal;
 
 // A call that is at hand as a value.
 pub fn file(b: Book, filing_call: Call) -> Answered
-    ensures { λ r. ⌜ (said (r .answer) ≡ Calls·file b «filing_call» .said) × (r .book ≡ Calls·file b «filing_call» .book) ⌝ }
+    ensures { λ r. ⌜ Files b «filing_call» (r .answer) (r .book) ⌝ }
 {
     if !in_range(b) {
         return Answered {
@@ -25,14 +23,14 @@ pub fn file(b: Book, filing_call: Call) -> Answered
 
 // An operator, 0 to 15, joins.
 pub fn join(b: Book, operator: u8) -> Answered
-    ensures { λ r. ⌜ (said (r .answer) ≡ Calls·file b (Call.Join operator) .said) × (r .book ≡ Calls·file b (Call.Join operator) .book) ⌝ }
+    ensures { λ r. ⌜ Files b (Call.Join operator) (r .answer) (r .book) ⌝ }
 {
     file(b, Call::Join { operator })
 }
 
 // The latest value of an operator's cabins (which 0), active access points (1) or income in cents (2).
 pub fn setting(b: Book, operator: u8, which: u8, value: u64) -> Answered
-    ensures { λ r. ⌜ (said (r .answer) ≡ Calls·file b (Call.Setting operator which value) .said) × (r .book ≡ Calls·file b (Call.Setting operator which value) .book) ⌝ }
+    ensures { λ r. ⌜ Files b (Call.Setting operator which value) (r .answer) (r .book) ⌝ }
 {
     file(
         b,
@@ -57,7 +55,7 @@ pub fn interruption(
     end: i64,
     weight: u32,
 ) -> Answered
-    ensures { λ r. ⌜ (said (r .answer) ≡ Calls·file b (Call.Interruption operator sign level cause start end weight) .said) × (r .book ≡ Calls·file b (Call.Interruption operator sign level cause start end weight) .book) ⌝ }
+    ensures { λ r. ⌜ Files b (Call.Interruption operator sign level cause start end weight) (r .answer) (r .book) ⌝ }
 {
     file(
         b,
@@ -75,7 +73,7 @@ pub fn interruption(
 
 // An amount is filed to (sign 0) or withdrawn from (1) a figure, 0 to 7, of an operator and year, 0 to 2.
 pub fn amount(b: Book, operator: u8, year: u8, figure: u8, sign: u8, value: u64) -> Answered
-    ensures { λ r. ⌜ (said (r .answer) ≡ Calls·file b (Call.Amount operator year figure sign value) .said) × (r .book ≡ Calls·file b (Call.Amount operator year figure sign value) .book) ⌝ }
+    ensures { λ r. ⌜ Files b (Call.Amount operator year figure sign value) (r .answer) (r .book) ⌝ }
 {
     file(
         b,
@@ -91,7 +89,7 @@ pub fn amount(b: Book, operator: u8, year: u8, figure: u8, sign: u8, value: u64)
 
 // An operator is marked unreliable (mark 1), or not (0), at an indicator, 0 to 5.
 pub fn mark(b: Book, operator: u8, indicator: u8, mark: u8) -> Answered
-    ensures { λ r. ⌜ (said (r .answer) ≡ Calls·file b (Call.Mark operator indicator mark) .said) × (r .book ≡ Calls·file b (Call.Mark operator indicator mark) .book) ⌝ }
+    ensures { λ r. ⌜ Files b (Call.Mark operator indicator mark) (r .answer) (r .book) ⌝ }
 {
     file(
         b,
@@ -105,14 +103,14 @@ pub fn mark(b: Book, operator: u8, indicator: u8, mark: u8) -> Answered
 
 // Pot rate and cap rate, in millionths.
 pub fn rates(b: Book, pot: u32, cap: u32) -> Answered
-    ensures { λ r. ⌜ (said (r .answer) ≡ Calls·file b (Call.Rates pot cap) .said) × (r .book ≡ Calls·file b (Call.Rates pot cap) .book) ⌝ }
+    ensures { λ r. ⌜ Files b (Call.Rates pot cap) (r .answer) (r .book) ⌝ }
 {
     file(b, Call::Rates { pot, cap })
 }
 
 // An index in hundredths: numbers 0 to 2 for the June before each year, 3 for June 2013.
 pub fn index(b: Book, number: u8, value: u32) -> Answered
-    ensures { λ r. ⌜ (said (r .answer) ≡ Calls·file b (Call.Index number value) .said) × (r .book ≡ Calls·file b (Call.Index number value) .book) ⌝ }
+    ensures { λ r. ⌜ Files b (Call.Index number value) (r .answer) (r .book) ⌝ }
 {
     file(b, Call::Index { number, value })
 }

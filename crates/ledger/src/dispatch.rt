@@ -2,8 +2,6 @@
 ghost use mathlib.Core.Path.{_≡_};
 ghost use mathlib.Core.Bool.{true};
 ghost use Rattle.book.specs.Book.{bookWith, inRange};
-ghost use Rattle.calls.specs.Answers.{said};
-ghost use Rattle.ledger.specs.Calls.{apply as Calls·apply};
 ghost use Rattle.ledger.specs.Steps.{Leaves};
 use crate::Answered;
 use crate::in_place;
@@ -74,9 +72,9 @@ pub fn apply_in(
 }
 
 // A book by value: its parts are taken out, lent, and put together again.
-pub fn apply(b: Book, filing_call: Call) -> Answered
+pub(crate) fn apply(b: Book, filing_call: Call) -> Answered
     requires { ⌜ inRange b ≡ true ⌝ }
-    ensures { λ r. ⌜ (said (r .answer) ≡ Calls·apply b «filing_call» .said) × (r .book ≡ Calls·apply b «filing_call» .book) ⌝ }
+    ensures { λ r. ⌜ Leaves b «filing_call» (r .answer) (r .book) ⌝ }
 {
     let mut joined = b.joined;
     let mut marks = b.marks;

@@ -14,7 +14,6 @@ pub use by_value::rates;
 pub use by_value::setting;
 use calls::Answer;
 use calls::Refusal;
-pub use dispatch::apply;
 pub use dispatch::apply_in;
 
 // What a call gives: the book afterwards, and the answer.

@@ -1,14 +1,13 @@
 -- The book, an answer and a core's result as the theorem about lent calls takes them, the seven calls, and what each promises.
 -- Assumes nothing.
-use mathlib.Core.Path.{_≡_, refl, ap}
+use mathlib.Core.Path.{refl, ap}
 use mathlib.Core.List.{List, [], _∷_}
 use mir.Syntax.{w8, w32, w64}
 use denote.Struct.Laws as LL
 use denote.Steps.{only}
 use Rattle.calls.specs.declared.Call.{Call}
 use Rattle.calls.specs.declared.Call.the-variants.{Join, Setting, Interruption, Amount, Mark, Rates, Index}
-use Rattle.calls.specs.Answers.{said}
-use Rattle.ledger.specs.Calls.{file}
+use Rattle.ledger.specs.Filed.{Files}
 use Rattle.book.proofs.Book as B
 use Rattle.book.proofs.Book.Laws as B′
 use Rattle.calls.proofs.Answer as N
@@ -82,6 +81,6 @@ rates = record { params = u32 ∷ u32 ∷ []; call = λ xs. Rates (xs .0) (xs .1
 abbrev pub index : CallOf
 index = record { params = u8 ∷ u32 ∷ []; call = λ xs. Index (xs .0) (xs .1 .0) }
 
--- the answer is what the call says, and the new book the one that it leaves
-abbrev pub Files : (c : CallOf) → Promise filed (c .params)
-Files c b xs a b′ = (said a ≡ file b (c .call xs) .said) × (b′ ≡ file b (c .call xs) .book)
+-- what each promises of its parameters
+abbrev pub FilesBy : (c : CallOf) → Promise filed (c .params)
+FilesBy c b xs a b′ = Files b (c .call xs) a b′

@@ -1,8 +1,7 @@
 // The lent calls for code that holds a book by value: each lends it to the call of the same name and gives it back beside the answer, with the
 // contract of the by-value core.
 ghost use mathlib.Core.Path.{_≡_};
-ghost use Rattle.calls.specs.Answers.{said};
-ghost use Rattle.ledger.specs.Calls.{file as Calls·file};
+ghost use Rattle.ledger.specs.Filed.{Files};
 ghost use Rattle.filing.specs.Reader.{told, read as Reader·read};
 use crate::lending;
 use crate::reading;
@@ -12,14 +11,14 @@ use filing::Reading;
 use ledger::Answered;
 
 pub fn join(mut b: Book, operator: u8) -> Answered
-    ensures { λ r. ⌜ (said (r .answer) ≡ Calls·file b (Call.Join operator) .said) × (r .book ≡ Calls·file b (Call.Join operator) .book) ⌝ }
+    ensures { λ r. ⌜ Files b (Call.Join operator) (r .answer) (r .book) ⌝ }
 {
     let answer = lending::join(&mut b, operator);
     Answered { book: b, answer }
 }
 
 pub fn setting(mut b: Book, operator: u8, which: u8, value: u64) -> Answered
-    ensures { λ r. ⌜ (said (r .answer) ≡ Calls·file b (Call.Setting operator which value) .said) × (r .book ≡ Calls·file b (Call.Setting operator which value) .book) ⌝ }
+    ensures { λ r. ⌜ Files b (Call.Setting operator which value) (r .answer) (r .book) ⌝ }
 {
     let answer = lending::setting(&mut b, operator, which, value);
     Answered { book: b, answer }
@@ -35,35 +34,35 @@ pub fn interruption(
     end: i64,
     weight: u32,
 ) -> Answered
-    ensures { λ r. ⌜ (said (r .answer) ≡ Calls·file b (Call.Interruption operator sign level cause start end weight) .said) × (r .book ≡ Calls·file b (Call.Interruption operator sign level cause start end weight) .book) ⌝ }
+    ensures { λ r. ⌜ Files b (Call.Interruption operator sign level cause start end weight) (r .answer) (r .book) ⌝ }
 {
     let answer = lending::interruption(&mut b, operator, sign, level, cause, start, end, weight);
     Answered { book: b, answer }
 }
 
 pub fn amount(mut b: Book, operator: u8, year: u8, figure: u8, sign: u8, value: u64) -> Answered
-    ensures { λ r. ⌜ (said (r .answer) ≡ Calls·file b (Call.Amount operator year figure sign value) .said) × (r .book ≡ Calls·file b (Call.Amount operator year figure sign value) .book) ⌝ }
+    ensures { λ r. ⌜ Files b (Call.Amount operator year figure sign value) (r .answer) (r .book) ⌝ }
 {
     let answer = lending::amount(&mut b, operator, year, figure, sign, value);
     Answered { book: b, answer }
 }
 
 pub fn mark(mut b: Book, operator: u8, indicator: u8, mark: u8) -> Answered
-    ensures { λ r. ⌜ (said (r .answer) ≡ Calls·file b (Call.Mark operator indicator mark) .said) × (r .book ≡ Calls·file b (Call.Mark operator indicator mark) .book) ⌝ }
+    ensures { λ r. ⌜ Files b (Call.Mark operator indicator mark) (r .answer) (r .book) ⌝ }
 {
     let answer = lending::mark(&mut b, operator, indicator, mark);
     Answered { book: b, answer }
 }
 
 pub fn rates(mut b: Book, pot: u32, cap: u32) -> Answered
-    ensures { λ r. ⌜ (said (r .answer) ≡ Calls·file b (Call.Rates pot cap) .said) × (r .book ≡ Calls·file b (Call.Rates pot cap) .book) ⌝ }
+    ensures { λ r. ⌜ Files b (Call.Rates pot cap) (r .answer) (r .book) ⌝ }
 {
     let answer = lending::rates(&mut b, pot, cap);
     Answered { book: b, answer }
 }
 
 pub fn index(mut b: Book, number: u8, value: u32) -> Answered
-    ensures { λ r. ⌜ (said (r .answer) ≡ Calls·file b (Call.Index number value) .said) × (r .book ≡ Calls·file b (Call.Index number value) .book) ⌝ }
+    ensures { λ r. ⌜ Files b (Call.Index number value) (r .answer) (r .book) ⌝ }
 {
     let answer = lending::index(&mut b, number, value);
     Answered { book: b, answer }

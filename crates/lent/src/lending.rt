@@ -1,15 +1,13 @@
 // The filing calls with the book lent. Each is its core of the same name, lent: the core is given a copy of the book, the book that it leaves is
 // stored where the lent one stands, and its answer is the answer.
-ghost use mathlib.Core.Path.{_≡_};
-ghost use Rattle.calls.specs.Answers.{said};
-ghost use Rattle.ledger.specs.Calls.{file as Calls·file};
+ghost use Rattle.ledger.specs.Filed.{Files};
 use book::Book;
 use calls::Answer;
 use calls::Call;
 
 // An operator, 0 to 15, joins.
 pub fn join(b: &mut Book, operator: u8) -> Answer
-    ensures { λ r. ⌜ (said r ≡ Calls·file (now (b .entry)) (Call.Join operator) .said) × (now (b .exit) ≡ Calls·file (now (b .entry)) (Call.Join operator) .book) ⌝ }
+    ensures { λ r. ⌜ Files (now (b .entry)) (Call.Join operator) r (now (b .exit)) ⌝ }
 {
     let filed = ledger::join(*b, operator);
     *b = filed.book;
@@ -18,7 +16,7 @@ pub fn join(b: &mut Book, operator: u8) -> Answer
 
 // The latest value of an operator's cabins (which 0), active access points (1) or income in cents (2).
 pub fn setting(b: &mut Book, operator: u8, which: u8, value: u64) -> Answer
-    ensures { λ r. ⌜ (said r ≡ Calls·file (now (b .entry)) (Call.Setting operator which value) .said) × (now (b .exit) ≡ Calls·file (now (b .entry)) (Call.Setting operator which value) .book) ⌝ }
+    ensures { λ r. ⌜ Files (now (b .entry)) (Call.Setting operator which value) r (now (b .exit)) ⌝ }
 {
     let filed = ledger::setting(*b, operator, which, value);
     *b = filed.book;
@@ -38,7 +36,7 @@ pub fn interruption(
     end: i64,
     weight: u32,
 ) -> Answer
-    ensures { λ r. ⌜ (said r ≡ Calls·file (now (b .entry)) (Call.Interruption operator sign level cause start end weight) .said) × (now (b .exit) ≡ Calls·file (now (b .entry)) (Call.Interruption operator sign level cause start end weight) .book) ⌝ }
+    ensures { λ r. ⌜ Files (now (b .entry)) (Call.Interruption operator sign level cause start end weight) r (now (b .exit)) ⌝ }
 {
     let filed = ledger::interruption(*b, operator, sign, level, cause, start, end, weight);
     *b = filed.book;
@@ -47,7 +45,7 @@ pub fn interruption(
 
 // An amount is filed to (sign 0) or withdrawn from (1) a figure, 0 to 7, of an operator and year, 0 to 2.
 pub fn amount(b: &mut Book, operator: u8, year: u8, figure: u8, sign: u8, value: u64) -> Answer
-    ensures { λ r. ⌜ (said r ≡ Calls·file (now (b .entry)) (Call.Amount operator year figure sign value) .said) × (now (b .exit) ≡ Calls·file (now (b .entry)) (Call.Amount operator year figure sign value) .book) ⌝ }
+    ensures { λ r. ⌜ Files (now (b .entry)) (Call.Amount operator year figure sign value) r (now (b .exit)) ⌝ }
 {
     let filed = ledger::amount(*b, operator, year, figure, sign, value);
     *b = filed.book;
@@ -56,7 +54,7 @@ pub fn amount(b: &mut Book, operator: u8, year: u8, figure: u8, sign: u8, value:
 
 // An operator is marked unreliable (mark 1), or not (0), at an indicator, 0 to 5.
 pub fn mark(b: &mut Book, operator: u8, indicator: u8, mark: u8) -> Answer
-    ensures { λ r. ⌜ (said r ≡ Calls·file (now (b .entry)) (Call.Mark operator indicator mark) .said) × (now (b .exit) ≡ Calls·file (now (b .entry)) (Call.Mark operator indicator mark) .book) ⌝ }
+    ensures { λ r. ⌜ Files (now (b .entry)) (Call.Mark operator indicator mark) r (now (b .exit)) ⌝ }
 {
     let filed = ledger::mark(*b, operator, indicator, mark);
     *b = filed.book;
@@ -65,7 +63,7 @@ pub fn mark(b: &mut Book, operator: u8, indicator: u8, mark: u8) -> Answer
 
 // Pot rate and cap rate, in millionths.
 pub fn rates(b: &mut Book, pot: u32, cap: u32) -> Answer
-    ensures { λ r. ⌜ (said r ≡ Calls·file (now (b .entry)) (Call.Rates pot cap) .said) × (now (b .exit) ≡ Calls·file (now (b .entry)) (Call.Rates pot cap) .book) ⌝ }
+    ensures { λ r. ⌜ Files (now (b .entry)) (Call.Rates pot cap) r (now (b .exit)) ⌝ }
 {
     let filed = ledger::rates(*b, pot, cap);
     *b = filed.book;
@@ -74,7 +72,7 @@ pub fn rates(b: &mut Book, pot: u32, cap: u32) -> Answer
 
 // An index in hundredths: numbers 0 to 2 for the June before each year, 3 for June 2013.
 pub fn index(b: &mut Book, number: u8, value: u32) -> Answer
-    ensures { λ r. ⌜ (said r ≡ Calls·file (now (b .entry)) (Call.Index number value) .said) × (now (b .exit) ≡ Calls·file (now (b .entry)) (Call.Index number value) .book) ⌝ }
+    ensures { λ r. ⌜ Files (now (b .entry)) (Call.Index number value) r (now (b .exit)) ⌝ }
 {
     let filed = ledger::index(*b, number, value);
     *b = filed.book;

@@ -22,7 +22,7 @@ use Rattle.book.specs.declared.Book.{Book}
 use Rattle.book.specs.Book.{isJoined, settingOf, inRange}
 use Rattle.book.proofs.Bounds.{bounded}
 use Rattle.values.specs.Operators.{each}
-use Rattle.values.specs.Indicator.{Indicator, electricity, reliableMask, pool}
+use Rattle.values.specs.Indicator.{Indicator, electricity, reliableMask, pool, numbered}
 use Rattle.values.proofs.AnyLaws.{or-left, each-of-none}
 use Rattle.values.proofs.Tables.{each-le-sum, some-place}
 use Rattle.indicators.specs.Points.{points, allPoints}
@@ -124,17 +124,17 @@ returns-whole b indicators ranged worth network reliable =
     let found = some-points b ranged indicators worth reliable in
     shared-whole (pot b) _ (found .0) (found .1) (mul-pos (joined-access b network (found .0) (found .1) (found .2)) (found .3))
 
--- the points and the pool at a place of the list are those of one indicator
-placed : (b : Book) (indicators : List Indicator) (place : ℕ) → place < length indicators
-    → (indicator : Indicator) × (take 16 (drop (16 * place) (pointsOfAll b indicators)) ≡ points b indicator)
-    × (getD (map (pool b) indicators) place 0 ≡ pool b indicator)
+-- the points and the pool at a place of the list are those of its indicator
+pub placed : (b : Book) (indicators : List Indicator) (place : ℕ) (other : Indicator) → place < length indicators
+    → (take 16 (drop (16 * place) (pointsOfAll b indicators)) ≡ points b (getD indicators place other))
+    × (getD (map (pool b) indicators) place 0 ≡ pool b (getD indicators place other))
 unfolding pointsOfAll
-placed b [] place lt = absurd (omega arith)
-placed b (indicator ∷ rest) zero lt = (indicator, take-at (points b indicator) _ 16 (points-length b indicator), refl)
-placed b (indicator ∷ rest) (suc place) lt =
-    let found = placed b rest place (omega arith) in
+placed b [] place other lt = absurd (omega arith)
+placed b (indicator ∷ rest) zero other lt = (take-at (points b indicator) _ 16 (points-length b indicator), refl)
+placed b (indicator ∷ rest) (suc place) other lt =
+    let found = placed b rest place other (omega arith) in
     let further : 16 * suc place ≡ length (points b indicator) + 16 * place = omega (arith, points-length b indicator) in
-    (found .0, rw (further, drop-append-add (points b indicator) (pointsOfAll b rest) (16 * place)) (found .1), found .2)
+    (rw (further, drop-append-add (points b indicator) (pointsOfAll b rest) (16 * place)) (found .0), found .1)
 
 balanced-settlement : (b : Book) (indicators : List Indicator) → Worth indicators → Settles b indicators → Balanced b indicators (settlementBy b indicators)
 unfolding settlementBy pointsAt
@@ -143,16 +143,15 @@ balanced-settlement b indicators worth settles =
     let network = settles-network b indicators settles in
     record {
       points-whole = λ place lt.
-          let at = placed b indicators place lt in
-          ap sum (at .1) ∙ points-made-up b (at .0) ranged .whole ∙ sym (at .2);
+          let at = placed b indicators place (numbered 0) lt in
+          ap sum (at .0) ∙ points-made-up b _ ranged .whole ∙ sym (at .1);
       contributions-whole = contributions-whole b ranged (settles-somebody b indicators settles) network;
       returns-whole = returns-whole b indicators ranged worth network (settles-reliable b indicators settles);
       adjustments-cancel = adjustments-cancel b indicators;
       within-limits = within-limits b indicators;
       unjoined-nought = λ operator lt apart. (
         λ place inside.
-            let at = placed b indicators place inside in
-            ap (λ (l : List ℕ). getD l operator 0) (at .1) ∙ points-unjoined b ranged operator lt apart (at .0),
+            ap (λ (l : List ℕ). getD l operator 0) (placed b indicators place (numbered 0) inside .0) ∙ points-unjoined b ranged operator lt apart _,
         contribution-none b ranged operator lt apart,
         return-none b ranged operator lt apart indicators,
         limit-none b ranged operator lt apart,

@@ -1,6 +1,6 @@
 -- `ledger::in_place::enter_amount` meets its contract.
 -- Assumes nothing.
-use mathlib.Core.Path.{refl, sym, _∙_}
+use mathlib.Core.Path.{refl}
 use Rattle.calls.specs.Answers.{yes-said}
 use Rattle.calls.specs.Call.{entry}
 use Rattle.book.specs.Book.{bookWith, figureOf}
@@ -42,7 +42,7 @@ unfolding figureOf
 returns c = λ joined pot cap marks settings indices.
     let start = c .before .before .before .before .before .before in
     let slot = c .before .before .before .before .before .figure-slot .ensures .0 in
-    let moved = moved-as (start .args .sign) (start .args .value) _ (start .pre .sign-most) _ (sym (rw slot at (c .before .before .before .move-figure .ensures)) ∙ c .before .moved .given .1) in
+    let moved = moved-as (start .args .sign) (start .args .value) _ (start .pre .sign-most) (c .before .moved .given .1) (rw slot at (c .before .before .before .move-figure .ensures)) in
     rw (slot, one-moved (bookWith joined marks settings (start .args .figures .now) pot cap indices) (entry (start .args .operator) (start .args .year) (start .args .figure) (start .args .sign) (start .args .value)) yes-said _ moved) (refl, refl)
 
 -- 8
@@ -51,7 +51,7 @@ unfolding figureOf
 returns-2 c = λ joined pot cap marks settings indices.
     let start = c .before .before .before .before .before in
     let slot = c .before .before .before .before .figure-slot .ensures .0 in
-    let moved = moved-as (start .args .sign) (start .args .value) _ (start .pre .sign-most) _ (sym (rw slot at (c .before .before .move-figure .ensures)) ∙ c .enum-told .given .1) in
+    let moved = moved-as (start .args .sign) (start .args .value) _ (start .pre .sign-most) (c .enum-told .given .1) (rw slot at (c .before .before .move-figure .ensures)) in
     rw (one-above (bookWith joined marks settings (start .args .figures .now) pot cap indices) (entry (start .args .operator) (start .args .year) (start .args .figure) (start .args .sign) (start .args .value)) yes-said moved) (refl, refl)
 
 -- 9
@@ -60,7 +60,7 @@ unfolding figureOf
 returns-3 c = λ joined pot cap marks settings indices.
     let start = c .before .before .before .before .before in
     let slot = c .before .before .before .before .figure-slot .ensures .0 in
-    let moved = moved-as (start .args .sign) (start .args .value) _ (start .pre .sign-most) _ (sym (rw slot at (c .before .before .move-figure .ensures)) ∙ c .enum-told2 .given .1) in
+    let moved = moved-as (start .args .sign) (start .args .value) _ (start .pre .sign-most) (c .enum-told2 .given .1) (rw slot at (c .before .before .move-figure .ensures)) in
     rw (one-below (bookWith joined marks settings (start .args .figures .now) pot cap indices) (entry (start .args .operator) (start .args .year) (start .args .figure) (start .args .sign) (start .args .value)) yes-said moved) (refl, refl)
 
 pub enter-amount-spec : {M : Type 1} → statement M

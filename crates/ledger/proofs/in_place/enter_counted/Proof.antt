@@ -1,7 +1,7 @@
 -- `ledger::in_place::enter_counted` meets its contract.
 -- Assumes nothing.
 use Prim.Native.Nat.{_+_, _*_}
-use mathlib.Core.Path.{refl, sym, _∙_}
+use mathlib.Core.Path.{refl}
 use native.Mathlib.Omega.{arith}
 use native.Mathlib.Nat.{mul-le-mul}
 use Rattle.book.specs.Book.{bookWith, figureOf}
@@ -88,8 +88,8 @@ returns c = λ joined pot cap marks settings indices.
     let start = c .before .before .before .before .before .before .before .before .before .before .before .before in
     let weight-slot = c .before .before .before .before .before .before .before .before .before .before .before .figure-slot .ensures .0 in
     let seconds-slot = c .before .before .before .before .before .before .before .before .before .before .figure-slot2 .ensures .0 in
-    let weight = moved-as (start .args .sign) (start .args .weight) _ (start .pre .sign-most) _ (sym (rw weight-slot at (c .before .before .before .before .before .before .before .before .move-figure .ensures)) ∙ c .before .before .before .before .before .before .moved .given .1) in
-    let seconds = moved-as (start .args .sign) (start .args .weight * start .args .seconds) _ (start .pre .sign-most) _ (sym (rw seconds-slot at (c .before .before .before .move-figure2 .ensures)) ∙ c .before .moved-seconds .given .1) in
+    let weight = moved-as (start .args .sign) (start .args .weight) _ (start .pre .sign-most) (c .before .before .before .before .before .before .moved .given .1) (rw weight-slot at (c .before .before .before .before .before .before .before .before .move-figure .ensures)) in
+    let seconds = moved-as (start .args .sign) (start .args .weight * start .args .seconds) _ (start .pre .sign-most) (c .before .moved-seconds .given .1) (rw seconds-slot at (c .before .before .before .move-figure2 .ensures)) in
     rw (weight-slot, seconds-slot, both-moved (bookWith joined marks settings (start .args .figures .now) pot cap indices) (entry (start .args .operator) (start .args .year) (2 * start .args .level) (start .args .sign) (start .args .weight)) (counted-in (start .args .year)) (entry (start .args .operator) (start .args .year) (2 * start .args .level + 1) (start .args .sign) (start .args .weight * start .args .seconds)) _ weight _ (slots-apart (start .args .operator) (start .args .year) (2 * start .args .level)) seconds) (refl, refl)
 
 -- 8, by the seconds
@@ -99,8 +99,8 @@ returns-2 c = λ joined pot cap marks settings indices.
     let start = c .before .before .before .before .before .before .before .before .before .before .before in
     let weight-slot = c .before .before .before .before .before .before .before .before .before .before .figure-slot .ensures .0 in
     let seconds-slot = c .before .before .before .before .before .before .before .before .before .figure-slot2 .ensures .0 in
-    let weight = moved-as (start .args .sign) (start .args .weight) _ (start .pre .sign-most) _ (sym (rw weight-slot at (c .before .before .before .before .before .before .before .move-figure .ensures)) ∙ c .before .before .before .before .before .moved .given .1) in
-    let seconds = moved-as (start .args .sign) (start .args .weight * start .args .seconds) _ (start .pre .sign-most) _ (sym (rw seconds-slot at (c .before .before .move-figure2 .ensures)) ∙ c .enum-told .given .1) in
+    let weight = moved-as (start .args .sign) (start .args .weight) _ (start .pre .sign-most) (c .before .before .before .before .before .moved .given .1) (rw weight-slot at (c .before .before .before .before .before .before .before .move-figure .ensures)) in
+    let seconds = moved-as (start .args .sign) (start .args .weight * start .args .seconds) _ (start .pre .sign-most) (c .enum-told .given .1) (rw seconds-slot at (c .before .before .move-figure2 .ensures)) in
     rw (second-above (bookWith joined marks settings (start .args .figures .now) pot cap indices) (entry (start .args .operator) (start .args .year) (2 * start .args .level) (start .args .sign) (start .args .weight)) (counted-in (start .args .year)) (entry (start .args .operator) (start .args .year) (2 * start .args .level + 1) (start .args .sign) (start .args .weight * start .args .seconds)) _ weight seconds) (refl, refl)
 
 -- 9, by the seconds
@@ -110,8 +110,8 @@ returns-3 c = λ joined pot cap marks settings indices.
     let start = c .before .before .before .before .before .before .before .before .before .before .before in
     let weight-slot = c .before .before .before .before .before .before .before .before .before .before .figure-slot .ensures .0 in
     let seconds-slot = c .before .before .before .before .before .before .before .before .before .figure-slot2 .ensures .0 in
-    let weight = moved-as (start .args .sign) (start .args .weight) _ (start .pre .sign-most) _ (sym (rw weight-slot at (c .before .before .before .before .before .before .before .move-figure .ensures)) ∙ c .before .before .before .before .before .moved .given .1) in
-    let seconds = moved-as (start .args .sign) (start .args .weight * start .args .seconds) _ (start .pre .sign-most) _ (sym (rw seconds-slot at (c .before .before .move-figure2 .ensures)) ∙ c .enum-told2 .given .1) in
+    let weight = moved-as (start .args .sign) (start .args .weight) _ (start .pre .sign-most) (c .before .before .before .before .before .moved .given .1) (rw weight-slot at (c .before .before .before .before .before .before .before .move-figure .ensures)) in
+    let seconds = moved-as (start .args .sign) (start .args .weight * start .args .seconds) _ (start .pre .sign-most) (c .enum-told2 .given .1) (rw seconds-slot at (c .before .before .move-figure2 .ensures)) in
     rw (second-below (bookWith joined marks settings (start .args .figures .now) pot cap indices) (entry (start .args .operator) (start .args .year) (2 * start .args .level) (start .args .sign) (start .args .weight)) (counted-in (start .args .year)) (entry (start .args .operator) (start .args .year) (2 * start .args .level + 1) (start .args .sign) (start .args .weight * start .args .seconds)) _ weight seconds) (refl, refl)
 
 -- 8, by the weight
@@ -121,7 +121,7 @@ returns-4 c = λ joined pot cap marks settings indices.
     let start = c .before .before .before .before .before .before in
     let weight-slot = c .before .before .before .before .before .figure-slot .ensures .0 in
     let seconds-slot = c .before .before .before .before .figure-slot2 .ensures .0 in
-    let weight = moved-as (start .args .sign) (start .args .weight) _ (start .pre .sign-most) _ (sym (rw weight-slot at (c .before .before .move-figure .ensures)) ∙ c .enum-told3 .given .1) in
+    let weight = moved-as (start .args .sign) (start .args .weight) _ (start .pre .sign-most) (c .enum-told3 .given .1) (rw weight-slot at (c .before .before .move-figure .ensures)) in
     rw (first-above (bookWith joined marks settings (start .args .figures .now) pot cap indices) (entry (start .args .operator) (start .args .year) (2 * start .args .level) (start .args .sign) (start .args .weight)) (counted-in (start .args .year)) (entry (start .args .operator) (start .args .year) (2 * start .args .level + 1) (start .args .sign) (start .args .weight * start .args .seconds)) weight) (refl, refl)
 
 -- 9, by the weight
@@ -131,7 +131,7 @@ returns-5 c = λ joined pot cap marks settings indices.
     let start = c .before .before .before .before .before .before in
     let weight-slot = c .before .before .before .before .before .figure-slot .ensures .0 in
     let seconds-slot = c .before .before .before .before .figure-slot2 .ensures .0 in
-    let weight = moved-as (start .args .sign) (start .args .weight) _ (start .pre .sign-most) _ (sym (rw weight-slot at (c .before .before .move-figure .ensures)) ∙ c .enum-told4 .given .1) in
+    let weight = moved-as (start .args .sign) (start .args .weight) _ (start .pre .sign-most) (c .enum-told4 .given .1) (rw weight-slot at (c .before .before .move-figure .ensures)) in
     rw (first-below (bookWith joined marks settings (start .args .figures .now) pot cap indices) (entry (start .args .operator) (start .args .year) (2 * start .args .level) (start .args .sign) (start .args .weight)) (counted-in (start .args .year)) (entry (start .args .operator) (start .args .year) (2 * start .args .level + 1) (start .args .sign) (start .args .weight * start .args .seconds)) refl weight) (refl, refl)
 
 pub enter-counted-spec : {M : Type 1} → statement M

@@ -1,0 +1,95 @@
+-- Calls made in turn: the answers and the last book of every run are the defined ones, and every list of calls has a run.
+-- Assumes nothing.
+use Prim.Native.Nat.{ℕ, zero, suc, _≤_}
+use mathlib.Core.Path.{_≡_, refl, ap₂}
+use mathlib.Core.Bool.{Bool, true, false, cond, _&&_}
+use mathlib.Core.List.{List, [], _∷_, map}
+use native.Mathlib.Omega.{arith}
+use lib.Dec.{leb}
+use borrow.Author.Tests.{leb-true}
+use Rattle.calls.specs.declared.Call.{Call}
+use Rattle.calls.specs.declared.Call.the-variants.{Join, Setting, Interruption, Amount, Mark, Rates, Index}
+use Rattle.calls.specs.declared.Answer.{Answer}
+use Rattle.calls.specs.Limits.{shortMost}
+use Rattle.calls.specs.Answers.{Said, refused-by, accepted, firstOf, Acceptance, yes-said, counted-in, left-out-as-short, left-out-under, said}
+use Rattle.calls.specs.Call.{outcome, factsOf}
+use Rattle.calls.proofs.Flags.{both}
+use Rattle.calls.proofs.SaidLaws.{answerSaying}
+use Rattle.book.specs.declared.Book.{Book}
+use Rattle.book.specs.Book.{inRange}
+use Rattle.ledger.specs.Table.{linesFor, answerTo}
+use Rattle.ledger.specs.Calls.{outcomeOf, apply, file, filedBook, filedAnswers}
+use Rattle.ledger.specs.Filed.{FiledInTurn}
+
+-- ---- a run gives what is defined
+pub in-turn : (calls : List Call) (answers : List Answer) (b last : Book) → FiledInTurn b calls answers last
+    → (map said answers ≡ filedAnswers b calls) × (last ≡ filedBook b calls)
+unfolding filedAnswers filedBook
+in-turn [] [] b last ended = (refl, ended)
+in-turn [] (answer ∷ answers) b last none = absurd none
+in-turn (call ∷ calls) [] b last none = absurd none
+in-turn (call ∷ calls) (answer ∷ answers) b last (next, (says, leaves), rest) =
+    let later : (map said answers ≡ filedAnswers (file b call .book) calls) × (last ≡ filedBook (file b call .book) calls) =
+    rw leaves at (in-turn calls answers next last rest) in
+    (ap₂ _∷_ says (later .0), later .1)
+
+-- ---- some answer says what is defined
+abbrev Sayable : Said Acceptance → Type 0
+Sayable s = said (answerSaying s) ≡ s
+
+-- a cause under which an interruption is left out is 1, 2 or 3
+sayable-cause : (cause : ℕ) → 1 ≤ cause → cause ≤ 3 → Sayable (accepted (left-out-under cause))
+sayable-cause zero least most = absurd (omega (arith, least))
+sayable-cause (suc zero) least most = refl
+sayable-cause (suc (suc zero)) least most = refl
+sayable-cause (suc (suc (suc zero))) least most = refl
+sayable-cause (suc (suc (suc (suc more)))) least most = absurd (omega (arith, most))
+
+sayable-outcome : (cause seconds year : ℕ) → Sayable (accepted (outcome cause seconds year))
+unfolding outcome
+sayable-outcome cause seconds year = go (leb seconds shortMost) (leb 1 cause && leb cause 3) refl
+  where
+    go : (short under : Bool) → leb 1 cause && leb cause 3 ≡ under
+        → Sayable (accepted (cond short left-out-as-short (cond under (left-out-under cause) (counted-in year))))
+    go true under tests = refl
+    go false true tests =
+        let ends = both (leb 1 cause) (leb cause 3) tests in
+        sayable-cause cause (leb-true 1 cause (ends .0)) (leb-true cause 3 (ends .1))
+    go false false tests = refl
+
+sayable-facts : (call : Call) → Sayable (accepted (factsOf call .answer))
+unfolding factsOf
+sayable-facts (Join operator) = refl
+sayable-facts (Setting operator which value) = refl
+sayable-facts (Interruption operator sign level cause start end weight) = sayable-outcome cause _ _
+sayable-facts (Amount operator year figure sign value) = refl
+sayable-facts (Mark operator indicator mark) = refl
+sayable-facts (Rates pot cap) = refl
+sayable-facts (Index number value) = refl
+
+sayable-lines : (four five six seven eight nine : Bool) (value : Acceptance) → Sayable (accepted value)
+    → Sayable (firstOf ((4, four) ∷ (5, five) ∷ (6, six) ∷ (7, seven) ∷ (8, eight) ∷ (9, nine) ∷ []) value)
+unfolding firstOf
+sayable-lines true five six seven eight nine value it = refl
+sayable-lines false true six seven eight nine value it = refl
+sayable-lines false false true seven eight nine value it = refl
+sayable-lines false false false true eight nine value it = refl
+sayable-lines false false false false true nine value it = refl
+sayable-lines false false false false false true value it = refl
+sayable-lines false false false false false false value it = it
+
+sayable-filed : (b : Book) (call : Call) → Sayable (file b call .said)
+unfolding file apply outcomeOf answerTo linesFor
+sayable-filed b call = go (inRange b)
+  where
+    go : (ranged : Bool) → Sayable (cond ranged (apply b call) (outcomeOf b b (refused-by 5)) .said)
+    go true = sayable-lines _ _ _ _ _ _ (factsOf call .answer) (sayable-facts call)
+    go false = refl
+
+-- ---- so every list has a run
+pub has-run : (calls : List Call) (b : Book) → (answers : List Answer) × FiledInTurn b calls answers (filedBook b calls)
+unfolding filedBook
+has-run [] b = ([], refl)
+has-run (call ∷ calls) b =
+    let later = has-run calls (file b call .book) in
+    (answerSaying (file b call .said) ∷ later .0, (file b call .book, (sayable-filed b call, refl), later .1))
