@@ -17,8 +17,8 @@ KINDS = ["code", "definition", "contract"]
 PAGE = """\
 # Refused edits
 
-A refused edit is a wrong program: a change to one or two lines of a crate, kept in `crates/CRATE/must-fail/NAME.edit`. The gate makes
-each in a copy of the crate, and passes only if the prover refuses what comes of it. *Code*: the code is changed, and what it promises
+A refused edit is a wrong program: a small change to a crate, kept in `crates/CRATE/must-fail/NAME.edit`. The gate makes each in a copy
+of the crate, and passes only if the prover refuses what comes of it. *Code*: the code is changed, and what it promises
 stays. *Definition*: a definition is changed, and the code or the theorem does not meet it. *Contract*: what a function promises, or asks of
 its caller, is changed, and its code stays.
 
@@ -75,10 +75,11 @@ def pairs(lines):
 
 def changed_kind(name, text, old):
     """What a replacement of the old text in a file changes; nothing if that is an import of a contract's names."""
-    if name.startswith("specs/"):
+    parts = name.split("/")
+    if parts[0] not in ("src", "specs") or ".." in parts:
+        raise Malformed(f"it changes {name}, which is neither in src/ nor in specs/")
+    if parts[0] == "specs":
         return "definition"
-    if not name.startswith("src/"):
-        raise Malformed(f"it changes {name or 'no file'}, which is neither in src/ nor in specs/")
     if old.startswith("ghost use "):
         return None
     before = text[: text.index(old)]
@@ -140,7 +141,7 @@ def all_rows(root):
     for path in edits(root):
         try:
             rows.append(row(path))
-        except Malformed as problem:
+        except (Malformed, OSError, UnicodeDecodeError) as problem:
             problems.append(f"{path.relative_to(root)}: {problem}")
     return rows, problems
 
@@ -153,7 +154,7 @@ def main():
     path = arguments.root / "docs" / "REFUSED.md"
     try:
         rows, problems = all_rows(arguments.root)
-    except (Malformed, OSError, UnicodeDecodeError) as problem:
+    except (Malformed, OSError) as problem:
         rows, problems = [], [str(problem)]
     if problems:
         sys.exit("\n".join(problems))
