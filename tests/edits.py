@@ -22,8 +22,8 @@ of the crate, and passes only if the prover refuses what comes of it. *Code*: th
 stays. *Definition*: a definition is changed, and the code or the theorem does not meet it. *Contract*: what a function promises, or asks of
 its caller, is changed, and its code stays.
 
-Each is refused at a fact that no longer holds: the first error of its log shows two values that differ, or numbers at which a bound
-fails. {others}
+Each is refused at a fact that no longer holds: the first error of its log shows two values that differ, numbers at which a bound fails,
+or a condition that nothing gives any more. {others}
 
 Made by `tests/edits.py` from the first line of each edit: change those, not this page.
 
