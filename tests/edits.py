@@ -5,7 +5,7 @@ tests/edits.py            writes the page anew
 tests/edits.py --check    compares it with the one in the tree, and fails if an edit no longer fits the file that it changes
 
 The first line of an edit is "# CONTRACT | WRONG PROGRAM | KIND", where KIND is code, definition or contract; a fourth part says why
-it is refused, if that is not at the fact that no longer holds.
+it is refused, if that is not the false fact.
 """
 
 import argparse
@@ -52,7 +52,7 @@ def edits(root):
 
 
 def heading(first):
-    """What the first line of an edit says: contract, wrong program, kind, and where it is refused or nothing."""
+    """What the first line of an edit says: contract, wrong program, kind, and why it is refused if that is not the false fact."""
     parts = [part.strip() for part in first[1:].split(" | ")]
     if not first.startswith("# ") or len(parts) not in (3, 4) or not all(parts) or parts[2] not in KINDS:
         raise Malformed(f"the first line is not '# CONTRACT | WRONG PROGRAM | {' or '.join(KINDS)}': {first!r}")
@@ -105,25 +105,25 @@ def fitted(crate, lines):
 
 
 def row(path):
-    """The contract, the wrong program, the kind, the edit's name, and where it is refused."""
-    lines = path.read_text(encoding="utf-8").splitlines()
-    contract, wrong, kind, where = heading(lines[0] if lines else "")
+    """The contract, the wrong program, the kind, the edit's name, and why it is refused if that is not the false fact."""
+    lines = path.read_text(encoding="utf-8").split("\n")
+    contract, wrong, kind, why = heading(lines[0])
     crate = path.parent.parent
     kinds = fitted(crate, lines)
     if kinds != {kind}:
         raise Malformed(f"its first line says {kind}, and it changes {' and '.join(sorted(kinds))}")
-    return contract, wrong, kind, f"{crate.name}/{path.stem}", where
+    return contract, wrong, kind, f"{crate.name}/{path.stem}", why
 
 
 def others(rows):
-    """How many edits are refused at the fact: all, or all but those that are told to be refused elsewhere, one place a line."""
-    elsewhere = {}
-    for _, _, _, name, where in rows:
-        if where:
-            elsewhere.setdefault(where, []).append(f"`{name}`")
-    if not elsewhere:
+    """How many edits are refused at the false fact: all, or all but those that give another reason, one reason a line."""
+    reasons = {}
+    for _, _, _, name, why in rows:
+        if why:
+            reasons.setdefault(why, []).append(f"`{name}`")
+    if not reasons:
         return f"That is so of all {len(rows)}."
-    lines = [f"- {', '.join(names)}: {where}." for where, names in elsewhere.items()]
+    lines = [f"- {', '.join(names)}: {why}." for why, names in reasons.items()]
     return "\n".join([f"That is so of the {len(rows)} but for these:", "", *lines])
 
 
