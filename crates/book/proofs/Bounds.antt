@@ -3,6 +3,7 @@
 use Prim.Native.Nat.{ℕ, _^_, _≤_, _<_}
 use mathlib.Core.Path.{_≡_, refl}
 use mathlib.Core.Bool.{Bool, true, false, not, _&&_, _||_, false≢true}
+use native.Mathlib.Omega.{arith}
 use lib.Dec.{leb, ltb, eqb}
 use lib.ListN.{length, getD}
 use borrow.Author.Tests.{leb-true, le-leb, ltb-true, lt-ltb, eqb-true, eq-eqb}
@@ -44,7 +45,7 @@ complete b marks settings figures indices =
 
 pub sixteen-bits : {mask : ℕ} → mask < 2 ^ 16 → hasSixteenBits mask ≡ true
 unfolding hasSixteenBits
-sixteen-bits small = lt-ltb _ _ small
+sixteen-bits {mask = mask} small = lt-ltb mask _ (omega (arith, small))
 
 -- the bounds put a book in range
 module _ (b : Book) (bounds : Bounds b) where

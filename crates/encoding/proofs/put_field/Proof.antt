@@ -6,6 +6,13 @@ use Rattle.encoding.proofs.FieldLaws.{field-length, tag-room, length-ro
 use Rattle.encoding.proofs.put_field.Statement.{statement}
 use Rattle.encoding.proofs.put_field.Tie as tie
 
+-- what is put stands first, so that a wrong number is told before the room for it
+returns : tie.Need-returns
+returns c =
+    let begun = c .before .before .before .before .before .before .before .before .before .before .before .before .before .before .before .before .before .before .before in
+    let sized = c .before .before .before .before .before .before .before .before .before .before .put-number2 in
+    field-put (begun .args .out .now) (begun .args .at) (begun .args .field) (begun .pre) (c .before .before .before .before .before .before .before .before .before .before .before .before .before .before .before .put-number .ensures) {second = sized .result} (sized .ensures) (c .before .before .before .before .before .before .put-number3 .ensures) {after = c .before .before .put-number4 .result} (c .before .before .put-number4 .ensures)
+
 cast-put-number : tie.Need-cast-put-number
 cast-put-number c = search needs
 
@@ -36,11 +43,6 @@ put-number-requires-4 c κs =
 
 same-length : tie.Need-same-length
 same-length c = search needs
-
-returns : tie.Need-returns
-returns c =
-    let begun = c .before .before .before .before .before .before .before .before .before .before .before .before .before .before .before .before .before .before .before in
-    field-put (begun .args .out .now) (begun .args .at) (begun .args .field) (begun .pre) (c .before .before .before .before .before .before .before .before .before .before .before .before .before .before .before .put-number .ensures) (c .before .before .before .before .before .before .before .before .before .before .put-number2 .ensures) (c .before .before .before .before .before .before .put-number3 .ensures) (c .before .before .put-number4 .ensures)
 
 pub put-field-spec : {M : Type 1} → statement M
 put-field-spec =

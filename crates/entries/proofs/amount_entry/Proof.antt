@@ -1,8 +1,10 @@
 -- `entries::amount_entry` meets its contract.
 -- Assumes nothing.
-use mathlib.Core.Path.{refl}
+use mathlib.Core.Path.{_≡_, refl}
 use native.Mathlib.Omega.{arith}
 use borrow.Author.Tests.{eq-eqb, ne-eqb}
+use lib.ListN.{getD}
+use Rattle.book.specs.Book.{figureSlot}
 use Rattle.entries.specs.Entries.{amountAt}
 use Rattle.entries.proofs.EntryLaws.{nothing-there, amount-there}
 use Prim.Native.Nat.{_/_, _%_}
@@ -30,7 +32,10 @@ element-copy-out-value c = search needs
 
 returns : tie.Need-returns
 unfolding amountAt
-returns c = nothing-there (rw (← c .before .before .figure-slot .ensures .0, eq-eqb _ 0 (c .if1 .taken)) refl)
+returns c =
+    let place = c .before .before .before .args .place in
+    let at : c .before .before .figure-slot .result ≡ figureSlot (place / 24) (place % 24 / 8) (place % 8) = c .before .before .figure-slot .ensures .0 in
+    nothing-there (rw (← at, eq-eqb _ 0 (c .if1 .taken)) refl)
 
 mul-t16 : tie.Need-mul-t16
 mul-t16 c = search needs
@@ -54,7 +59,8 @@ returns-2 : tie.Need-returns-2
 unfolding amountAt
 returns-2 c =
     let place = c .before .before .before .args .place in
-    amount-there (place / 24) (omega arith) (place % 24 / 8) (place % 8) _ (omega arith) (omega arith) (rw (← c .before .before .figure-slot .ensures .0, ne-eqb _ 0 (c .if1 .left)) refl)
+    let figures = c .before .before .before .args .figures .now in
+    amount-there (place / 24) (omega arith) {calls = amountAt figures place} (place % 24 / 8) (place % 8) (getD figures (c .before .before .figure-slot .result) 0) (omega arith) (omega arith) (rw (← c .before .before .figure-slot .ensures .0, ne-eqb _ 0 (c .if1 .left)) refl)
 
 pub amount-entry-spec : {M : Type 1} → statement M
 amount-entry-spec =

@@ -16,6 +16,22 @@ use Rattle.output.proofs.put_refused.Reads as put-refused-reads
 use Rattle.text.proofs.put_decimal.Reads as put-decimal-reads
 use Rattle.text.proofs.put_word.Reads as put-word-reads
 
+-- what is put stands first, so that a wrong number is told before the room for it
+returns : tie.Need-returns
+unfolding refusedField bytesOf
+returns c =
+    let begun = c .before .before .before .before .before .before .before .before .before .before .before .before .before .before .before .before .before .before .before in
+    let number = begun .args .number in
+    let old = begun .args .out .now in
+    let small : number < 2 ^ 64 = omega arith in
+    let offset = begun .args .offset in
+    let most = room old (refusedField number offset) 53 (begun .pre) (field-length number small offset (omega arith)) (omega arith) in
+    let parts = refusedBy number ++ bytesOf " at " ++ decimal offset in
+    let three = room-first old 0 parts (bytesOf "\n") most in
+    let last = c .before .before .before .before .before .before .before .put-decimal in
+    at-front old (refusedField number offset)
+    (put-then old 0 parts (bytesOf "\n") most (put-three old 0 (refusedBy number) (bytesOf " at ") (decimal offset) three (c .before .before .before .before .before .before .before .before .before .before .before .before .before .before .before .before .put-refused .ensures) (c .before .before .before .before .before .before .before .before .before .before .before .put-word .ensures) {after = last .result} (last .ensures)) (c .before .before .put-word2 .ensures))
+
 put-refused-requires : tie.Need-put-refused-requires
 put-refused-requires c κs = search needs
 
@@ -66,20 +82,6 @@ put-word-requires-2 c κs =
 
 same-length : tie.Need-same-length
 same-length c = search needs
-
-returns : tie.Need-returns
-unfolding refusedField bytesOf
-returns c =
-    let begun = c .before .before .before .before .before .before .before .before .before .before .before .before .before .before .before .before .before .before .before in
-    let number = begun .args .number in
-    let old = begun .args .out .now in
-    let small : number < 2 ^ 64 = omega arith in
-    let offset = begun .args .offset in
-    let most = room old (refusedField number offset) 53 (begun .pre) (field-length number small offset (omega arith)) (omega arith) in
-    let parts = refusedBy number ++ bytesOf " at " ++ decimal offset in
-    let three = room-first old 0 parts (bytesOf "\n") most in
-    at-front old (refusedField number offset)
-    (put-then old 0 parts (bytesOf "\n") most (put-three old 0 (refusedBy number) (bytesOf " at ") (decimal offset) three (c .before .before .before .before .before .before .before .before .before .before .before .before .before .before .before .before .put-refused .ensures) (c .before .before .before .before .before .before .before .before .before .before .before .put-word .ensures) (c .before .before .before .before .before .before .before .put-decimal .ensures)) (c .before .before .put-word2 .ensures))
 
 pub put-refused-field-spec : {M : Type 1} → statement M
 put-refused-field-spec =

@@ -10,6 +10,16 @@ use borrow.Author.Needs.{needs}
 use Rattle.text.proofs.put_signed.Statement.{statement}
 use Rattle.text.proofs.put_signed.Tie as tie
 
+-- what is put stands first, so that a wrong byte is told before the room for it
+returns : tie.Need-returns
+returns c =
+    let begun = c .before .before .before .before .before .before .before .before .before .before .before in
+    let size : c .before .before .before .before .before .before .before .before .before .magnitude .result ≡ natAbs (begun .args .n) = size-again (begun .args .n) (begun .pre .0) (c .before .before .before .before .before .before .before .before .before .magnitude .ensures) in
+    let text = signed-negative (begun .args .n) (begun .pre .0) (c .before .before .before .before .before .before .before .before .if1 .taken) in
+    let sign = c .before .before .before .before .before .before .put-byte in
+    rw text
+    (put-then (begun .args .out .now) (begun .args .at) (45 ∷ []) (decimal (natAbs (begun .args .n))) (rw text at (begun .pre .1)) {between = sign .result} (sign .ensures) (rw size at (c .before .before .put-decimal .ensures)))
+
 magnitude-requires : tie.Need-magnitude-requires
 magnitude-requires c κs = search needs
 
@@ -27,14 +37,6 @@ put-decimal-requires c κs =
 
 same-length : tie.Need-same-length
 same-length c = search needs
-
-returns : tie.Need-returns
-returns c =
-    let begun = c .before .before .before .before .before .before .before .before .before .before .before in
-    let size : c .before .before .before .before .before .before .before .before .before .magnitude .result ≡ natAbs (begun .args .n) = size-again (begun .args .n) (begun .pre .0) (c .before .before .before .before .before .before .before .before .before .magnitude .ensures) in
-    let text = signed-negative (begun .args .n) (begun .pre .0) (c .before .before .before .before .before .before .before .before .if1 .taken) in
-    rw text
-    (put-then (begun .args .out .now) (begun .args .at) (45 ∷ []) (decimal (natAbs (begun .args .n))) (rw text at (begun .pre .1)) (c .before .before .before .before .before .before .put-byte .ensures) (rw size at (c .before .before .put-decimal .ensures)))
 
 put-decimal-requires-2 : tie.Need-put-decimal-requires-2
 put-decimal-requires-2 c κs =

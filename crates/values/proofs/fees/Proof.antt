@@ -3,7 +3,7 @@
 use borrow.Author.Needs.{needs}
 use native.Mathlib.Nat.{mul-le-mul}
 use native.Mathlib.Omega.{arith}
-use mathlib.Core.Path.{refl, _∙_}
+use mathlib.Core.Path.{_≡_, refl, _∙_}
 use mathlib.Core.List.{[]}
 use Prim.Native.Nat.{_*_, _≤_}
 use Rattle.calls.specs.Limits.{indexMost}
@@ -61,11 +61,14 @@ returns : tie.Need-returns
 unfolding indexOf
 returns c =
     let start = c .before .before .before .before .before .before .before in
-    let base = c .before .before .before .before .before .widened .ensures in
-    let index = c .before .before .before .widened2 .ensures in
+    let base = c .before .before .before .before .before .widened in
+    let index = c .before .before .before .widened2 in
+    let fees-of = c .before .before .figures-of in
+    let made = c .before .figures-of2 in
+    let divided : c .quotients .result ≡ quotientsBy (10 * base .result) (fees-of .result) (index .result) (made .result) = c .quotients .ensures in
     λ b figures indices.
-    c .quotients .ensures
-    ∙ ((λ i. quotientsBy (10 * base i) (c .before .before .figures-of .ensures b figures i) (index i) (c .before .figures-of2 .ensures b figures i))
+    divided
+    ∙ ((λ i. quotientsBy (10 * base .ensures i) (fees-of .ensures b figures i) (index .ensures i) (made .ensures b figures i))
     ∙ (rw (← indices) (fees-same b (start .args .year) (start .args .paid) (start .args .connections))))
 
 pub fees-spec : {M : Type 1} → statement M

@@ -1,6 +1,6 @@
 -- `values::reliable_mask` meets its contract.
 -- Assumes nothing.
-use mathlib.Core.Path.{refl, ap, _∙_}
+use mathlib.Core.Path.{ap}
 use lib.Bits.{bitAnd}
 use Rattle.values.specs.Indicator.{reliableMask}
 use Rattle.values.proofs.Numbered.{number-of}
@@ -22,8 +22,7 @@ unfolding reliableMask
 returns c =
     let start = c .before .before in
     λ b marked.
-    ap (bitAnd (start .args .joined)) (c .others .ensures)
-    ∙ rw (number-of (start .args .number) (start .pre), marked .joined-are, marked .marks-are) refl
+    rw (number-of (start .args .number) (start .pre), marked .joined-are, marked .marks-are) (ap (bitAnd (start .args .joined)) (c .others .ensures))
 
 pub reliable-mask-spec : {M : Type 1} → statement M
 reliable-mask-spec = tie.close (tie.spec mul-others element-copy-out-others others-requires returns)

@@ -1,5 +1,6 @@
 -- `calls::figures::move_figure` meets its contract.
 -- Assumes nothing.
+use mathlib.Core.Path.{refl}
 use Prim.Native.Nat.{_+_}
 use native.Mathlib.Omega.{arith}
 use borrow.Author.Tests.{lt-ltb, le-ltb, eq-eqb, ne-eqb}
@@ -26,7 +27,7 @@ add-t6 c = search needs
 -- added
 returns-3 : tie.Need-returns-3
 unfolding movedBy firstOf
-returns-3 c = simp (eq-eqb _ _ (c .before .before .if1 .taken), le-ltb figureLimit (c .before .before .before .args .old + c .before .before .before .args .value) (omega arith))
+returns-3 c = simp (eq-eqb _ _ (c .before .before .if1 .taken), le-ltb figureLimit (c .before .before .before .args .old + c .before .before .before .args .value) (omega arith)) refl
 
 -- below 0
 returns-4 : tie.Need-returns-4
@@ -36,7 +37,7 @@ returns-4 c = simp (ne-eqb _ _ (c .before .if1 .left), lt-ltb _ _ (c .if4 .taken
 -- subtracted
 returns-5 : tie.Need-returns-5
 unfolding movedBy firstOf
-returns-5 c = simp (ne-eqb _ _ (c .before .if1 .left), le-ltb _ _ (c .if4 .left))
+returns-5 c = simp (ne-eqb _ _ (c .before .if1 .left), le-ltb _ _ (c .if4 .left)) refl
 
 pub move-figure-spec : {M : Type 1} → statement M
 move-figure-spec = tie.close (tie.spec returns returns-2 add-t6 returns-3 returns-4 returns-5)

@@ -1,11 +1,19 @@
 -- `calls::interruptions::year_of` meets its contract.
 -- Assumes nothing.
-use mathlib.Core.Path.{refl}
+use mathlib.Core.Path.{ap}
+use Prim.Native.Nat.{_/_}
 use native.Mathlib.Omega.{arith}
+use lib.IntN.{ℤ, natAbs}
+use Rattle.calls.specs.Limits.{yearLength}
 use Rattle.calls.specs.Call.{yearOf}
 use Rattle.calls.proofs.Times.{back, timed}
 use Rattle.calls.proofs.interruptions.year_of.Statement.{statement}
 use Rattle.calls.proofs.interruptions.year_of.Tie as tie
+
+-- the result stands first, so that a wrong year is what is told first
+returns : tie.Need-returns
+unfolding yearOf
+returns c = ap (λ (z : ℤ). natAbs z / yearLength) (back (c .fits .end))
 
 cast-stop : tie.Need-cast-stop
 cast-stop c =
@@ -16,10 +24,6 @@ cast-result : tie.Need-cast-result
 cast-result c =
     let times = timed _ _ (c .pre) in
     rw (back (c .fits .end), times .end-is) (record { fits = omega (arith, times .stop-most) })
-
-returns : tie.Need-returns
-unfolding yearOf
-returns c = rw (back (c .fits .end)) refl
 
 pub year-of-spec : {M : Type 1} → statement M
 year-of-spec = tie.close (tie.spec cast-stop cast-result returns)

@@ -39,7 +39,7 @@ returns-3 c =
     let start = more .before .before in
     sym
     (passes-end (start .args .bytes .now) (start .args .at) (more .if1 .left) (whole .if2 .left)
-    (rw (c .before .unsigned-at .ensures .0) at (c .if3 .taken)))
+    (omega (arith, c .before .unsigned-at .ensures .0, c .if3 .taken)))
 
 shared-slice-read-tag : tie.Need-shared-slice-read-tag
 shared-slice-read-tag c = search needs

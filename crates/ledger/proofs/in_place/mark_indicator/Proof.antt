@@ -42,7 +42,7 @@ element-copy-out-remask c =
     let start = c .before .before .before .before in
     let passed = member-decided (bookWith (start .args .joined) [] [] [] 0 0 []) (Mark (start .args .operator) (start .args .indicator) (start .args .mark)) (start .args .operator) _ refl refl (sym (c .before .before .before .mark-in-range .ensures)) _ (sym (c .before .before .admit .ensures) ∙ ap admissionSaid (c .enum-told .given .1)) in
     let in-range = ranges (Mark (start .args .operator) (start .args .indicator) (start .args .mark)) (sym (c .before .before .before .mark-in-range .ensures) ∙ passed .in-range) in
-    in-range .0
+    omega (arith, in-range)
 
 remask-requires : tie.Need-remask-requires
 unfolding factsOf
@@ -61,14 +61,14 @@ element-write-marks c =
     let start = c .before .before .before .before .before .before in
     let passed = member-decided (bookWith (start .args .joined) [] [] [] 0 0 []) (Mark (start .args .operator) (start .args .indicator) (start .args .mark)) (start .args .operator) _ refl refl (sym (c .before .before .before .before .before .mark-in-range .ensures)) _ (sym (c .before .before .before .before .admit .ensures) ∙ ap admissionSaid (c .before .before .enum-told .given .1)) in
     let in-range = ranges (Mark (start .args .operator) (start .args .indicator) (start .args .mark)) (sym (c .before .before .before .before .before .mark-in-range .ensures) ∙ passed .in-range) in
-    in-range .0
+    omega (arith, in-range)
 
 returns-2 : tie.Need-returns-2
 unfolding factsOf changed
 returns-2 c = λ settings figures indices pot cap.
     let start = c .before .before .before .before .before .before in
     let passed = member-decided (bookWith (start .args .joined) (start .args .marks .now) settings figures pot cap indices) (Mark (start .args .operator) (start .args .indicator) (start .args .mark)) (start .args .operator) _ refl refl (sym (c .before .before .before .before .before .mark-in-range .ensures)) _ (sym (c .before .before .before .before .admit .ensures) ∙ ap admissionSaid (c .before .before .enum-told .given .1)) in
-    rw (passed .done refl, ← c .remask .ensures) (refl, refl)
+    rw (passed .done refl, c .remask .ensures) (refl, refl)
 
 pub mark-indicator-spec : {M : Type 1} → statement M
 mark-indicator-spec =

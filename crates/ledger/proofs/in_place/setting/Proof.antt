@@ -2,6 +2,7 @@
 -- Assumes nothing.
 use mathlib.Core.Path.{refl, sym, ap, _∙_}
 use mathlib.Core.List.{[]}
+use native.Mathlib.Omega.{arith}
 use Rattle.calls.specs.declared.Call.the-variants.{Setting}
 use Rattle.calls.specs.Call.{factsOf}
 use Rattle.book.specs.Book.{bookWith}
@@ -37,7 +38,8 @@ unfolding factsOf
 setting-slot-requires c κs =
     let start = c .before .before .before .before in
     let passed = member-decided (bookWith (start .args .joined) [] [] [] 0 0 []) (Setting (start .args .operator) (start .args .which) (start .args .value)) (start .args .operator) _ refl refl (sym (c .before .before .before .setting-in-range .ensures)) _ (sym (c .before .before .admit .ensures) ∙ ap admissionSaid (c .enum-told .given .1)) in
-    (passed .small, ranges (Setting (start .args .operator) (start .args .which) (start .args .value)) (sym (c .before .before .before .setting-in-range .ensures) ∙ passed .in-range) .0)
+    let in-range = ranges (Setting (start .args .operator) (start .args .which) (start .args .value)) (sym (c .before .before .before .setting-in-range .ensures) ∙ passed .in-range) in
+    (omega (arith, passed .small, in-range .0), in-range .0)
 
 mul-settings : tie.Need-mul-settings
 mul-settings c = search needs

@@ -19,7 +19,8 @@ same-length c = search needs
 returns : tie.Need-returns
 returns c =
     let begun = c .before .before .before .before .before .before .before .before .before in
-    put-then (begun .args .out .now) (begun .args .at) (32 ∷ []) (decimal (begun .args .n)) (begun .pre) (c .before .before .before .before .before .before .put-byte .ensures) (c .before .before .put-decimal .ensures)
+    let space = c .before .before .before .before .before .before .put-byte in
+    put-then (begun .args .out .now) (begun .args .at) (32 ∷ []) (decimal (begun .args .n)) (begun .pre) {between = space .result} (space .ensures) (c .before .before .put-decimal .ensures)
 
 pub put-column-spec : {M : Type 1} → statement M
 put-column-spec = tie.close (tie.spec put-byte-requires put-decimal-requires same-length returns)

@@ -6,6 +6,14 @@ use borrow.Author.Needs.{needs}
 use Rattle.lines.proofs.lines.put_columns.Statement.{statement}
 use Rattle.lines.proofs.lines.put_columns.Tie as tie
 
+-- what is put stands first, so that a wrong column is told before the room for it
+returns : tie.Need-returns
+returns c =
+    let begun = c .before .before .before .before .before .before .before .before .before .before .before .before .before .before .before .before .before in
+    let second = c .before .before .before .before .before .before .before .before .before .before .put-column2 in
+    columns-put (begun .args .out .now) (begun .args .at) (begun .args .points) (begun .args .paid) (begun .args .received) (begun .args .adjustment) (begun .pre .1) (c .before .before .before .before .before .before .before .before .before .before .before .before .before .before .put-column .ensures) {at₂ = second .result} (second .ensures) (c .before .before .before .before .before .before .put-column3 .ensures)
+    (rw (again (begun .args .adjustment) (begun .pre .0)) at (c .before .before .put-adjustment .ensures))
+
 put-column-requires : tie.Need-put-column-requires
 put-column-requires c κs =
     let begun = c .before .before in
@@ -29,12 +37,6 @@ put-adjustment-requires c κs =
 
 same-length : tie.Need-same-length
 same-length c = search needs
-
-returns : tie.Need-returns
-returns c =
-    let begun = c .before .before .before .before .before .before .before .before .before .before .before .before .before .before .before .before .before in
-    columns-put (begun .args .out .now) (begun .args .at) (begun .args .points) (begun .args .paid) (begun .args .received) (begun .args .adjustment) (begun .pre .1) (c .before .before .before .before .before .before .before .before .before .before .before .before .before .before .put-column .ensures) (c .before .before .before .before .before .before .before .before .before .before .put-column2 .ensures) (c .before .before .before .before .before .before .put-column3 .ensures)
-    (rw (again (begun .args .adjustment) (begun .pre .0)) at (c .before .before .put-adjustment .ensures))
 
 pub put-columns-spec : {M : Type 1} → statement M
 put-columns-spec =

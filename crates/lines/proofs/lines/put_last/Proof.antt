@@ -8,6 +8,13 @@ use borrow.Author.Needs.{needs}
 use Rattle.lines.proofs.lines.put_last.Statement.{statement}
 use Rattle.lines.proofs.lines.put_last.Tie as tie
 
+-- what is put stands first, so that a wrong sum is told before the room for it
+returns : tie.Need-returns
+returns c =
+    let begun = c .before .before .before .before .before .before .before .before .before .before .before .before .before .before .before .before in
+    rw (last-parts (begun .args .s) (begun .pre .0 .adjustments-cancel))
+    (put-then (begun .args .out .now) (begun .args .at) (97 ∷ 108 ∷ 108 ∷ []) (lastColumns (begun .args .s)) (rw (last-parts (begun .args .s) (begun .pre .0 .adjustments-cancel)) at (begun .pre .1)) (c .before .before .before .before .before .before .before .before .before .put-word .ensures) (rw (c .before .before .before .before .before .total-points .ensures, c .before .before .before .before .sum-of .ensures, c .before .before .before .sum-of2 .ensures) at (c .before .before .put-columns .ensures)))
+
 slice-aggregate-put-word : tie.Need-slice-aggregate-put-word
 slice-aggregate-put-word c = search needs
 
@@ -32,12 +39,6 @@ put-columns-requires c κs =
 
 same-length : tie.Need-same-length
 same-length c = search needs
-
-returns : tie.Need-returns
-returns c =
-    let begun = c .before .before .before .before .before .before .before .before .before .before .before .before .before .before .before .before in
-    rw (last-parts (begun .args .s) (begun .pre .0 .adjustments-cancel))
-    (put-then (begun .args .out .now) (begun .args .at) (97 ∷ 108 ∷ 108 ∷ []) (lastColumns (begun .args .s)) (rw (last-parts (begun .args .s) (begun .pre .0 .adjustments-cancel)) at (begun .pre .1)) (c .before .before .before .before .before .before .before .before .before .put-word .ensures) (rw (c .before .before .before .before .before .total-points .ensures, c .before .before .before .before .sum-of .ensures, c .before .before .before .sum-of2 .ensures) at (c .before .before .put-columns .ensures)))
 
 pub put-last-spec : {M : Type 1} → statement M
 put-last-spec =

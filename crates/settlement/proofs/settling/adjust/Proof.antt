@@ -1,11 +1,11 @@
 -- `settlement::settling::adjust` meets its contract.
 -- Assumes nothing.
-use mathlib.Core.Path.{refl, ap, _∙_}
+use mathlib.Core.Path.{_≡_, refl, ap, _∙_}
 use native.Mathlib.Nat.{lt-of-le-of-lt}
 use lib.Dec.{lit<}
 use Rattle.apportion.specs.Sum.{sum}
 use native.Mathlib.Omega.{arith}
-use Rattle.settlement.specs.Money.{adjustedBy}
+use Rattle.settlement.specs.Money.{balanced, adjustedBy}
 use Rattle.settlement.proofs.Amounts.{cut-sum-le, balanced-le}
 use borrow.Author.Needs.{needs}
 use Rattle.settlement.proofs.settling.adjust.Statement.{statement}
@@ -56,8 +56,10 @@ differences-requires c κs =
 returns : tie.Need-returns
 unfolding adjustedBy
 returns c =
+    let losses : c .before .balanced-side2 .result ≡ balanced (c .before .before .before .capped-side2 .result) (c .before .before .before .before .capped-side .result) =
+    c .before .balanced-side2 .ensures in
     c .differences .ensures
-    ∙ rw (c .before .before .balanced-side .ensures, c .before .balanced-side2 .ensures, c .before .before .before .before .capped-side .ensures, c .before .before .before .capped-side2 .ensures) refl
+    ∙ rw (c .before .before .balanced-side .ensures, losses, c .before .before .before .before .capped-side .ensures, c .before .before .before .capped-side2 .ensures) refl
 
 pub adjust-spec : {M : Type 1} → statement M
 adjust-spec =

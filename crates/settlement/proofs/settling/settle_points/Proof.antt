@@ -42,11 +42,12 @@ adjust-requires c κs = λ k lt. c .limits-of .ensures .1 k
 returns : tie.Need-returns
 unfolding settlementBy pot limits contributions Money·returns adjustments
 returns c =
+    let args = c .before .before .before .before .before .before .before .before .before .args in
     let pooled = c .before .before .before .before .before .before .before .pot-of .ensures in
     let shared = c .before .before .before .before .before .before .share .ensures in
-    let weighed = c .before .before .before .before .before .return-weights .ensures .0 in
+    let weighed : c .before .before .before .before .before .return-weights .result ≡ each (λ (k : ℕ). getD (args .access) k 0 * getD (args .g .totals) k 0) = c .before .before .before .before .before .return-weights .ensures .0 in
     let shared-2 = c .before .before .before .before .share2 .ensures in
-    let capped = c .before .before .before .limits-of .ensures .0 in
+    let capped : c .before .before .before .limits-of .result ≡ each (λ (k : ℕ). args .cap-rate * getD (args .incomes) k 0 / 1000000) = c .before .before .before .limits-of .ensures .0 in
     λ b gathered charged.
     let pot-is : c .before .before .before .before .before .before .before .pot-of .result ≡ pot b = pooled .0 ∙ rw (charged .pot-is, charged .incomes-are) refl in
     let paid : c .before .before .before .before .before .before .share .result ≡ contributions b = shared ∙ rw (pot-is, charged .access-are) refl in
