@@ -1,5 +1,5 @@
 // Settles a full book of sixteen operators as often as it has arguments, each time with another income, and prints the sum of
-// operator 0's returns. It is for counting the instructions of one settlement: docs/ARCHITECTURE.md says how.
+// operator 0's returns. It is for counting the instructions of one settlement: docs/SPEED.md says how.
 ghost use Prim.Native.Nat.{_<_};
 use book::Book;
 use calls::Answer;
