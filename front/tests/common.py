@@ -24,7 +24,9 @@ class Run(NamedTuple):
 
 
 def settle(*words, root=ROOT, **options):
-    """A run of the command as staff start it."""
+    """A run of the command as staff start it, with nothing on standard input unless there is an `input`."""
+    if "input" not in options:
+        options.setdefault("stdin", subprocess.DEVNULL)
     done = subprocess.run([str(root / "settle"), *map(str, words)], capture_output=True, check=False, **options)
     return Run(done.returncode, done.stdout, done.stderr.decode())
 

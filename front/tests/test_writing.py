@@ -16,7 +16,7 @@ class Writer(InFolder):
             self.assertEqual(settle("--write", twice, once), (0, b"", ""))
             self.assertEqual(once.read_bytes(), twice.read_bytes())
             self.assertLessEqual(len(once.read_bytes()), 7067)
-            self.assertEqual(settle(once), settle(path))
+            self.assertEqual(settle("--quiet", once), settle("--quiet", path))
             self.assertEqual(settle("--write", "-", path).output, once.read_bytes())
 
     def test_withdrawn_entries_are_gone(self):
