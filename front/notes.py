@@ -92,8 +92,9 @@ def _undivided(fields, book):
         for year, in_words in enumerate(years.words):
             for figure, divisor, indicator in DIVIDED:
                 if book.value("amount", operator, year, figure) and not book.value("amount", operator, year, divisor):
+                    field = _last(fields, "amount", operator, year, figure) or _last(fields, "amount", operator, year, divisor)
                     what = f"operator {operator} has {figures.words[figure]} in {in_words} and no {figures.words[divisor]}"
-                    yield Note(_last(fields, "amount", operator, year, figure), f"{what}, so that year counts as 0 at {indicator}")
+                    yield Note(field, f"{what}, so that year counts as 0 at {indicator}")
 
 
 def _unsigned(call):
