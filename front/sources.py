@@ -12,6 +12,7 @@ FILING = "filing.q"
 # Of the files that a folder may have, the first that is there counts.
 IN_FOLDER = (FILING, "calls.txt", "calls.csv")
 INPUT = "-"
+INPUT_NAME = "standard input"
 # So many errors of a text are told.
 MOST_TOLD = 20
 # How a file of a spreadsheet program begins: .xlsx and .ods, then .xls. No filing and no text begins so.
@@ -56,7 +57,7 @@ class Source(NamedTuple):
 def source_of(path):
     """The filing that a path stands for; trouble if there is none, or a text has an error."""
     if path == INPUT:
-        return _source("standard input", "", reading.read_input(sys.stdin, "standard input"))
+        return _input()
     path = Path(path)
     if not path.is_dir():
         return _file(path)
@@ -64,6 +65,14 @@ def source_of(path):
         if (path / name).exists():
             return _file(path / name)
     raise Trouble(f"{path}: this folder has no filing: no {', '.join(IN_FOLDER[:-1])} or {IN_FOLDER[-1]}", "no filing in this folder")
+
+
+def _input():
+    """What stands on standard input. Nothing at all is no empty exercise: whatever should have written it has failed."""
+    read = reading.read_input(sys.stdin, INPUT_NAME)
+    if not read.data:
+        raise Trouble(f"{INPUT_NAME}: nothing came. Give a PATH; the examples are settled by: ./settle </dev/null", "nothing came")
+    return _source(INPUT_NAME, "", read)
 
 
 def passed_over(path):
@@ -109,7 +118,7 @@ def _reader_of(name, suffix, text):
             raise Trouble(f"{name}: these are calls in words, and not CSV. Give the file a name that ends in .txt.", "words, not CSV")
         return sheet.read
     if sheet.is_table(text):
-        if name == "standard input":
+        if name == INPUT_NAME:
             return sheet.read
         raise Trouble(f"{name}: this is CSV by its first line. Give the file a name that ends in .csv.", "CSV by another name")
     return words.read
