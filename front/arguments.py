@@ -2,7 +2,7 @@
 
 import argparse
 
-from front import table
+from front import outputs, table
 
 USAGE = "settle [PATH ..] | --show PATH .. | --compare A B | --encode FILE PATH | --write FILE PATH"
 
@@ -33,10 +33,10 @@ program that could not be built); the higher one counts.
 
 
 class Parser(argparse.ArgumentParser):
-    """A parser whose help is the text above, so that it fits a screen."""
+    """A parser whose help is the text above, which fits a screen."""
 
-    def format_help(self):
-        return HELP
+    def print_help(self, file=None):
+        outputs.put(HELP.encode())
 
 
 def arguments_of(words):

@@ -15,8 +15,8 @@ from front.trouble import Trouble
 
 def main(words):
     """Does what the words of the command line ask; answers the exit status."""
-    arguments = arguments_of(words)
     try:
+        arguments = arguments_of(words)
         return _answered(Jobs(Programs(Builder(ROOT, outputs.tell)), arguments), arguments)
     except outputs.Closed as closed:
         if str(closed):
