@@ -3,7 +3,7 @@
 import csv
 import os
 
-from front.tests.common import EXERCISE, ROOT, InFolder, settle
+from front.tests.common import EXERCISE, ROOT, InFolder, settle, settle_here
 
 CASE_M = ROOT / "examples" / "case-m"
 CALLS = (CASE_M / "calls.txt").read_text(encoding="utf-8")
@@ -36,7 +36,7 @@ class Compared(InFolder):
     def test_value_by_value(self):
         for more, lines in MORE:
             path = self.file("there.txt", f"{CALLS}{more}\n")
-            run = settle("--compare", CASE_M, path)
+            run = settle_here("--compare", CASE_M, path)
             same = lines == ["the books are the same"]
             self.assertEqual((run.status, run.said), (0 if same else 1, ""), more)
             self.assertEqual(run.output.decode().splitlines(), [f"# here: {CASE_M}/filing.q, there: {path}", *lines])

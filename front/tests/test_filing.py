@@ -6,7 +6,7 @@ from front import filing, words
 from front.calls import KINDS, Call
 from front.tests.common import EXERCISE, InFolder, program_on, settle, settle_here
 
-FILINGS = 200
+FILINGS = 150
 
 
 def drawn_value(draw, place):

@@ -19,12 +19,20 @@ class Spared(InFolder):
     def refused(self, option, file, *words, **options):
         """What is said of an output that is not written; the files of the folder stay as they are."""
         before = self.contents()
-        run = settle(option, file, *words, cwd=self.folder, **options)
+        run = (settle if options else self.settle_in_folder)(option, file, *words, **options)
         self.assertEqual((run.status, run.output), (2, b""))
         self.assertEqual(self.contents(), before)
         self.assertTrue(run.said.startswith(f"{file}: "), run.said)
         self.assertEqual(run.said.count("\n"), 1)
         return run.said
+
+    def settle_in_folder(self, *words):
+        here = os.getcwd()
+        os.chdir(self.folder)
+        try:
+            return settle_here(*words)
+        finally:
+            os.chdir(here)
 
     def contents(self):
         return {path: path.read_bytes() for path in self.folder.rglob("*") if path.is_file()}
@@ -47,7 +55,7 @@ class Spared(InFolder):
             ]:
                 self.assertIn("this is the file that was read", self.refused(option, file, path))
             with (self.folder / "x.txt").open("rb") as opened:
-                self.assertIn("this is the file that was read", self.refused(option, "x.txt", "-", stdin=opened))
+                self.assertIn("this is the file that was read", self.refused(option, "x.txt", "-", stdin=opened, cwd=self.folder))
 
     def test_an_output_that_is_there_and_no_filing(self):
         self.file("x.q", FILING)

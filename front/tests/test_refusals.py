@@ -113,7 +113,7 @@ ALONE = "nothing is settled; without this line nothing else would be refused"
 
 class Refusals(InFolder):
     def check(self, path, printed, place, besides):
-        run = settle(path)
+        run = settle_here(path)
         self.assertEqual((run.status, run.output), (1, f"{printed}\n".encode()), path.read_bytes())
         lines = run.said.splitlines()
         self.assertEqual(lines[0], f"{path}{place}")
@@ -171,7 +171,7 @@ class WhatElse(InFolder):
 
     def said_of(self, text):
         path = self.file("calls.txt", text)
-        run = settle(path)
+        run = settle_here(path)
         self.assertEqual(run.status, 1)
         return [line.replace(f"{path}:", "") for line in run.said.splitlines() if not line.startswith("  ")]
 

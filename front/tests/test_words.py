@@ -102,7 +102,7 @@ class Taken(InFolder):
             ("join 0\ninterruption 0 file MV own -9223372036854775808 9223372036854775807 4294967295", b"refused 5 at 4\n"),
             ("rates 4294967295 0", b"refused 5 at 0\n"),
         ]:
-            run = settle(self.file("calls.txt", text))
+            run = settle_here(self.file("calls.txt", text))
             self.assertEqual((run.status, run.output), (1, printed), text)
 
 
