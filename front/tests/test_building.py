@@ -7,7 +7,7 @@ import sys
 import time
 
 from front import building
-from front.tests.common import PROGRAM, ROOT, InFolder, settle
+from front.tests.common import PROGRAM, PYTHON, ROOT, InFolder, settle
 
 CRATES = "# the crates\n\nleaf:\nother: leaf\noutput: leaf io\nquality: output libc\nrewrite: leaf\noutcomes: leaf\n\nlone_test: other\n"
 
@@ -125,7 +125,7 @@ class Built(Tree):
     def test_two_runs_at_once_build_once(self):
         self.file("tree/slow", "")
         environment = {**os.environ, "PATH": f"{self.path.parent}:{os.environ['PATH']}"}
-        command = [str(self.root / "settle"), "--quiet", str(self.filing)]
+        command = [*PYTHON, str(self.root / "settle"), "--quiet", str(self.filing)]
         both = []
         for _ in range(2):
             both.append(subprocess.Popen(command, env=environment, stdout=subprocess.PIPE, stderr=subprocess.PIPE, text=True))
