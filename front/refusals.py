@@ -104,7 +104,13 @@ def _to_look_at(source, number, before, field, programs):
         return [f"It joined in {_places(source, [one for one in before if one.call == field.call])}."]
     if number in (8, 9):
         return _same_figure(source, before, field, programs)
+    if field.call is None and field.offset == 0 and _is_text(field.data):
+        return ["These bytes are a text: if it holds calls in words, give the file a name that ends in .txt."]
     return []
+
+
+def _is_text(data):
+    return all(32 <= byte < 127 or byte in b"\t\r\n" for byte in data)
 
 
 def _same_figure(source, before, field, programs):

@@ -64,7 +64,14 @@ def source_of(path):
     for name in IN_FOLDER:
         if (path / name).exists():
             return _file(path / name)
-    raise Trouble(f"{path}: this folder has no filing: no {', '.join(IN_FOLDER[:-1])} or {IN_FOLDER[-1]}", "no filing in this folder")
+    missing = f"this folder has no filing: no {', '.join(IN_FOLDER[:-1])} or {IN_FOLDER[-1]}"
+    raise Trouble(f"{path}: {missing}{_instead(path)}", "no filing in this folder")
+
+
+def _instead(path):
+    """A file of the folder that could be meant, named as it has to be given."""
+    others = sorted(str(other) for other in path.iterdir() if other.suffix.lower() in (".q", ".txt", ".csv"))
+    return f"; give the file itself, as in: {others[0]}" if others else ""
 
 
 def _input():

@@ -39,11 +39,14 @@ class Paths(InFolder):
     def test_trouble(self):
         (self.folder / "empty").mkdir()
         (self.folder / "odd" / "filing.q").mkdir(parents=True)
+        self.file("other/b.csv", "")
+        self.file("other/a.txt", "")
         for path, said in [
             ("missing", "missing: No such file or directory"),
             ("missing.q", "missing.q: No such file or directory"),
             ("empty", "empty: this folder has no filing: no filing.q, calls.txt or calls.csv"),
             ("odd", "odd/filing.q: Is a directory"),
+            ("other", "other: this folder has no filing: no filing.q, calls.txt or calls.csv; give the file itself, as in: other/a.txt"),
         ]:
             self.assertEqual(settle(path, cwd=self.folder), (2, b"", f"{said}\n"))
 

@@ -42,16 +42,21 @@ class Compared(InFolder):
             self.assertEqual(run.output.decode().splitlines(), [f"# here: {CASE_M}/filing.q, there: {path}", *lines])
 
     def test_the_other_way_round_and_the_order_of_values(self):
-        path = self.file("there.txt", f"{CALLS}join 15\nrates 7 8\nindex june-2013 9\nmark 0 A2 1\namount 0 2017 fees file 1\nsetting 0 income 1\n")
+        more = "join 15\nrates 7 8\nindex june-2013 9\nmark 0 A2 1\namount 0 2017 fees file 1\nsetting 0 income 1\n"
+        path = self.file("there.txt", f"{CALLS}{more}")
+        lines = [
+            ("operator 15", "not joined", "joined"),
+            ("operator 0, income", "100000000", "1"),
+            ("operator 0, 2017, fees", "0", "1"),
+            ("operator 0, mark at A2", "cleared", "set"),
+            ("index june-2013", "10000", "9"),
+            ("pot rate", "5000", "7"),
+            ("cap rate", "10000", "8"),
+        ]
         there = settle("--compare", CASE_M, path).output.decode().splitlines()[1:]
+        self.assertEqual(there, [f"{what}: {first} here, {second} there" for what, first, second in lines])
         here = settle("--compare", path, CASE_M).output.decode().splitlines()[1:]
-        swapped = [line.replace(" here", " now").replace(" there", " here").replace(" now", " there") for line in there]
-        self.assertEqual([sorted(line.split(": ")[1].split(", ")) for line in here], [sorted(line.split(": ")[1].split(", ")) for line in swapped])
-        self.assertEqual([line.split(":")[0] for line in here], [line.split(":")[0] for line in there])
-        self.assertEqual(
-            [line.split(":")[0] for line in there],
-            ["operator 15", "operator 0, income", "operator 0, 2017, fees", "operator 0, mark at A2", "index june-2013", "pot rate", "cap rate"],
-        )
+        self.assertEqual(here, [f"{what}: {second} here, {first} there" for what, first, second in lines])
 
     def test_the_same_book_by_other_calls(self):
         for there in [EXERCISE / "csv", EXERCISE / "bytes"]:

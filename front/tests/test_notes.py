@@ -23,7 +23,8 @@ NOTES = """\
 :23: note: the same call stands in line 22
 :24: note: its weight, 330, is more than the operator's cabins, 260
 :27: note: no LV interruption with these very values is filed here that this withdrawal could be of
-:29: note: the clocks changed in the night of 2017-03-26; times are winter time, all year, and here 7,200 seconds are counted from start to end
+:29: note: the clocks changed in the night of 2017-03-26; times are winter time, all year, and here 7,200 seconds are counted \
+from start to end
 :31: note: this withdrawal changes nothing: such an interruption is left out (coupled)
 :32: note: it lasts longer than 30 days, from 2018-06-03T09:00 to 2018-08-03T10:00
 :33: note: 20170314 is taken as seconds, that is 2017-08-22T10:51:54; for that date write 2017-03-14T00:00, with its clock time
@@ -167,9 +168,9 @@ class Notes(InFolder):
         )
 
     def test_withdrawals_that_are_left_out(self):
-        for words, word in [("planned 0 300", "planned"), ("coupled 0 300", "coupled"), ("exceptional 0 300", "exceptional"), ("own 0 180", "short")]:
-            filed, withdrawn = (f"interruption 0 {sign} MV {words} 5" for sign in ("file", "withdraw"))
-            self.assertEqual(self.added(filed, withdrawn), [(2, IDLE.format(word))])
+        for cause, seconds in [("planned", 300), ("coupled", 300), ("exceptional", 300), ("own", 180)]:
+            filed, withdrawn = (f"interruption 0 {sign} MV {cause} 0 {seconds} 5" for sign in ("file", "withdraw"))
+            self.assertEqual(self.added(filed, withdrawn), [(2, IDLE.format("short" if cause == "own" else cause))])
 
     def test_withdrawals_of_what_was_not_filed(self):
         filed = "interruption 0 file MV own 0 300 5"
@@ -183,7 +184,8 @@ class Notes(InFolder):
 
     def test_numbers_that_look_like_dates(self):
         for start, date in [("20170314", "2017-03-14"), ("14032017", "2017-03-14"), ("20161231", "2016-12-31")]:
-            (line, said), *more = self.added(f"interruption 0 file MV own {start} {int(start) + 300} 5")
+            (line, said), *_ = self.added(f"interruption 0 file MV own {start} {int(start) + 300} 5")
+            self.assertEqual(line, 1)
             self.assertIn(f"{start} is taken as seconds", said)
             self.assertIn(f"write {date}T00:00", said)
         self.assertEqual(self.added("interruption 0 file MV own 20171314 20171600 5"), [])
@@ -205,7 +207,8 @@ class Notes(InFolder):
         path = self.file("calls.txt", GOOD + "interruption 0 file MV own 2017-03-26T02:30 2017-03-26T04:00 101\n")
         made = self.folder / "made.q"
         settle_here("--encode", made, path)
-        self.assertEqual(settle_here(made).said, f"{made}: field 22 at byte 169: note: its weight, 101, is more than the operator's cabins, 100\n")
+        said = "field 22 at byte 169: note: its weight, 101, is more than the operator's cabins, 100"
+        self.assertEqual(settle_here(made).said, f"{made}: {said}\n")
 
     def test_many_notes_are_cut(self):
         notes = self.notes(GOOD + "interruption 0 file MV own 0 300 101\n" * 30)

@@ -14,6 +14,7 @@ FILINGS = [
     ("01 00 01 00 01 00 05 00", "refused 1 at 4", "field 2 at byte 4: refused: the bytes 01 00 05 00", ""),
     ("01 00 01 00 63 00 00", "refused 2 at 4", "field 2 at byte 4: refused: the bytes 63 00 00", ""),
     ("63 00 20" + " 07" * 32, "refused 2 at 0", "field 1 at byte 0: refused: the bytes 63 00 20" + " 07" * 13 + " ..", ""),
+    ("6a 6f 69 6e 20 30 0a", "refused 1 at 0", "field 1 at byte 0: refused: the bytes 6a 6f 69 6e 20 30 0a", "These bytes are a text"),
     ("01 00 02 00 00", "refused 3 at 0", "field 1 at byte 0: refused: the bytes 01 00 02 00 00", ""),
     ("01 00 01 10", "refused 4 at 0", "field 1 at byte 0: refused: join 16", ""),
     ("01 00 01 00 01 00 01 00", "refused 6 at 4", "field 2 at byte 4: refused: join 0", "It joined in field 1 at byte 0."),

@@ -42,7 +42,7 @@ class StandardInput(InFolder):
 
     def test_closed(self):
         for words, output in [("-", b""), ("", b"operator points")]:
-            done = subprocess.run(f"'{ROOT}/settle' {words} <&-", shell=True, capture_output=True, check=False)
+            done = subprocess.run(["bash", "-c", f"'{ROOT}/settle' {words} <&-"], capture_output=True, check=False)
             self.assertNotIn(b"Traceback", done.stderr)
             self.assertIn(output, done.stdout)
         self.assertEqual(settle("-", stdin=subprocess.DEVNULL).status, 2)
@@ -143,7 +143,8 @@ class Failures(InFolder):
             self.assertEqual(settle_here(good), (2, b"", "settle: this should not happen, so tell whoever keeps it: TypeError: odd\n"))
 
     def shell(self, words):
-        done = subprocess.run(words.replace("settle", f"'{ROOT}/settle'"), shell=True, cwd=ROOT, capture_output=True, check=False, executable="/bin/bash")
+        words = words.replace("settle", f"'{ROOT}/settle'")
+        done = subprocess.run(["bash", "-c", words], cwd=ROOT, capture_output=True, check=False)
         return done.returncode, done.stdout, done.stderr.decode()
 
     def test_a_full_or_closed_output(self):
