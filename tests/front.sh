@@ -15,5 +15,5 @@ sed -n 's/.* \.\.\. skipped /front: skipped: /p' "$work/said" | sort | uniq
 sed -n 's/^Ran /front: /p' "$work/said"
 
 exercise=front/tests/exercise
-./settle "$exercise/bytes" | cmp - <("$model" program "$exercise/bytes/filing.q")
+./settle --quiet "$exercise/bytes" | cmp - <("$model" program "$exercise/bytes/filing.q")
 echo "front: the exercise prints what the model prints"

@@ -92,13 +92,16 @@ class Spared(InFolder):
         settle("--encode", self.folder / "link.q", path)
         self.assertEqual((made.read_bytes(), (self.folder / "link.q").is_symlink()), (FILING, True))
 
-    def test_a_device_is_written_to_and_not_replaced(self):
-        path = self.file("x.txt", CALLS)
-        (self.folder / "full").symlink_to("/dev/full")
-        self.assertEqual(settle("--encode", "/dev/stdout", path).output, FILING)
-        self.assertEqual(settle("--encode", "/dev/null", path), (0, b"", ""))
-        self.assertTrue(stat.S_ISCHR(os.stat("/dev/null").st_mode))
-        self.assertEqual(settle("--encode", self.folder / "full", path), (2, b"", f"{self.folder / 'full'}: No space left on device\n"))
+    def test_a_pipe_is_written_to_and_not_replaced(self):
+        # In the place of a device: the test must do no harm where the command does.
+        path, pipe = self.file("x.txt", CALLS), self.folder / "pipe"
+        os.mkfifo(pipe)
+        with subprocess.Popen(["cat", str(pipe)], stdout=subprocess.PIPE) as reader:
+            run = settle("--encode", pipe, path)
+            if not stat.S_ISFIFO(pipe.stat().st_mode):
+                reader.kill()
+            self.assertEqual((run, reader.communicate()[0]), ((0, b"", ""), FILING))
+        self.assertTrue(stat.S_ISFIFO(pipe.stat().st_mode))
 
 
 class Kept(InFolder):
