@@ -76,13 +76,15 @@ def _incomes(fields, book):
     for operator in book.joined():
         if not book.value("setting", operator, INCOME):
             field = _last(fields, "setting", operator, INCOME) or _last(fields, "join", operator)
-            yield Note(field, f"operator {operator} has an income of 0, so its limit is 0 and it has no adjustment")
+            what = f"operator {operator} has an income of 0, so its limit is 0 and it has no adjustment"
+            yield Note(field, f"{what}; file it in cents: setting {operator} income ..")
 
 
 def _rates(fields, book):
     if not book.value("rates", "pot") and not book.value("rates", "cap"):
         field = _last(fields, "rates")
-        yield Note(field, f"{'both rates are 0' if field else 'rates were never filed'}, so nobody pays or gets anything")
+        what = "both rates are 0" if field else "rates were never filed"
+        yield Note(field, f"{what}, so nobody pays or gets anything; file them, as in: rates 5000 10000")
 
 
 def _undivided(fields, book):
@@ -93,8 +95,9 @@ def _undivided(fields, book):
             for figure, divisor, indicator in DIVIDED:
                 if book.value("amount", operator, year, figure) and not book.value("amount", operator, year, divisor):
                     field = _last(fields, "amount", operator, year, figure) or _last(fields, "amount", operator, year, divisor)
-                    what = f"operator {operator} has {figures.words[figure]} in {in_words} and no {figures.words[divisor]}"
-                    yield Note(field, f"{what}, so that year counts as 0 at {indicator}")
+                    missing = figures.words[divisor]
+                    what = f"operator {operator} has {figures.words[figure]} in {in_words} and no {missing}"
+                    yield Note(field, f"{what}, so that year counts as 0 at {indicator}; file its {missing}, or correct the year")
 
 
 def _unsigned(call):
@@ -114,7 +117,7 @@ def _repeated(source, fields):
         seen[key] += 1
         first.setdefault(key, field)
         if seen[key] > (max(1, total[call, False]) if withdraws else 1 + total[call, True]):
-            yield Note(field, f"the same call stands in {source.place_of(first[key])}")
+            yield Note(field, f"the same call stands in {source.place_of(first[key])}; take one out if it is meant once")
 
 
 def _interruptions(source, fields, book):
@@ -128,9 +131,9 @@ def _oddities(call, row, book):
     start, end, weight = (call.value(name) for name in ("start", "end", "weight"))
     cabins = book.value("setting", call.value("operator"), CABINS)
     if weight > cabins:
-        yield f"its weight, {weight:,}, is more than the operator's cabins, {cabins:,}"
+        yield f"its weight, {weight:,}, is more than the operator's cabins, {cabins:,}; correct one of them"
     if end - start > LONGEST:
-        yield f"it lasts longer than 30 days, from {times.clock_of(start)} to {times.clock_of(end)}"
+        yield f"it lasts longer than 30 days, from {times.clock_of(start)} to {times.clock_of(end)}; see whether a date is wrong"
     if row is None:
         return
     written = [word for place, word in zip(call.kind.places, row.words) if place.is_time]
@@ -139,7 +142,7 @@ def _oddities(call, row, book):
     if changed and not all(map(is_number, written)):
         yield (
             f"the clocks changed in the night of {changed}; times are winter time, all year, and here {end - start:,} seconds "
-            "are counted from start to end"
+            "are counted from start to end; take an hour off a time that was read in summer time"
         )
 
 
@@ -161,8 +164,9 @@ def _withdrawals(fields, outcomes):
         key, _ = _unsigned(field.call)
         outcome = outcomes.get(field.offset)
         if outcome and outcome.left_out:
-            yield Note(field, f"this withdrawal changes nothing: such an interruption is left out ({outcome.word})")
+            idle = f"this withdrawal changes nothing, since such an interruption is left out ({outcome.word})"
+            yield Note(field, f"{idle}; correct cause and times, or take it out")
         if not filed[key]:
             level = word_of(field.call.kind.places[2], field.call.value("level"))
-            yield Note(field, f"no {level} interruption with these very values is filed here that this withdrawal could be of")
+            yield Note(field, f"no {level} interruption of these very values is left here to withdraw; correct it to what was filed")
         filed[key] -= 1

@@ -3,7 +3,9 @@
 import random
 
 from front import filing, words
+from front.building import ROOT, Builder
 from front.calls import KINDS, Call
+from front.programs import Programs
 from front.tests.common import EXERCISE, InFolder, program_on, settle, settle_here
 
 FILINGS = 150
@@ -96,6 +98,21 @@ class Shown(InFolder):
         self.assertEqual([line.split("# ")[1] for line in run.output.decode().splitlines()], BECOMES)
         run = settle("--show", "--offsets", self.folder / "calls.txt")
         self.assertIn("# line 4, field 3 at byte 31, counted in 2018\n", run.output.decode())
+
+    def test_what_becomes_of_it_is_what_the_book_shows(self):
+        """A field that is counted changes its year in the written book, and one that is left out changes nothing."""
+        asked = Programs(Builder(ROOT, print))
+        calls = INTERRUPTIONS.split("interruption 4")[0]
+        data = settle_here("--encode", "-", self.file("calls.txt", calls + "interruption 3 withdraw MV own 0 300 4\n")).output
+        outcomes = asked.outcomes(data)
+        met = set()
+        for field in filing.fields_of(data)[1:]:
+            before, after = asked.book(data[: field.offset]), asked.book(data[: field.offset + len(field.data)])
+            changed = {key[2] for key in {*before.values, *after.values} if before.value(*key) != after.value(*key)}
+            outcome = outcomes[field.offset]
+            self.assertEqual(changed, {outcome.number} if outcome.word == "counted" else set(), field)
+            met.add(outcome.word)
+        self.assertEqual(met, {"counted", "short", "planned", "coupled", "exceptional"})
 
     def test_bytes_that_are_no_call(self):
         for rest in ["01", "0100", "01000200", "630000", "0100020000", "0000"]:

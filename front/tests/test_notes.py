@@ -17,16 +17,17 @@ REFUSED = [("05/06/2018 10:00;2;", "05/06/2018 10:00;1;"), ("922500", "2250"), (
 
 NOTES = """\
 :4: note: operator 1 is marked at A3 since its join, and gets no points there; if its attestation is in, file: mark 1 A3 0
-:5: note: operator 2 has an income of 0, so its limit is 0 and it has no adjustment
-:38: note: operator 0 has reconnection-fees in 2019 and no reconnections, so that year counts as 0 at D2
-:44: note: operator 2 has lv-seconds in 2019 and no lv-weight, so that year counts as 0 at A4
-:23: note: the same call stands in line 22
-:24: note: its weight, 330, is more than the operator's cabins, 260
-:27: note: no LV interruption with these very values is filed here that this withdrawal could be of
+:5: note: operator 2 has an income of 0, so its limit is 0 and it has no adjustment; file it in cents: setting 2 income ..
+:38: note: operator 0 has reconnection-fees in 2019 and no reconnections, so that year counts as 0 at D2; \
+file its reconnections, or correct the year
+:44: note: operator 2 has lv-seconds in 2019 and no lv-weight, so that year counts as 0 at A4; file its lv-weight, or correct the year
+:23: note: the same call stands in line 22; take one out if it is meant once
+:24: note: its weight, 330, is more than the operator's cabins, 260; correct one of them
+:27: note: no LV interruption of these very values is left here to withdraw; correct it to what was filed
 :29: note: the clocks changed in the night of 2017-03-26; times are winter time, all year, and here 7,200 seconds are counted \
-from start to end
-:31: note: this withdrawal changes nothing: such an interruption is left out (coupled)
-:32: note: it lasts longer than 30 days, from 2018-06-03T09:00 to 2018-08-03T10:00
+from start to end; take an hour off a time that was read in summer time
+:31: note: this withdrawal changes nothing, since such an interruption is left out (coupled); correct cause and times, or take it out
+:32: note: it lasts longer than 30 days, from 2018-06-03T09:00 to 2018-08-03T10:00; see whether a date is wrong
 :33: note: 20170314 is taken as seconds, that is 2017-08-22T10:51:54; for that date write 2017-03-14T00:00, with its clock time
 :33: note: 20170315 is taken as seconds, that is 2017-08-22T10:51:55; for that date write 2017-03-15T00:00, with its clock time
 """
@@ -81,9 +82,15 @@ rates 5000 10000
 """
 GOOD += "".join(f"mark {operator} {indicator} 0\n" for operator in (0, 1) for indicator in ("A1", "A2", "A3", "A4", "D1", "D2"))
 MARKED = "is marked at {} since its join, and gets no points there; if its attestation is in, file: mark {} 0"
-COUNTS = "the clocks changed in the night of {}; times are winter time, all year, and here {} seconds are counted from start to end"
-TWIN = "no {} interruption with these very values is filed here that this withdrawal could be of"
-IDLE = "this withdrawal changes nothing: such an interruption is left out ({})"
+COUNTS = (
+    "the clocks changed in the night of {}; times are winter time, all year, and here {} seconds are counted from start to end; "
+    "take an hour off a time that was read in summer time"
+)
+TWIN = "no {} interruption of these very values is left here to withdraw; correct it to what was filed"
+IDLE = "this withdrawal changes nothing, since such an interruption is left out ({}); correct cause and times, or take it out"
+AGAIN = "the same call stands in line {}; take one out if it is meant once"
+HEAVY = "its weight, 101, is more than the operator's cabins, 100; correct one of them"
+NO_RATES = "so nobody pays or gets anything; file them, as in: rates 5000 10000"
 
 
 def without(text, line):
@@ -120,14 +127,14 @@ class Notes(InFolder):
         self.assertEqual(self.added("mark 1 D2 1"), [(1, f"operator 1 {by_this_call}")])
 
     def test_an_income_of_0(self):
-        said = "operator 1 has an income of 0, so its limit is 0 and it has no adjustment"
+        said = "operator 1 has an income of 0, so its limit is 0 and it has no adjustment; file it in cents: setting 1 income .."
         self.assertEqual(self.added("setting 1 income 0"), [(1, said)])
         self.assertEqual(self.notes(without(GOOD, "setting 1 income 200000000\n")), [f"2: note: {said}"])
 
     def test_rates_that_were_never_filed(self):
         path = self.file("calls.txt", without(GOOD, "rates 5000 10000\n"))
-        self.assertEqual(settle_here(path).said, f"{path}: note: rates were never filed, so nobody pays or gets anything\n")
-        self.assertEqual(self.added("rates 0 0"), [(1, "both rates are 0, so nobody pays or gets anything")])
+        self.assertEqual(settle_here(path).said, f"{path}: note: rates were never filed, {NO_RATES}\n")
+        self.assertEqual(self.added("rates 0 0"), [(1, f"both rates are 0, {NO_RATES}")])
         self.assertEqual(self.added("rates 0 7"), [])
 
     def test_figures_without_the_one_that_divides_them(self):
@@ -139,13 +146,15 @@ class Notes(InFolder):
         ]:
             call, other = f"amount 0 2019 {figure} file 7", f"amount 0 2019 {divisor} file 1"
             said = f"operator 0 has {figure} in 2019 and no {divisor}, so that year counts as 0 at {indicator}"
+            said += f"; file its {divisor}, or correct the year"
             self.assertEqual(self.added(call), [(1, said)])
             self.assertEqual(self.added(other, call), [])
         gone = self.added("interruption 0 file LV own 0 300 1", "amount 0 2017 lv-weight withdraw 1")
-        self.assertEqual(gone, [(2, "operator 0 has lv-seconds in 2017 and no lv-weight, so that year counts as 0 at A4")])
+        said = "operator 0 has lv-seconds in 2017 and no lv-weight, so that year counts as 0 at A4; file its lv-weight, or correct the year"
+        self.assertEqual(gone, [(2, said)])
 
     def test_the_same_call_twice(self):
-        again = "the same call stands in line 22"
+        again = AGAIN.format(22)
         filed, withdrawn = "amount 0 2017 fees file 5", "amount 0 2017 fees withdraw 5"
         count = "amount 0 2017 connections file 1"
         self.assertEqual(self.added(filed, count, filed), [(3, again)])
@@ -153,18 +162,18 @@ class Notes(InFolder):
         self.assertEqual(self.added(filed, count, filed, withdrawn), [])
         self.assertEqual(self.added(filed, count, filed, withdrawn, filed), [(5, again)])
         self.assertEqual(self.added(filed, count, "amount 0 2017 fees file 6"), [])
-        self.assertEqual(self.added("amount 0 2017 fees file 15", count, withdrawn, withdrawn), [(4, "the same call stands in line 24")])
-        self.assertEqual(self.added("mark 0 A1 1", "mark 0 A1 0"), [(2, "the same call stands in line 10")])
+        self.assertEqual(self.added("amount 0 2017 fees file 15", count, withdrawn, withdrawn), [(4, AGAIN.format(24))])
+        self.assertEqual(self.added("mark 0 A1 1", "mark 0 A1 0"), [(2, AGAIN.format(10))])
 
     def test_heavy_and_long_interruptions(self):
         self.assertEqual(
             self.added("interruption 0 file MV planned 2017-05-01T00:00 2017-05-02T00:00 101"),
-            [(1, "its weight, 101, is more than the operator's cabins, 100")],
+            [(1, HEAVY)],
         )
         self.assertEqual(self.added("interruption 0 file MV own 2017-05-01T00:00 2017-05-31T00:00 9"), [])
         self.assertEqual(
             self.added("interruption 0 file MV own 2017-05-01T00:00 2017-05-31T00:00:01 9"),
-            [(1, "it lasts longer than 30 days, from 2017-05-01T00:00 to 2017-05-31T00:00:01")],
+            [(1, "it lasts longer than 30 days, from 2017-05-01T00:00 to 2017-05-31T00:00:01; see whether a date is wrong")],
         )
 
     def test_withdrawals_that_are_left_out(self):
@@ -180,7 +189,7 @@ class Notes(InFolder):
         self.assertEqual(self.added(filed, other, *enough)[0], (2, TWIN.format("MV")))
         self.assertEqual(self.added(*enough, filed, same), [])
         self.assertEqual(self.added(*enough, same, filed), [])
-        self.assertEqual(self.added(*enough, filed, same, same), [(5, "the same call stands in line 25"), (5, TWIN.format("MV"))])
+        self.assertEqual(self.added(*enough, filed, same, same), [(5, AGAIN.format(25)), (5, TWIN.format("MV"))])
 
     def test_numbers_that_look_like_dates(self):
         for start, date in [("20170314", "2017-03-14"), ("14032017", "2017-03-14"), ("20161231", "2016-12-31")]:
@@ -207,8 +216,7 @@ class Notes(InFolder):
         path = self.file("calls.txt", GOOD + "interruption 0 file MV own 2017-03-26T02:30 2017-03-26T04:00 101\n")
         made = self.folder / "made.q"
         settle_here("--encode", made, path)
-        said = "field 22 at byte 169: note: its weight, 101, is more than the operator's cabins, 100"
-        self.assertEqual(settle_here(made).said, f"{made}: {said}\n")
+        self.assertEqual(settle_here(made).said, f"{made}: field 22 at byte 169: note: {HEAVY}\n")
 
     def test_many_notes_are_cut(self):
         notes = self.notes(GOOD + "interruption 0 file MV own 0 300 101\n" * 30)
