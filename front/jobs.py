@@ -3,6 +3,7 @@
 from typing import NamedTuple
 
 from front import compare, notes, outputs, programs, refusals, table
+from front.books import Book
 from front.sources import passed_over, source_of
 from front.trouble import Trouble
 from front.words import line_of
@@ -33,8 +34,6 @@ class Jobs:
         answer = self.programs.settled(source.data)
         if not self.arguments.table:
             outputs.put(answer.output)
-        elif not answer.settled:
-            outputs.tell(answer.output.decode(errors="replace").rstrip())
         if not answer.settled:
             return self._refused(source, answer, self.programs.settled)
         if self.arguments.table:
@@ -125,7 +124,7 @@ class Jobs:
             self._refused(source, answer, self.programs.written)
         if refused:
             return Outcome(TROUBLE, "not compared")
-        found = compare.differences(*(programs.Book(answer.output) for answer in answers))
+        found = compare.differences(*(Book(answer.output) for answer in answers))
         heading = f"# here: {sources[0].name}, there: {sources[1].name}\n"
         outputs.put(heading.encode(errors="surrogateescape"))
         outputs.put("".join(f"{line}\n" for line in found or ["the books are the same"]).encode())
@@ -143,7 +142,8 @@ class Jobs:
     def _refused(self, source, answer, ask):
         """Explains the answer of a program that has not settled or written; it is trouble if it tells no refusal."""
         said = answer.line.decode(errors="replace").rstrip()
-        if answer.complaint:
+        # A table has no line for it.
+        if answer.complaint or self.arguments.table:
             outputs.tell(said)
         refusal = answer.refusal
         if refusal is None and answer.line != programs.TOO_LONG:

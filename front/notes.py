@@ -1,6 +1,7 @@
 """What a person should look at in a filing that was settled: slips of the calls, and what stands odd in the book."""
 
 from collections import Counter
+from itertools import product
 from typing import NamedTuple, Optional
 
 from front import times
@@ -90,14 +91,12 @@ def _rates(fields, book):
 def _undivided(fields, book):
     """Years with fees and no connections, or seconds and no weight: they count as 0."""
     _, years, figures, *_ = BY_NAME["amount"].places
-    for operator in book.joined():
-        for year, in_words in enumerate(years.words):
-            for figure, divisor, indicator in DIVIDED:
-                if book.value("amount", operator, year, figure) and not book.value("amount", operator, year, divisor):
-                    field = _last(fields, "amount", operator, year, figure) or _last(fields, "amount", operator, year, divisor)
-                    missing = figures.words[divisor]
-                    what = f"operator {operator} has {figures.words[figure]} in {in_words} and no {missing}"
-                    yield Note(field, f"{what}, so that year counts as 0 at {indicator}; file its {missing}, or correct the year")
+    for operator, year, (figure, divisor, indicator) in product(book.joined(), range(len(years.words)), DIVIDED):
+        if book.value("amount", operator, year, figure) and not book.value("amount", operator, year, divisor):
+            field = _last(fields, "amount", operator, year, figure) or _last(fields, "amount", operator, year, divisor)
+            missing = figures.words[divisor]
+            what = f"operator {operator} has {figures.words[figure]} in {years.words[year]} and no {missing}"
+            yield Note(field, f"{what}, so that year counts as 0 at {indicator}; file its {missing}, or correct the year")
 
 
 def _unsigned(call):

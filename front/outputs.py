@@ -46,9 +46,13 @@ def give_up():
 
 
 def _turn_away(stream):
-    nowhere = os.open(os.devnull, os.O_WRONLY)
-    os.dup2(nowhere, stream.fileno())
-    os.close(nowhere)
+    try:
+        nowhere = os.open(os.devnull, os.O_WRONLY)
+        os.dup2(nowhere, stream.fileno())
+        os.close(nowhere)
+    except OSError:
+        # It has no file behind it, so there is nothing to fail at the end.
+        pass
 
 
 def write(file, data, source, force):

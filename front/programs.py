@@ -50,7 +50,7 @@ class Refusal(NamedTuple):
     offset: int
 
 
-class Outcome(NamedTuple):
+class FieldAnswer(NamedTuple):
     """What becomes of a field: yes, counted (in a year, from 0), short, planned, coupled, exceptional, refused (by a number)."""
 
     word: str
@@ -96,7 +96,7 @@ class Programs:
         for line in self._run("outcomes", data).output.splitlines():
             told = OUTCOME.fullmatch(line)
             if told:
-                found[int(told[1])] = Outcome(told[2].decode(), None if told[3] is None else int(told[3]))
+                found[int(told[1])] = FieldAnswer(told[2].decode(), None if told[3] is None else int(told[3]))
         return found
 
     def _run(self, name, data):

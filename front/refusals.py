@@ -2,6 +2,7 @@
 
 from front.calls import BY_NAME, FIGURES
 from front.ranges import outside
+from front.trouble import Trouble
 from front.words import line_of, word_of
 
 MEANINGS = {
@@ -117,16 +118,23 @@ def _same_figure(source, before, field, programs):
     """For 8 and 9: what stands in the figure by then, as the writer says, and the calls before this one that name it."""
     moved = _figures_of(field.call)
     operator, year, _ = moved[0]
-    book = programs.book(source.data[: field.offset])
-    standing = " and ".join(f"{book.value('amount', *_numbers(one)):,} in {one[2]}" for one in moved)
     same = [one for one in before if set(_figures_of(one.call)) & set(moved)]
     lines = [
-        f"Of operator {operator} in {year} there stands {standing} at this point.",
+        f"Of operator {operator} in {year} there stands {_standing(moved, source.data[: field.offset], programs)}.",
         f"Earlier calls there: {_places(source, same) or 'none'}.",
     ]
     if any(one.call.kind.name == "interruption" for one in [*same, field]):
         lines.append("An interruption counts in the year of its end; one of 180 seconds or less, or left out for its cause, adds nothing.")
     return lines
+
+
+def _standing(figures, before, programs):
+    """How much the fields before the refused one leave in the figures, as the writer says."""
+    try:
+        book = programs.book(before)
+    except Trouble as trouble:
+        return f"something that cannot be told: {trouble}"
+    return " and ".join(f"{book.value('amount', *_numbers(figure)):,} in {figure[2]}" for figure in figures) + " at this point"
 
 
 def _figures_of(call):

@@ -47,12 +47,6 @@ class Source(NamedTuple):
             return f"{self.name}: {self.place_of(field)}"
         return f"{self.name}:{self.rows[field.number - 1].line}"
 
-    def without(self, field):
-        """A copy that lacks a field."""
-        rest = self.data[:field.offset] + self.data[field.offset + len(field.data) :]
-        rows = None if self.rows is None else self.rows[: field.number - 1] + self.rows[field.number :]
-        return self._replace(data=rest, rows=rows)
-
 
 def source_of(path):
     """The filing that a path stands for; trouble if there is none, or a text has an error."""
@@ -85,7 +79,9 @@ def _input():
 def passed_over(path):
     """The files of a folder that say something else than the one that counts, and were not read for it."""
     path = Path(path)
-    files = [path / name for name in IN_FOLDER if path.is_dir() and (path / name).exists()]
+    if str(path) == INPUT or not path.is_dir():
+        return []
+    files = [path / name for name in IN_FOLDER if (path / name).exists()]
     return [str(other) for other in files[1:] if _data_or_none(other) != _data_or_none(files[0])]
 
 

@@ -192,6 +192,15 @@ class NotBuilt(Tree):
         self.assertIn(f"{self.filing}: note: it is settled, and what to look at is not told: rewrite could not be built", run.said)
         self.assertEqual(self.settle("--strict", self.filing).status, 1)
 
+    def test_a_refusal_stands_without_the_program_that_tells_the_figure(self):
+        self.file("tree/standing-in-for-quality", "echo refused 9 at 4")
+        self.settle()
+        self.file("tree/failing", "")
+        run = self.settle(self.file("calls.txt", "join 0\namount 0 2017 fees withdraw 1\n"))
+        self.assertEqual((run.status, run.output), (1, b"refused 9 at 4\n"))
+        self.assertIn("calls.txt:2: refused: amount 0 2017 fees withdraw 1\n  9: ", run.said)
+        self.assertIn("there stands something that cannot be told: rewrite could not be built", run.said)
+
     def test_a_folder_that_cannot_be_made(self):
         self.file("tree/target", "a file in the place of the folder")
         run = self.settle()

@@ -8,7 +8,6 @@ import subprocess
 import time
 from unittest import mock
 
-from front import outputs
 from front.tests.common import ROOT, InFolder, settle, settle_here
 
 CALLS = b"join 0\nrates 1 2\n"
@@ -133,10 +132,9 @@ class Kept(InFolder):
 
     def test_an_interrupt_on_the_way(self):
         for name in ("fsync", "chmod", "replace"):
-            with mock.patch(f"front.outputs.os.{name}", side_effect=KeyboardInterrupt), mock.patch("front.outputs.give_up"):
-                self.assertEqual(settle_here("--encode", self.made, self.path).status, 2)
+            with mock.patch(f"front.outputs.os.{name}", side_effect=KeyboardInterrupt):
+                self.assertEqual(settle_here("--encode", self.made, self.path), (2, b"", ""))
             self.check_kept()
-        self.assertTrue(callable(outputs.give_up))
 
     def test_a_folder_and_a_name_too_long(self):
         (self.folder / "folder").mkdir()

@@ -139,7 +139,7 @@ class Failures(InFolder):
 
     def test_what_should_not_happen_is_a_line(self):
         good = self.file("good.q", CASE_M)
-        with mock.patch("front.programs.Programs.settled", side_effect=TypeError("odd")), mock.patch("front.outputs.give_up"):
+        with mock.patch("front.programs.Programs.settled", side_effect=TypeError("odd")):
             self.assertEqual(settle_here(good), (2, b"", "settle: this should not happen, so tell whoever keeps it: TypeError: odd\n"))
 
     def shell(self, words):
