@@ -77,16 +77,17 @@ class Jobs:
                 outputs.put(f"# {no_call}\n".encode())
                 outputs.tell(f"{source.name}: {no_call}")
                 return Outcome(REFUSED, f"no call at byte {field.offset}")
-            outputs.put(self._shown(source, field, outcomes.get(field.offset)).encode())
+            outputs.put(self._shown(source, field, outcomes).encode())
         return Outcome(SETTLED, "shown")
 
-    def _shown(self, source, field, outcome):
-        """The line of a call: where it stands in the text, and what becomes of it, as a comment."""
+    def _shown(self, source, field, outcomes):
+        """The line of a call: where it stands in the text, and what becomes of an interruption, as a comment."""
         remarks = [source.place_of(field)] if source.rows is not None else []
         if self.arguments.offsets:
             remarks.append(f"field {field.number} at byte {field.offset}")
-        if outcome and outcome.said:
-            remarks.append(outcome.said)
+        if outcomes and field.call.kind.name == "interruption":
+            outcome = outcomes.get(field.offset)
+            remarks.append(outcome.said if outcome else "not reached, since an earlier call is refused")
         words = line_of(field.call)
         return f"{words:<40} # {', '.join(remarks)}\n" if remarks else f"{words}\n"
 
@@ -103,6 +104,9 @@ class Jobs:
     def encode(self, path):
         """Writes the calls of a path to a file, as they are."""
         source = self._source(path)
+        if len(source.data) > refusals.MOST_BYTES:
+            for line in refusals.explained_length(source):
+                outputs.tell(line)
         outputs.write(self.arguments.encode, source.data, source, self.arguments.force)
         return Outcome(SETTLED, "encoded")
 

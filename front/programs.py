@@ -63,10 +63,12 @@ class FieldAnswer(NamedTuple):
 
     @property
     def said(self):
-        """The words for staff; empty where there is nothing to say."""
-        if self.left_out:
-            return f"left out: {self.word}"
-        return f"counted in {FIRST_YEAR + self.number}" if self.word == "counted" else ""
+        """The words for staff."""
+        if self.word == "counted":
+            return f"counted in {FIRST_YEAR + self.number}"
+        if self.word == "refused":
+            return f"refused {self.number}"
+        return f"left out: {self.word}" if self.left_out else "taken"
 
 
 class Programs:

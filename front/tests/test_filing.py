@@ -72,8 +72,8 @@ BECOMES = [
     "line 8, left out: planned",
     "line 9, left out: coupled",
     "line 10, left out: exceptional",
-    "line 11",
-    "line 12",
+    "line 11, refused 7",
+    "line 12, not reached, since an earlier call is refused",
 ]
 
 

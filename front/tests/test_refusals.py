@@ -157,6 +157,8 @@ class Refusals(InFolder):
             f"{path}: a filing has at most 65,536 bytes, and this one has 66,004\n"
             f"{path}:5959: here it passes them: file totals in the place of many entries\n",
         )
+        encoded = settle("--encode", self.folder / "made.q", path)
+        self.assertEqual((encoded.status, encoded.said), (0, run.said))
         run = settle(self.file("filing.q", b"\x01\x00\x01\x00" + bytes([6, 0, 8] + [0] * 8) * 6000))
         self.assertIn("filing.q: field 5959 at byte 65531: here it passes them", run.said)
 
