@@ -127,8 +127,11 @@ class Asked(InFolder):
         self.assertEqual((run.status, run.said), (0, ""))
         self.assertLessEqual(len(lines), 24)
         self.assertLess(max(map(len, lines)), 80)
-        for word in ["filing.q", "calls.txt", "calls.csv", "--show", "--write", "examples", "Exit status", "docs/FILING.md"]:
+        for word in ["filing.q", "calls.txt", "calls.csv", "standard input", "examples", "Exit status", "docs/FILING.md"]:
             self.assertIn(word, run.output.decode())
+        options = "--show --offsets --compare --table --table=excel --encode --write --force --strict --quiet --help"
+        for option in options.split():
+            self.assertIn(f"{option} ", run.output.decode())
 
     def test_words_that_cannot_be_meant(self):
         good = self.file("good.q", CASE_M)
