@@ -3,7 +3,7 @@
 import csv
 
 from front.calls import BY_NAME, KINDS
-from front.words import Problem, Row, filled, kind_of
+from front.words import Problem, filled, kind_of
 
 SEPARATORS = ",;\t"
 COLUMNS = tuple(dict.fromkeys(["call", *(place.name for kind in KINDS for place in kind.places)]))
@@ -31,7 +31,7 @@ def read(text):
             row, found = _row_of(line, columns, cells)
             problems += found
             calls.append(row)
-    return calls, problems + broken
+    return [] if problems else calls, problems + broken
 
 
 def is_table(text):
@@ -119,13 +119,13 @@ def _header_problems(line, columns):
 
 
 def _row_of(line, columns, cells):
-    """The call of a row, and its problems: a cell that the call has no use for must be empty."""
-    row = {name: cell for name, cell in zip(columns, cells) if name}
-    kind, problems = kind_of(line, row.pop("call", ""))
+    """The call of a row, or its problems: a cell that the call has no use for must be empty."""
+    named = {name: cell for name, cell in zip(columns, cells) if name}
+    kind, problems = kind_of(line, named.pop("call", ""))
     nameless = [cell for place, cell in enumerate(cells) if cell and not (place < len(columns) and columns[place])]
     problems += [Problem(line, cell, "no cell under a column without a name") for cell in nameless]
     if kind is None:
-        return Row(line, None), problems
-    call, found = filled(line, kind, [row.pop(place.name, "") for place in kind.places])
-    unused = [Problem(line, cell, f"an empty cell ({kind.name} has no {name})") for name, cell in row.items() if cell]
-    return call, problems + found + unused
+        return None, problems
+    row, found = filled(line, kind, [named.pop(place.name, "") for place in kind.places])
+    unused = [Problem(line, cell, f"an empty cell ({kind.name} has no {name})") for name, cell in named.items() if cell]
+    return row, problems + found + unused

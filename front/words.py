@@ -1,7 +1,7 @@
 """The text form: one call a line, words or numbers; its errors; and a call turned into words again."""
 
 import re
-from typing import NamedTuple, Optional, Tuple
+from typing import NamedTuple, Tuple
 
 from front import times
 from front.calls import BY_NAME, Call
@@ -29,11 +29,11 @@ class Problem(NamedTuple):
 
 
 class Row(NamedTuple):
-    """A call of a text: its line, and its values as they were written; no call where one of them stands for none."""
+    """A call of a text: its line, the call, and its values as they were written."""
 
     line: int
-    call: Optional[Call]
-    words: Tuple[str, ...] = ()
+    call: Call
+    words: Tuple[str, ...]
 
 
 def shown(word):
@@ -58,22 +58,24 @@ def read(text):
         if not words:
             continue
         row, found = row_of(line, words)
-        problems += found
-        rows.append(row)
+        if found:
+            problems += found
+        else:
+            rows.append(row)
     return rows, problems
 
 
 def row_of(line, words):
-    """The call that the words of a line say, and the problems in them."""
+    """The call that the words of a line say, or the problems in them."""
     kind, problems = kind_of(line, words[0])
     if problems:
-        return Row(line, None), problems
+        return None, problems
     if kind.has_times:
         words = times.with_blanks(words)
     if len(words) - 1 != len(kind.places):
         count = "1 word" if len(kind.places) == 1 else f"{len(kind.places)} words"
         expected = f"{count} after {kind.name} ({names(kind)}), found {len(words) - 1}"
-        return Row(line, None), [Problem(line, " ".join(words), expected)]
+        return None, [Problem(line, " ".join(words), expected)]
     return filled(line, kind, words[1:])
 
 
@@ -89,14 +91,14 @@ def names(kind):
 
 
 def filled(line, kind, words):
-    """The call with the values that the words stand for, and a problem for each that stands for none."""
+    """The call with the values that the words stand for, or a problem for each that stands for none."""
     values = [value_of(place, word) for place, word in zip(kind.places, words)]
     problems = [
         Problem(line, word, f"{_expected(place, word)} ({place.name} of {kind.name})")
         for place, word, value in zip(kind.places, words, values)
         if value is None
     ]
-    return Row(line, None if problems else Call(kind, tuple(values)), tuple(words)), problems
+    return None if problems else Row(line, Call(kind, tuple(values)), tuple(words)), problems
 
 
 def _expected(place, word):
