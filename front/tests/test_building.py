@@ -4,7 +4,6 @@ import os
 import shutil
 import subprocess
 import sys
-import time
 
 from front import building
 from front.tests.common import PROGRAM, PYTHON, ROOT, InFolder, settle
@@ -15,7 +14,7 @@ CRATES = "# the crates\n\nleaf:\nother: leaf\noutput: leaf io\nquality: output l
 RT = """#!/bin/sh
 echo "$@" >>runs
 echo "a note of the prover"
-[ -e slow ] && sleep 1
+while [ -e held ]; do sleep 0.05; done
 for crate in leaf output; do echo "rt: $crate proved (1 s)"; done
 [ -e failing ] && { echo "rt: $2 NOT PROVED (exit 1, 1 s)"; exit 1; }
 echo "rt: $2 proved (unchanged since it was last proved)"
@@ -123,19 +122,19 @@ class Built(Tree):
 
 
     def test_two_runs_at_once_build_once(self):
-        self.file("tree/slow", "")
+        held = self.file("tree/held", "")
         environment = {**os.environ, "PATH": f"{self.path.parent}:{os.environ['PATH']}"}
         command = [*PYTHON, str(self.root / "settle"), "--quiet", str(self.filing)]
-        both = []
-        for _ in range(2):
-            both.append(subprocess.Popen(command, env=environment, stdout=subprocess.PIPE, stderr=subprocess.PIPE, text=True))
-            time.sleep(0.4)
-        answers = [one.communicate() for one in both]
-        self.assertEqual([one.returncode for one in both], [0, 0])
-        self.assertEqual(self.runs(), ["check quality"])
-        self.assertEqual([output for output, _ in answers], ["operator\n\x01\x00\x01\x00"] * 2)
-        self.assertIn("proving and building it", answers[0][1])
-        self.assertEqual(answers[1][1], "another run is building here: waiting for it before quality is looked at again\n")
+        started = {"env": environment, "stdout": subprocess.PIPE, "stderr": subprocess.PIPE, "text": True}
+        with subprocess.Popen(command, **started) as first:
+            self.assertIn("proving and building it", first.stderr.readline())
+            with subprocess.Popen(command, **started) as second:
+                said = second.stderr.readline()
+                held.unlink()
+                answers = [first.communicate()[0], *second.communicate()]
+        self.assertEqual(said, "another run is building here: waiting for it before quality is looked at again\n")
+        self.assertEqual(answers, ["operator\n\x01\x00\x01\x00"] * 2 + [""])
+        self.assertEqual((first.returncode, second.returncode, self.runs()), (0, 0, ["check quality"]))
 
     def test_what_the_notes_need_is_built_after_the_settlement(self):
         run = self.settle(self.filing)

@@ -2,13 +2,14 @@
 
 import os
 import resource
+import select
 import signal
 import stat
 import subprocess
 import time
 from unittest import mock
 
-from front.tests.common import ROOT, InFolder, settle, settle_here
+from front.tests.common import PYTHON, ROOT, InFolder, settle, settle_here
 
 CALLS = b"join 0\nrates 1 2\n"
 FILING = bytes([1, 0, 1, 0, 6, 0, 8, 0, 0, 0, 1, 0, 0, 0, 2])
@@ -148,12 +149,14 @@ class Kept(InFolder):
 class Interrupted(InFolder):
     def test_an_interrupt_is_silent(self):
         end, other = os.pipe()
-        process = subprocess.Popen(
-            [str(ROOT / "settle"), "--encode", str(self.folder / "made.q"), "-"], stdin=end, stdout=subprocess.PIPE, stderr=subprocess.PIPE
-        )
-        time.sleep(0.5)
-        process.send_signal(signal.SIGINT)
-        output, said = process.communicate()
+        os.write(other, b"join 0\n")
+        command = [*PYTHON, str(ROOT / "settle"), "--encode", str(self.folder / "made.q"), "-"]
+        with subprocess.Popen(command, stdin=end, stdout=subprocess.PIPE, stderr=subprocess.PIPE) as process:
+            # Once the line is read, the command waits for more.
+            while select.select([end], [], [], 0)[0]:
+                time.sleep(0.05)
+            process.send_signal(signal.SIGINT)
+            output, said = process.communicate()
         os.close(end)
         os.close(other)
         self.assertEqual((process.returncode, output, said), (2, b"", b""))
