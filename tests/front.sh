@@ -17,3 +17,11 @@ sed -n 's/^Ran /front: /p' "$work/said"
 exercise=front/tests/exercise
 ./settle --quiet "$exercise/bytes" | cmp - <("$model" program "$exercise/bytes/filing.q")
 echo "front: the exercise prints what the model prints"
+
+# What becomes of each field, up to the first that is refused, is what the model answers to its call.
+outcomes=$(built outcomes)
+for example in examples/*/; do
+    (cd "$example" && "$outcomes") >"$work/outcomes"
+    cut -d ' ' -f 2- "$work/outcomes" | cmp - <(sed '/^#/d' "$example/calls.txt" | "$model" calls | sed 's/^left out //; /^refused/q')
+done
+echo "front: what becomes of each field of the examples is what the model answers"
