@@ -86,5 +86,7 @@ def _attempt(job, path):
         outputs.tell(str(trouble))
         return Outcome(TROUBLE, f"trouble: {trouble.short}")
     except OSError as error:
-        outputs.tell(f"{path}: {error.strerror or error}")
-        return Outcome(TROUBLE, f"trouble: {error.strerror or error}")
+        why = error.strerror or str(error)
+        file = "" if error.filename in (None, path) else f"{error.filename}: "
+        outputs.tell(f"{path}: {file}{why}")
+        return Outcome(TROUBLE, f"trouble: {why}")

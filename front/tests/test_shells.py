@@ -134,8 +134,9 @@ class Failures(InFolder):
         good = self.file("good.q", CASE_M)
         with mock.patch("front.reading.os.open", side_effect=PermissionError(13, "Permission denied")):
             self.assertEqual(settle_here(good), (2, b"", f"{good}: Permission denied\n"))
-        with mock.patch("front.programs.tempfile.TemporaryDirectory", side_effect=OSError(28, "No space left on device")):
-            self.assertEqual(settle_here(good), (2, b"", f"{good}: No space left on device\n"))
+        full = OSError(28, "No space left on device", "/tmp/made")
+        with mock.patch("front.programs.tempfile.TemporaryDirectory", side_effect=full):
+            self.assertEqual(settle_here(good), (2, b"", f"{good}: /tmp/made: No space left on device\n"))
 
     def test_what_should_not_happen_is_a_line(self):
         good = self.file("good.q", CASE_M)
