@@ -1,5 +1,7 @@
 """Whether a proved program is there and newer than its sources, and building it where it is not."""
 
+import contextlib
+import fcntl
 import os
 import re
 import shutil
@@ -41,14 +43,34 @@ class Builder:
         if why:
             if shutil.which("rt") is None:
                 raise Trouble(f"{why}, and rt is not installed. To build it install {KIT}.", UNBUILT)
-            self.say(f"{why}: proving and building it, which takes some minutes")
-            self._build(name, program, len(crates))
+            try:
+                with self._alone(name):
+                    self._build(name, program, crates)
+            except OSError as error:
+                raise Trouble(f"{name} could not be built: {error.filename or ''}: {error.strerror}", UNBUILT) from error
         return program
 
-    def _build(self, name, program, total):
+    @contextlib.contextmanager
+    def _alone(self, name):
+        """Holds the lock of the tree: two runs at once must not build at once."""
+        folder = self.root / "target" / "front"
+        folder.mkdir(parents=True, exist_ok=True)
+        with (folder / "lock").open("w", encoding="utf-8") as lock:
+            try:
+                fcntl.flock(lock, fcntl.LOCK_EX | fcntl.LOCK_NB)
+            except BlockingIOError:
+                self.say(f"another run is building here: waiting for it before {name} is looked at again")
+                fcntl.flock(lock, fcntl.LOCK_EX)
+            yield
+
+    def _build(self, name, program, crates):
+        """Builds the program, unless another run has done so since."""
+        why = reason_to_build(self.root, program, crates)
+        if not why:
+            return
+        self.say(f"{why}: proving and building it, which takes some minutes")
         log = self.root / "target" / "front" / f"{name}.log"
-        log.parent.mkdir(parents=True, exist_ok=True)
-        status = self._proved(name, log, total)
+        status = self._proved(name, log, len(crates))
         if status != 0:
             # A program that is there all the same must not be run the next time: it is to count as older than any source.
             if program.exists():

@@ -13,6 +13,14 @@ class Place(NamedTuple):
     signed: bool = False
     is_time: bool = False
 
+    def number_of(self, word):
+        """The number that a word of this place stands for, or None."""
+        word = word.lower()
+        for number, known in enumerate(self.words):
+            if word == known.lower():
+                return number
+        return None
+
     def fits(self, number):
         """Whether the number can be put into the bytes of this place; its range is the program's to judge."""
         if self.signed:
@@ -26,6 +34,11 @@ class Kind(NamedTuple):
     tag: int
     name: str
     places: Tuple[Place, ...]
+
+    @property
+    def has_times(self):
+        """Whether some of its values are times."""
+        return any(place.is_time for place in self.places)
 
     @property
     def length(self):
@@ -60,7 +73,7 @@ def _time(name):
     return Place(
         name,
         64,
-        "a time that exists, as 2017-03-04T10:00 or 2017-03-04T10:00:30, or seconds from the start of 2017",
+        "a time that exists, as 2017-03-14T10:00, 2017-03-14 10:00:30 or 14/03/2017 10:00, or seconds from the start of 2017",
         signed=True,
         is_time=True,
     )

@@ -4,13 +4,17 @@ import re
 import subprocess
 import tempfile
 from pathlib import Path
-from typing import NamedTuple
+from typing import NamedTuple, Optional
 
+from front.books import Book
 from front.sources import FILING
+from front.trouble import Trouble
 
 REFUSED = re.compile(rb"refused ([0-9]+)(?: at ([0-9]+))?\n")
 TOO_LONG = b"too long\n"
 SETTLEMENT = b"operator"
+FIRST_YEAR = 2017
+OUTCOME = re.compile(rb"([0-9]+) ([a-z]+)(?: ([0-9]+))?")
 
 
 class Answer(NamedTuple):
@@ -18,6 +22,25 @@ class Answer(NamedTuple):
 
     output: bytes
     complaint: bytes
+
+    @property
+    def line(self):
+        """The line by which it tells a refusal, if it does: the writer tells it on standard error."""
+        return self.complaint or self.output
+
+    @property
+    def settled(self):
+        """Whether this is a settlement."""
+        return self.output.startswith(SETTLEMENT) and not self.complaint
+
+    @property
+    def refusal(self):
+        """The refusal that its line tells, or None."""
+        found = REFUSED.fullmatch(self.line)
+        if not found:
+            return None
+        number, offset = found.groups()
+        return Refusal(int(number), None if offset is None else int(offset))
 
 
 class Refusal(NamedTuple):
@@ -27,21 +50,67 @@ class Refusal(NamedTuple):
     offset: int
 
 
-def run(program, data):
-    """The program's answer in a folder of its own that has this filing."""
-    with tempfile.TemporaryDirectory() as folder:
-        Path(folder, FILING).write_bytes(data)
-        done = subprocess.run([str(program)], cwd=folder, stdin=subprocess.DEVNULL, capture_output=True, check=False)
-    complaint = done.stderr
-    if done.returncode != 0 and not complaint:
-        complaint = f"{program} ended with status {done.returncode}\n".encode()
-    return Answer(done.stdout, complaint)
+class FieldAnswer(NamedTuple):
+    """What becomes of a field: yes, counted (in a year, from 0), short, planned, coupled, exceptional, refused (by a number)."""
+
+    word: str
+    number: Optional[int]
+
+    @property
+    def left_out(self):
+        """Whether an interruption is left out."""
+        return self.word not in ("yes", "counted", "refused")
+
+    @property
+    def said(self):
+        """The words for staff."""
+        if self.word == "counted":
+            return f"counted in {FIRST_YEAR + self.number}"
+        if self.word == "refused":
+            return f"refused {self.number}"
+        return f"left out: {self.word}" if self.left_out else "taken"
 
 
-def refusal_in(line):
-    """The refusal that a program's line tells, or None."""
-    found = REFUSED.fullmatch(line)
-    if not found:
-        return None
-    number, offset = found.groups()
-    return Refusal(int(number), None if offset is None else int(offset))
+class Programs:
+    """The proved programs, built by the builder where need be, and asked about a filing."""
+
+    def __init__(self, builder):
+        self.builder = builder
+
+    def settled(self, data):
+        """What the program prints that settles."""
+        return self._run("quality", data)
+
+    def written(self, data):
+        """What the program prints that writes the book out as a filing."""
+        return self._run("rewrite", data)
+
+    def book(self, data):
+        """The book that a filing leads to, which nothing refuses, by what the writer writes."""
+        answer = self.written(data)
+        if answer.complaint:
+            raise Trouble(f"the writer could not write the book: {_text(answer.complaint)}", "no book was written")
+        return Book(answer.output)
+
+    def outcomes(self, data):
+        """What becomes of each field, by its offset: yes, counted in a year, left out and why; none from a refused one on."""
+        found = {}
+        for line in self._run("outcomes", data).output.splitlines():
+            told = OUTCOME.fullmatch(line)
+            if told:
+                found[int(told[1])] = FieldAnswer(told[2].decode(), None if told[3] is None else int(told[3]))
+        return found
+
+    def _run(self, name, data):
+        program = self.builder.program(name)
+        with tempfile.TemporaryDirectory() as folder:
+            Path(folder, FILING).write_bytes(data)
+            done = subprocess.run([str(program)], cwd=folder, stdin=subprocess.DEVNULL, capture_output=True, check=False)
+        complaint = done.stderr
+        if done.returncode != 0 and not complaint:
+            complaint = f"{program} ended with status {done.returncode}\n".encode()
+        return Answer(done.stdout, complaint)
+
+
+def _text(line):
+    return line.decode(errors="replace").rstrip()

@@ -1,7 +1,8 @@
 """The programs' refusals in words: the field, what the number means, what to do, and what to look at."""
 
-from front import filing
-from front.calls import FIGURES
+from front.calls import BY_NAME, FIGURES
+from front.ranges import outside
+from front.trouble import Trouble
 from front.words import line_of, word_of
 
 MEANINGS = {
@@ -23,65 +24,117 @@ MEANINGS = {
     13: "The room lent for the output is too short. The programs here lend enough, so tell whoever keeps them.",
 }
 
-RANGES = {
-    "setting": "Cabins are 0 to 100,000, access points 0 to 4,000,000, income 0 to 100,000,000,000 cents.",
-    "interruption": "Sign and level are 0 or 1, causes 0 to 4. The end is from 2017-01-01T00:00 to 2019-12-31T23:59:59, the start not "
-    "before 2016-01-02T00:00 and not after the end. The weight is 1 to 100,000 cabins for MV, and 1 for LV.",
-    "amount": "Years are 2017 to 2019, figures 0 to 7, the sign is 0 or 1.",
-    "mark": "Indicators are A1, A2, A3, A4, D1 and D2, a mark is 0 or 1.",
-    "rates": "Each rate is 0 to 20,000 millionths.",
-    "index": "The indices are june-2016, june-2017, june-2018 and june-2013, each 1 to 100,000 hundredths.",
-}
-
 MOST_SHOWN = 16
 MOST_PLACES = 12
+# So many further refusals are looked for.
+MOST_ELSE = 10
+MOST_BYTES = 65_536
 
 
-def explained(source, refusal):
+def explained(source, refusal, programs):
     """The refusal in lines for staff."""
     meaning = f"  {refusal.number}: {MEANINGS[refusal.number]}"
     if refusal.offset is None:
         return [f"{source.name}: the filing is read, and settling it is refused", meaning, *_without_network(source, refusal)]
-    *before, field = [field for field in filing.fields_of(source.data) if field.offset <= refusal.offset]
-    what = line_of(field.call) if field.call else f"the bytes {_first_bytes(field.data)}"
+    *before, field = [field for field in source.fields() if field.offset <= refusal.offset]
     return [
-        f"{source.start_of(field)}: refused: {what}",
+        f"{source.start_of(field)}: refused: {_shown(field)}",
         meaning,
-        *(f"  {line}" for line in _to_look_at(source, refusal.number, before, field)),
+        *(f"  {line}" for line in _to_look_at(source, refusal.number, before, field, programs)),
     ]
 
 
 def explained_length(source):
     """The same for a filing that is too long."""
     length = f"{len(source.data):,}"
-    return [f"{source.name}: a filing has at most 65,536 bytes, and this one has {length}. File totals in the place of many entries."]
+    passing = [field for field in source.fields() if field.offset + len(field.data) > MOST_BYTES]
+    return [
+        f"{source.name}: a filing has at most {MOST_BYTES:,} bytes, and this one has {length}",
+        *(f"{source.start_of(field)}: here it passes them: file totals in the place of many entries" for field in passing[:1]),
+    ]
 
 
-def _first_bytes(data):
-    more = " .." if len(data) > MOST_SHOWN else ""
-    return data[:MOST_SHOWN].hex(" ") + more
+def what_else(source, refusal, ask):
+    """What else would be refused, on copies without the lines that are; `ask` gives the answer for the bytes of a copy."""
+    lines, left = [], source.fields()
+    while refusal and refusal.offset is not None and len(lines) < MOST_ELSE:
+        refused = _at(left, refusal.offset)
+        if refused.call is None:
+            return [*lines, f"{source.name}: nothing is settled; what follows these bytes cannot be read"]
+        left.remove(refused)
+        refusal = ask(b"".join(field.data for field in left)).refusal if left else None
+        if refusal:
+            lines.append(_also_refused(source, left, refusal))
+    if not lines:
+        return [f"{source.name}: nothing is settled; without this line nothing else would be refused"]
+    more = ", and there may be more" if len(lines) == MOST_ELSE else ""
+    return [*lines, f"{source.name}: nothing is settled{more}"]
 
 
-def _to_look_at(source, number, before, field):
+def _also_refused(source, left, refusal):
+    meaning = MEANINGS[refusal.number].split(". ")[0] + "."
+    if refusal.offset is None:
+        return f"{source.name}: then settling would be refused: {refusal.number}: {meaning}"
+    field = _at(left, refusal.offset)
+    if refusal.number == 5:
+        meaning = " ".join(outside(field.call))
+    return f"{source.start_of(field)}: would be refused too: {_shown(field)}: {refusal.number}: {meaning}"
+
+
+def _at(fields, offset):
+    """The field at an offset of the filing that these fields are."""
+    for field in fields:
+        if offset < len(field.data):
+            return field
+        offset -= len(field.data)
+    return fields[-1]
+
+
+def _shown(field):
+    """The call in words, or the bytes that are none."""
+    if field.call:
+        return line_of(field.call)
+    more = " .." if len(field.data) > MOST_SHOWN else ""
+    return f"the bytes {field.data[:MOST_SHOWN].hex(' ')}{more}"
+
+
+def _to_look_at(source, number, before, field, programs):
     if number == 5:
-        return [RANGES[field.call.kind.name]]
+        return outside(field.call)
     if number == 6:
         return [f"It joined in {_places(source, [one for one in before if one.call == field.call])}."]
     if number in (8, 9):
-        return _same_figure(source, before, field)
+        return _same_figure(source, before, field, programs)
+    if field.call is None and field.offset == 0 and _is_text(field.data):
+        return ["These bytes are a text: if it holds calls in words, give the file a name that ends in .txt."]
     return []
 
 
-def _same_figure(source, before, field):
-    """For 8 and 9: the calls before this one that name the same figure."""
+def _is_text(data):
+    return all(32 <= byte < 127 or byte in b"\t\r\n" for byte in data)
+
+
+def _same_figure(source, before, field, programs):
+    """For 8 and 9: what stands in the figure by then, as the writer says, and the calls before this one that name it."""
     moved = _figures_of(field.call)
     operator, year, _ = moved[0]
-    named = " and ".join(figure for _, _, figure in moved)
     same = [one for one in before if set(_figures_of(one.call)) & set(moved)]
-    lines = [f"Look at {named} of operator {operator} in {year}. Earlier calls there: {_places(source, same) or 'none'}."]
+    lines = [
+        f"Of operator {operator} in {year} there stands {_standing(moved, source.data[: field.offset], programs)}.",
+        f"Earlier calls there: {_places(source, same) or 'none'}.",
+    ]
     if any(one.call.kind.name == "interruption" for one in [*same, field]):
         lines.append("An interruption counts in the year of its end; one of 180 seconds or less, or left out for its cause, adds nothing.")
     return lines
+
+
+def _standing(figures, before, programs):
+    """How much the fields before the refused one leave in the figures, as the writer says."""
+    try:
+        book = programs.book(before)
+    except Trouble as trouble:
+        return f"something that cannot be told: {trouble}"
+    return " and ".join(f"{book.value('amount', *_numbers(figure)):,} in {figure[2]}" for figure in figures) + " at this point"
 
 
 def _figures_of(call):
@@ -95,11 +148,18 @@ def _figures_of(call):
     return []
 
 
+def _numbers(moved):
+    """Operator, year and figure as numbers again."""
+    operator, year, figure = moved
+    _, years, figures, *_ = BY_NAME["amount"].places
+    return int(operator), years.number_of(year), figures.number_of(figure)
+
+
 def _without_network(source, refusal):
     """For 11: the operators whose cabins or access points were never filed, or last filed as 0."""
     if refusal.number != 11:
         return []
-    calls = [field.call for field in filing.fields_of(source.data)]
+    calls = [field.call for field in source.fields()]
     latest = {call.values[:2]: call.value("value") for call in calls if call.kind.name == "setting"}
     wanting = [
         f"operator {call.value('operator')} {name}"

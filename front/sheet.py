@@ -2,39 +2,72 @@
 
 import csv
 
-from front.calls import KINDS
+from front.calls import BY_NAME, KINDS
 from front.words import Problem, filled, kind_of
 
 SEPARATORS = ",;\t"
 COLUMNS = tuple(dict.fromkeys(["call", *(place.name for kind in KINDS for place in kind.places)]))
+# A column for people; one whose name begins with # is such a column too.
+NOTE = "note"
+# The line by which a spreadsheet is told the separator.
+TOLD = "sep="
 
 
 def read(text):
     """The calls of a table, each with the line that its row begins on, and the problems."""
     rows, broken = _rows(text)
-    if not rows:
+    header = next((number for number, (_, cells) in enumerate(rows) if not _is_remark(cells)), None)
+    if header is None:
         return [], broken or [Problem(1, "", f"a header line with names of columns: {', '.join(COLUMNS)}")]
-    line, header = rows[0]
-    columns = [cell.lower() for cell in header]
+    line, names = rows[header]
+    columns = [name.lower() for name in _header(names)]
     problems = _header_problems(line, columns)
     if problems:
         return [], problems + broken
     calls = []
-    for line, cells in rows[1:]:
-        call, found = _call_of(line, columns, cells)
-        problems += found
-        calls.append((line, call))
-    return calls, problems + broken
+    for line, cells in rows[header + 1 :]:
+        cells = _without_comment(["" if _for_people(name) else cell for name, cell in zip(columns, cells)] + cells[len(columns) :])
+        if any(cells):
+            row, found = _row_of(line, columns, cells)
+            problems += found
+            calls.append(row)
+    return [] if problems else calls, problems + broken
+
+
+def is_table(text):
+    """Whether a text is a table by its first line that says something."""
+    lines = text.split("\n")
+    _, first = _first_line(lines)
+    return first.lower().startswith(TOLD) or "call" in [cell.strip(' "').lower() for cell in first.split(_separator(lines))]
+
+
+def is_list_of_calls(text):
+    """Whether the first line that says something is a call in words, and no header."""
+    _, first = _first_line(text.split("\n"))
+    return not is_table(text) and any(word.lower() in BY_NAME for word in first.split()[:1])
+
+
+def _first_line(lines):
+    """The first line that holds more than a comment, and its number from 0."""
+    for number, line in enumerate(lines):
+        content = line.split("#", 1)[0].strip(' "')
+        if content.strip(SEPARATORS):
+            return number, content
+    return 0, ""
 
 
 def _rows(text):
     """The rows that hold something, each with its first line, up to one whose quotes are not right."""
     rows, lines = [], text.split("\n")
-    reader = csv.reader((line + "\n" for line in lines), delimiter=_separator(lines), strict=True)
+    separator = _separator(lines)
+    number, first = _first_line(lines)
+    if first.lower().startswith(TOLD):
+        lines[number] = ""
+    reader = csv.reader((line + "\n" for line in lines), delimiter=separator, strict=True)
     while True:
         line = reader.line_num + 1
         try:
-            cells = _without_comment(next(reader))
+            cells = [cell.strip() for cell in next(reader)]
         except StopIteration:
             return rows, []
         except csv.Error as error:
@@ -44,25 +77,40 @@ def _rows(text):
 
 
 def _separator(lines):
-    """The separator that the header has most of, a comma if it has none."""
-    for line in lines:
-        header = line.split("#")[0]
-        if header.strip(' "'):
-            return max(SEPARATORS, key=header.count)
-    return SEPARATORS[0]
+    """The separator that the first line tells, or that the header has most of; a comma if it has none."""
+    _, header = _first_line(lines)
+    told = header[len(TOLD) :][:1] if header.lower().startswith(TOLD) else ""
+    return told if told and told in SEPARATORS else max(SEPARATORS, key=header.count)
+
+
+def _is_remark(cells):
+    """Whether all that a row holds is a comment."""
+    return not any(_without_comment(cells))
 
 
 def _without_comment(cells):
-    """The cells without the blanks around them, and without all that follows a #."""
+    """The cells without all that follows a #."""
     for place, cell in enumerate(cells):
         if "#" in cell:
-            cells = [*cells[:place], cell.split("#")[0]]
-            break
-    return [cell.strip() for cell in cells]
+            return [*cells[:place], cell.split("#", 1)[0].strip()]
+    return cells
+
+
+def _header(cells):
+    """The names of the columns: here a # at the start of a cell is a part of the name."""
+    for place, cell in enumerate(cells):
+        if "#" in cell[1:] and not cell.startswith("#"):
+            return _without_comment(cells[: place + 1])
+    return cells
+
+
+def _for_people(name):
+    return name == NOTE or name.startswith("#")
 
 
 def _header_problems(line, columns):
-    problems = [Problem(line, name, f"the name of a column: {', '.join(COLUMNS)}") for name in columns if name not in COLUMNS]
+    expected = f"the name of a column: {', '.join(COLUMNS)}; or {NOTE}, or a name that begins with #, for what is not read"
+    problems = [Problem(line, name, expected) for name in columns if name and name not in COLUMNS and not _for_people(name)]
     twice = {name for name in columns if name in COLUMNS and columns.count(name) > 1}
     problems += [Problem(line, name, "each column once") for name in COLUMNS if name in twice]
     if "call" not in columns:
@@ -70,13 +118,14 @@ def _header_problems(line, columns):
     return problems
 
 
-def _call_of(line, columns, cells):
-    """The call of a row, and its problems: a cell that the call has no use for must be empty."""
-    row = dict(zip(columns, cells))
-    kind, problems = kind_of(line, row.pop("call", ""))
-    problems += [Problem(line, cell, f"no cell after the last column, {columns[-1]}") for cell in cells[len(columns) :] if cell]
+def _row_of(line, columns, cells):
+    """The call of a row, or its problems: a cell that the call has no use for must be empty."""
+    named = {name: cell for name, cell in zip(columns, cells) if name}
+    kind, problems = kind_of(line, named.pop("call", ""))
+    nameless = [cell for place, cell in enumerate(cells) if cell and not (place < len(columns) and columns[place])]
+    problems += [Problem(line, cell, "no cell under a column without a name") for cell in nameless]
     if kind is None:
         return None, problems
-    call, found = filled(line, kind, [row.pop(place.name, "") for place in kind.places])
-    unused = [Problem(line, cell, f"an empty cell ({kind.name} has no {name})") for name, cell in row.items() if cell]
-    return call, problems + found + unused
+    row, found = filled(line, kind, [named.pop(place.name, "") for place in kind.places])
+    unused = [Problem(line, cell, f"an empty cell ({kind.name} has no {name})") for name, cell in named.items() if cell]
+    return row, problems + found + unused

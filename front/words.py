@@ -1,7 +1,7 @@
 """The text form: one call a line, words or numbers; its errors; and a call turned into words again."""
 
 import re
-from typing import NamedTuple
+from typing import NamedTuple, Tuple
 
 from front import times
 from front.calls import BY_NAME, Call
@@ -11,6 +11,7 @@ SIGNED = re.compile(r"-?[0-9]+")
 # No number of 64 bits has more digits; a longer one needs no look at its value.
 MOST_DIGITS = 20
 LONGEST_SHOWN = 60
+A_CALL = f"a call: {', '.join(BY_NAME)}"
 # The byte order marks of texts with two bytes a character, as spreadsheets save them.
 WIDE_MARKS = (b"\xff\xfe", b"\xfe\xff")
 
@@ -25,6 +26,14 @@ class Problem(NamedTuple):
     def said(self, name):
         """The message, for the file of that name."""
         return f"{name}:{self.line}: {shown(self.word)}: expected {self.expected}"
+
+
+class Row(NamedTuple):
+    """A call of a text: its line, the call, and its values as they were written."""
+
+    line: int
+    call: Call
+    words: Tuple[str, ...]
 
 
 def shown(word):
@@ -42,23 +51,27 @@ def decoded(data):
 
 
 def read(text):
-    """The calls of a text, each with its line, and its problems."""
-    calls, problems = [], []
+    """The calls of a text, and its problems."""
+    rows, problems = [], []
     for line, content in enumerate(text.split("\n"), start=1):
-        words = content.split("#")[0].split()
+        words = content.split("#", 1)[0].split()
         if not words:
             continue
-        call, found = call_of(line, words)
-        problems += found
-        calls.append((line, call))
-    return calls, problems
+        row, found = row_of(line, words)
+        if found:
+            problems += found
+        else:
+            rows.append(row)
+    return rows, problems
 
 
-def call_of(line, words):
-    """The call that the words of a line say, and the problems in them."""
+def row_of(line, words):
+    """The call that the words of a line say, or the problems in them."""
     kind, problems = kind_of(line, words[0])
     if problems:
         return None, problems
+    if kind.has_times:
+        words = times.with_blanks(words)
     if len(words) - 1 != len(kind.places):
         count = "1 word" if len(kind.places) == 1 else f"{len(kind.places)} words"
         expected = f"{count} after {kind.name} ({names(kind)}), found {len(words) - 1}"
@@ -69,7 +82,7 @@ def call_of(line, words):
 def kind_of(line, word):
     """The kind of call that a word names, and the problem if it names none."""
     kind = BY_NAME.get(word.lower())
-    return kind, [] if kind else [Problem(line, word, f"a call: {', '.join(BY_NAME)}")]
+    return kind, [] if kind else [Problem(line, word, A_CALL)]
 
 
 def names(kind):
@@ -78,25 +91,38 @@ def names(kind):
 
 
 def filled(line, kind, words):
-    """The call with the values that the words stand for, and a problem for each that stands for none."""
+    """The call with the values that the words stand for, or a problem for each that stands for none."""
     values = [value_of(place, word) for place, word in zip(kind.places, words)]
     problems = [
-        Problem(line, word, f"{place.expected} ({place.name} of {kind.name})")
+        Problem(line, word, f"{_expected(place, word)} ({place.name} of {kind.name})")
         for place, word, value in zip(kind.places, words, values)
         if value is None
     ]
-    return Call(kind, tuple(values)), problems
+    return None if problems else Row(line, Call(kind, tuple(values)), tuple(words)), problems
+
+
+def _expected(place, word):
+    """What is expected at a place; a time that names a zone is told in winter time."""
+    here = times.without_zone(word) if place.is_time else None
+    if here is None:
+        return place.expected
+    return f"a clock time without a zone: all times are winter time, all year, in which this one is {here}"
 
 
 def value_of(place, word):
     """The number that a word stands for at a place, or None."""
-    for number, known in enumerate(place.words):
-        if word.lower() == known.lower():
-            return number
+    number = place.number_of(word)
+    if number is not None:
+        return number
     written = (SIGNED if place.signed else UNSIGNED).fullmatch(word)
     if written and len(word.lstrip("-0")) <= MOST_DIGITS and place.fits(int(word)):
         return int(word)
     return times.seconds_of(word) if place.is_time else None
+
+
+def is_number(word):
+    """Whether a word is a bare number."""
+    return SIGNED.fullmatch(word) is not None
 
 
 def word_of(place, value):

@@ -3,6 +3,9 @@
 set -euo pipefail
 . "$(dirname "$0")/common.sh"
 
+# As a first run of staff does, this builds what is not built, or is older than a source by its time alone. It asks all three programs.
+./settle examples/course >"$work/said" 2>&1 </dev/null || fail "$(cat "$work/said")"
+
 # All that is skipped is told with its reason.
 if ! python3 -B -m unittest --verbose >"$work/said" 2>&1; then
     cat "$work/said" >&2
@@ -12,5 +15,13 @@ sed -n 's/.* \.\.\. skipped /front: skipped: /p' "$work/said" | sort | uniq
 sed -n 's/^Ran /front: /p' "$work/said"
 
 exercise=front/tests/exercise
-./settle "$exercise/bytes" | cmp - <("$model" program "$exercise/bytes/filing.q")
+./settle --quiet "$exercise/bytes" | cmp - <("$model" program "$exercise/bytes/filing.q")
 echo "front: the exercise prints what the model prints"
+
+# What becomes of each field, up to the first that is refused, is what the model answers to its call.
+outcomes=$(built outcomes)
+for example in examples/*/; do
+    (cd "$example" && "$outcomes") >"$work/outcomes"
+    cut -d ' ' -f 2- "$work/outcomes" | cmp - <(sed '/^#/d' "$example/calls.txt" | "$model" calls | sed 's/^left out //; /^refused/q')
+done
+echo "front: what becomes of each field of the examples is what the model answers"

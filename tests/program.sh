@@ -10,7 +10,7 @@ for example in examples/*/; do
     cmp "$work/printed" <("$model" program "$example/filing.q")
 done
 cmp examples/case-m/filing.q crates/quality/data/filing.q
-./settle 2>"$work/said" | cmp - <(for example in examples/*/; do
+./settle </dev/null 2>"$work/said" | cmp - <(for example in examples/*/; do
     sed -n '/^#/p' "$example/calls.txt"
     "$model" program "$example/filing.q"
 done)

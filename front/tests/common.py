@@ -3,6 +3,7 @@
 import contextlib
 import io
 import subprocess
+import sys
 import tempfile
 import unittest
 from pathlib import Path
@@ -11,6 +12,8 @@ from typing import NamedTuple
 from front import command
 from front.building import ROOT
 
+# Every warning of the command is an error.
+PYTHON = (sys.executable, "-W", "error")
 PROGRAM = ROOT / "target" / "bin" / "quality"
 EXERCISE = Path(__file__).parent / "exercise"
 
@@ -24,8 +27,10 @@ class Run(NamedTuple):
 
 
 def settle(*words, root=ROOT, **options):
-    """A run of the command as staff start it."""
-    done = subprocess.run([str(root / "settle"), *map(str, words)], capture_output=True, check=False, **options)
+    """A run of the command, by the Python that runs the tests, with nothing on standard input unless there is an `input`."""
+    if "input" not in options:
+        options.setdefault("stdin", subprocess.DEVNULL)
+    done = subprocess.run([*PYTHON, str(root / "settle"), *map(str, words)], capture_output=True, check=False, **options)
     return Run(done.returncode, done.stdout, done.stderr.decode())
 
 

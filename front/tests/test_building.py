@@ -2,17 +2,19 @@
 
 import os
 import shutil
+import subprocess
 import sys
 
 from front import building
-from front.tests.common import PROGRAM, ROOT, InFolder, settle
+from front.tests.common import PROGRAM, PYTHON, ROOT, InFolder, settle
 
-CRATES = "# the crates\n\nleaf:\nother: leaf\noutput: leaf io\nquality: output libc\nrewrite: leaf\n\nlone_test: other\n"
+CRATES = "# the crates\n\nleaf:\nother: leaf\noutput: leaf io\nquality: output libc\nrewrite: leaf\noutcomes: leaf\n\nlone_test: other\n"
 
 # It counts its runs, proves what crates.txt of this tree has, and builds the program anew where a source has changed.
 RT = """#!/bin/sh
 echo "$@" >>runs
 echo "a note of the prover"
+while [ -e held ]; do sleep 0.05; done
 for crate in leaf output; do echo "rt: $crate proved (1 s)"; done
 [ -e failing ] && { echo "rt: $2 NOT PROVED (exit 1, 1 s)"; exit 1; }
 echo "rt: $2 proved (unchanged since it was last proved)"
@@ -35,7 +37,9 @@ class Tree(InFolder):
         shutil.copy2(ROOT / "settle", self.root / "settle")
         self.file("tree/crates.txt", CRATES)
         self.file("tree/standing-in-for-quality", "echo operator; cat filing.q")
-        for crate in ("leaf", "other", "output", "quality", "rewrite"):
+        self.file("tree/standing-in-for-rewrite", "cat filing.q")
+        self.file("tree/standing-in-for-outcomes", "echo 0 yes")
+        for crate in ("leaf", "other", "output", "quality", "rewrite", "outcomes"):
             self.file(f"tree/crates/{crate}/src/lib.rt", "")
             self.file(f"tree/crates/{crate}/proofs/part/One.antt", "")
         self.path = self.file("bin/rt", RT)
@@ -50,8 +54,9 @@ class Tree(InFolder):
             os.utime(path, (time, time))
 
     def settle(self, *words, path=None):
+        """A run in this tree; without words the filing is settled, without notes, so that only its own program is asked."""
         found = f"{self.path.parent}:{os.environ['PATH']}" if path is None else path
-        return settle(*words or [self.filing], root=self.root, env={**os.environ, "PATH": found})
+        return settle(*words or ["--quiet", self.filing], root=self.root, env={**os.environ, "PATH": found})
 
     def runs(self):
         file = self.root / "runs"
@@ -116,10 +121,32 @@ class Built(Tree):
         self.assertEqual(len(self.runs()), 2)
 
 
+    def test_two_runs_at_once_build_once(self):
+        held = self.file("tree/held", "")
+        environment = {**os.environ, "PATH": f"{self.path.parent}:{os.environ['PATH']}"}
+        command = [*PYTHON, str(self.root / "settle"), "--quiet", str(self.filing)]
+        started = {"env": environment, "stdout": subprocess.PIPE, "stderr": subprocess.PIPE, "text": True}
+        with subprocess.Popen(command, **started) as first:
+            self.assertIn("proving and building it", first.stderr.readline())
+            with subprocess.Popen(command, **started) as second:
+                said = second.stderr.readline()
+                held.unlink()
+                answers = [first.communicate()[0], *second.communicate()]
+        self.assertEqual(said, "another run is building here: waiting for it before quality is looked at again\n")
+        self.assertEqual(answers, ["operator\n\x01\x00\x01\x00"] * 2 + [""])
+        self.assertEqual((first.returncode, second.returncode, self.runs()), (0, 0, ["check quality"]))
+
+    def test_what_the_notes_need_is_built_after_the_settlement(self):
+        run = self.settle(self.filing)
+        self.assertEqual((run.status, run.output), (0, b"operator\n\x01\x00\x01\x00"))
+        self.assertEqual(self.runs(), ["check quality", "check rewrite"])
+        self.assertIn("note: rates were never filed", run.said)
+
+
 class NotBuilt(Tree):
     def test_a_failure_names_the_log_and_is_tried_once(self):
         self.file("tree/failing", "")
-        run = self.settle(self.filing, self.filing)
+        run = self.settle("--quiet", self.filing, self.filing)
         log = self.root / "target/front/quality.log"
         self.assertEqual(run.status, 2)
         self.assertEqual(run.said.count(f"rt check quality ended with status 1; what the prover said is in {log}"), 2)
@@ -156,6 +183,29 @@ class NotBuilt(Tree):
         self.assertEqual((run.status, run.output), (2, b""))
         self.assertIn("the program quality is not built, and rt is not installed. To build it install the Rattle kit", run.said)
 
+    def test_a_settlement_stands_without_the_program_of_its_notes(self):
+        self.settle()
+        self.file("tree/failing", "")
+        run = self.settle(self.filing)
+        self.assertEqual((run.status, run.output), (0, b"operator\n\x01\x00\x01\x00"))
+        self.assertIn(f"{self.filing}: note: it is settled, and what to look at is not told: rewrite could not be built", run.said)
+        self.assertEqual(self.settle("--strict", self.filing).status, 1)
+
+    def test_a_refusal_stands_without_the_program_that_tells_the_figure(self):
+        self.file("tree/standing-in-for-quality", "echo refused 9 at 4")
+        self.settle()
+        self.file("tree/failing", "")
+        run = self.settle(self.file("calls.txt", "join 0\namount 0 2017 fees withdraw 1\n"))
+        self.assertEqual((run.status, run.output), (1, b"refused 9 at 4\n"))
+        self.assertIn("calls.txt:2: refused: amount 0 2017 fees withdraw 1\n  9: ", run.said)
+        self.assertIn("there stands something that cannot be told: rewrite could not be built", run.said)
+
+    def test_a_folder_that_cannot_be_made(self):
+        self.file("tree/target", "a file in the place of the folder")
+        run = self.settle()
+        self.assertEqual((run.status, run.output), (2, b""))
+        self.assertEqual(run.said, f"quality could not be built: {self.root}/target/front: Not a directory\n")
+
     def test_texts_are_judged_and_shown_without_a_program(self):
         text = self.file("calls.txt", "join x")
         self.assertIn("calls.txt:1: 'x'", self.settle(text).said)
@@ -189,6 +239,13 @@ class Written(Tree):
     def test_standard_output(self):
         self.assertEqual(self.written("printf book", "-").output, b"book")
 
+    def test_interruptions_are_shown_without_the_program_too(self):
+        self.file("tree/failing", "")
+        text = self.file("calls.txt", "join 0\ninterruption 0 file MV own 0 181 1\n")
+        run = self.settle("--show", text)
+        self.assertEqual((run.status, run.output.count(b"\n")), (0, 2))
+        self.assertIn("what becomes of its interruptions is not told: outcomes could not be built", run.said)
+
     def test_an_empty_book_is_written(self):
         self.assertEqual(self.written("true").status, 0)
         self.assertEqual((self.folder / "out.q").read_bytes(), b"")
@@ -213,9 +270,11 @@ class Written(Tree):
 
 
 class RealTree(InFolder):
-    def test_the_program_of_this_tree_is_newer_than_its_sources(self):
+    def test_the_programs_of_this_tree_are_newer_than_their_sources(self):
         crates = building.needed(ROOT, "quality")
         self.assertEqual(crates[-1], "quality")
         self.assertTrue({"exact", "calls", "output", "load"} <= set(crates))
         self.assertFalse({"io", "writing", "book_test"} & set(crates))
-        self.assertIsNone(building.reason_to_build(ROOT, PROGRAM, crates), "rt check quality builds it")
+        for name in ("quality", "rewrite", "outcomes"):
+            why = building.reason_to_build(ROOT, PROGRAM.with_name(name), building.needed(ROOT, name))
+            self.assertIsNone(why, "tests/front.sh brings it up to date")

@@ -39,11 +39,14 @@ class Paths(InFolder):
     def test_trouble(self):
         (self.folder / "empty").mkdir()
         (self.folder / "odd" / "filing.q").mkdir(parents=True)
+        self.file("other/b.csv", "")
+        self.file("other/a.txt", "")
         for path, said in [
             ("missing", "missing: No such file or directory"),
             ("missing.q", "missing.q: No such file or directory"),
             ("empty", "empty: this folder has no filing: no filing.q, calls.txt or calls.csv"),
             ("odd", "odd/filing.q: Is a directory"),
+            ("other", "other: this folder has no filing: no filing.q, calls.txt or calls.csv; give the file itself, as in: other/a.txt"),
         ]:
             self.assertEqual(settle(path, cwd=self.folder), (2, b"", f"{said}\n"))
 
@@ -124,8 +127,11 @@ class Asked(InFolder):
         self.assertEqual((run.status, run.said), (0, ""))
         self.assertLessEqual(len(lines), 24)
         self.assertLess(max(map(len, lines)), 80)
-        for word in ["filing.q", "calls.txt", "calls.csv", "--show", "--write", "examples", "Exit status", "docs/FILING.md"]:
+        for word in ["filing.q", "calls.txt", "calls.csv", "standard input", "examples", "Exit status", "docs/FILING.md"]:
             self.assertIn(word, run.output.decode())
+        options = "--show --offsets --compare --table --table=excel --encode --write --force --strict --quiet --help"
+        for option in options.split():
+            self.assertIn(f"{option} ", run.output.decode())
 
     def test_words_that_cannot_be_meant(self):
         good = self.file("good.q", CASE_M)

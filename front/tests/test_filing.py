@@ -3,10 +3,12 @@
 import random
 
 from front import filing, words
+from front.building import ROOT, Builder
 from front.calls import KINDS, Call
+from front.programs import Programs
 from front.tests.common import EXERCISE, InFolder, program_on, settle, settle_here
 
-FILINGS = 500
+FILINGS = 150
 
 
 def drawn_value(draw, place):
@@ -21,6 +23,11 @@ def drawn_call(draw):
     return Call(kind, tuple(drawn_value(draw, place) for place in kind.places))
 
 
+def calls_in(run):
+    """The calls of what a run printed, without the comments."""
+    return [line.split("#")[0].rstrip() for line in run.output.decode().splitlines()]
+
+
 class Inverse(InFolder):
     def test_shown_and_encoded_again(self):
         draw = random.Random(14)
@@ -33,7 +40,7 @@ class Inverse(InFolder):
             again = settle_here("--encode", "-", self.file("drawn.txt", shown.output))
             self.assertEqual(again, (0, data, ""), shown.output)
             self.assertEqual([field.call for field in filing.fields_of(data)], calls)
-            self.assertEqual(settle_here("--show", self.folder / "drawn.txt"), shown)
+            self.assertEqual(calls_in(settle_here("--show", "--offsets", self.folder / "drawn.txt")), calls_in(shown))
 
     def test_the_course_example(self):
         shown = settle("--show", "examples/course", cwd=EXERCISE.parents[2])
@@ -41,41 +48,93 @@ class Inverse(InFolder):
         self.assertEqual(settle("--encode", "-", path).output, (EXERCISE.parents[2] / "examples/course/filing.q").read_bytes())
 
 
+INTERRUPTIONS = """\
+join 3
+
+interruption 3 file MV own 2017-12-31T23:00 2017-12-31T23:59:59 4
+interruption 3 file MV own 2017-12-31T23:00 2018-01-01T00:00 4
+interruption 3 file LV unattested 2019-03-04T10:00 2019-03-04T10:04 1
+interruption 3 file LV own 0 180 1
+interruption 3 file LV own 0 181 1
+interruption 3 withdraw MV planned 2017-03-04T10:00 2017-03-04T12:30 120
+interruption 3 file MV coupled 2017-03-04T10:00 2017-03-04T12:30 120
+interruption 3 file MV exceptional 2017-03-04T10:00 2017-03-04T12:30 120
+interruption 4 file MV own 2017-03-04T10:00 2017-03-04T12:30 120
+interruption 3 file MV own 2017-03-04T10:00 2017-03-04T12:30 120
+"""
+BECOMES = [
+    "line 1",
+    "line 3, counted in 2017",
+    "line 4, counted in 2018",
+    "line 5, counted in 2019",
+    "line 6, left out: short",
+    "line 7, counted in 2017",
+    "line 8, left out: planned",
+    "line 9, left out: coupled",
+    "line 10, left out: exceptional",
+    "line 11, refused 7",
+    "line 12, not reached, since an earlier call is refused",
+]
+
+
 class Shown(InFolder):
-    def test_field_by_field_with_offsets(self):
+    def test_a_filing_as_calls_alone(self):
         interruption = "03 0018 03 01 00 01 00000000005249a0 0000000000526cc8 00000078"
-        data = bytes.fromhex(f"01 0001 03 05 0003 03 00 01 {interruption}")
-        run = settle("--show", self.file("filing.q", data))
+        path = self.file("filing.q", bytes.fromhex(f"01 0001 03 05 0003 03 00 01 {interruption}"))
+        calls = ["join 3", "mark 3 A1 1", "interruption 3 withdraw MV planned 2017-03-04T10:00 2017-03-04T12:30 120"]
         self.assertEqual(
-            run.output.decode().splitlines(),
-            [
-                "join 3                                   # field 1 at byte 0",
-                "mark 3 A1 1                              # field 2 at byte 4",
-                "interruption 3 withdraw MV planned 2017-03-04T10:00 2017-03-04T12:30 120 # field 3 at byte 10",
-            ],
+            settle("--show", path).output.decode().splitlines(),
+            [*calls[:2], f"{calls[2]} # left out: planned"],
         )
+        places = ["field 1 at byte 0", "field 2 at byte 4", "field 3 at byte 10, left out: planned"]
+        self.assertEqual(
+            settle("--show", "--offsets", path).output.decode().splitlines(),
+            [f"{call:<40} # {place}" for call, place in zip(calls, places)],
+        )
+
+    def test_each_interruption_with_what_becomes_of_it(self):
+        run = settle("--show", self.file("calls.txt", INTERRUPTIONS))
+        self.assertEqual((run.status, run.said), (0, ""))
+        self.assertEqual([line.split("# ")[1] for line in run.output.decode().splitlines()], BECOMES)
+        run = settle("--show", "--offsets", self.folder / "calls.txt")
+        self.assertIn("# line 4, field 3 at byte 31, counted in 2018\n", run.output.decode())
+
+    def test_what_becomes_of_it_is_what_the_book_shows(self):
+        """A field that is counted changes its year in the written book, and one that is left out changes nothing."""
+        asked = Programs(Builder(ROOT, print))
+        calls = INTERRUPTIONS.split("interruption 4")[0]
+        data = settle_here("--encode", "-", self.file("calls.txt", calls + "interruption 3 withdraw MV own 0 300 4\n")).output
+        outcomes = asked.outcomes(data)
+        met = set()
+        for field in filing.fields_of(data)[1:]:
+            before, after = asked.book(data[: field.offset]), asked.book(data[: field.offset + len(field.data)])
+            changed = {key[2] for key in {*before.values, *after.values} if before.value(*key) != after.value(*key)}
+            outcome = outcomes[field.offset]
+            self.assertEqual(changed, {outcome.number} if outcome.word == "counted" else set(), field)
+            met.add(outcome.word)
+        self.assertEqual(met, {"counted", "short", "planned", "coupled", "exceptional"})
 
     def test_bytes_that_are_no_call(self):
         for rest in ["01", "0100", "01000200", "630000", "0100020000", "0000"]:
             run = settle_here("--show", self.file("filing.q", bytes.fromhex("01000100" + rest)))
             self.assertEqual(run.status, 1)
             shown = run.output.decode().splitlines()
-            self.assertEqual(shown[0].split("#")[0].strip(), "join 0")
-            self.assertEqual(shown[1], "# field 2 at byte 4: no call in the bytes from here on")
+            self.assertEqual(shown, ["join 0", "# field 2 at byte 4: no call in the bytes from here on"])
             self.assertIn("filing.q: field 2 at byte 4: no call", run.said)
 
     def test_the_calls_of_a_text(self):
         run = settle_here("--show", self.file("calls.txt", "# one\njoin 0\n\nrates 1 2\n"))
-        calls, _ = words.read(run.output.decode())
-        self.assertEqual([call.kind.name for _, call in calls], ["join", "rates"])
-        self.assertIn("# field 2 at byte 4", run.output.decode())
+        rows, _ = words.read(run.output.decode())
+        self.assertEqual([row.call.kind.name for row in rows], ["join", "rates"])
+        self.assertEqual([line.split("# ")[1] for line in run.output.decode().splitlines()], ["line 2", "line 4"])
 
 
 class Exercise(InFolder):
     def test_by_words_by_csv_and_by_bytes(self):
         data = (EXERCISE / "bytes" / "filing.q").read_bytes()
-        expected = (0, program_on(data), "")
-        self.assertTrue(expected[1].startswith(b"operator points out in adjustment\n0 "))
+        printed = program_on(data)
+        self.assertTrue(printed.startswith(b"operator points out in adjustment\n0 "))
         for way in ("words", "csv", "bytes"):
-            self.assertEqual(settle(EXERCISE / way), expected, way)
+            self.assertEqual(settle("--quiet", EXERCISE / way), (0, printed, ""), way)
+            self.assertEqual(settle(EXERCISE / way)[:2], (0, printed), way)
             self.assertEqual(settle_here("--encode", "-", EXERCISE / way).output, data, way)

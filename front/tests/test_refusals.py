@@ -3,7 +3,7 @@
 import unittest
 
 from front.refusals import MEANINGS
-from front.tests.common import InFolder, program_on, settle
+from front.tests.common import InFolder, program_on, settle, settle_here
 
 NETWORK = "join 0\nsetting 0 cabins 5\nsetting 0 access-points 7\n"
 MARKED = NETWORK + "mark 0 A1 0\n" + "".join(f"mark 0 {indicator} 1\n" for indicator in ("A1", "A2", "A3", "A4", "D1", "D2"))
@@ -14,6 +14,7 @@ FILINGS = [
     ("01 00 01 00 01 00 05 00", "refused 1 at 4", "field 2 at byte 4: refused: the bytes 01 00 05 00", ""),
     ("01 00 01 00 63 00 00", "refused 2 at 4", "field 2 at byte 4: refused: the bytes 63 00 00", ""),
     ("63 00 20" + " 07" * 32, "refused 2 at 0", "field 1 at byte 0: refused: the bytes 63 00 20" + " 07" * 13 + " ..", ""),
+    ("6a 6f 69 6e 20 30 0a", "refused 1 at 0", "field 1 at byte 0: refused: the bytes 6a 6f 69 6e 20 30 0a", "These bytes are a text"),
     ("01 00 02 00 00", "refused 3 at 0", "field 1 at byte 0: refused: the bytes 01 00 02 00 00", ""),
     ("01 00 01 10", "refused 4 at 0", "field 1 at byte 0: refused: join 16", ""),
     ("01 00 01 00 01 00 01 00", "refused 6 at 4", "field 2 at byte 4: refused: join 0", "It joined in field 1 at byte 0."),
@@ -22,16 +23,11 @@ FILINGS = [
 # The same by text.
 TEXTS = [
     ("# one\njoin 16", "refused 4 at 0", "2: refused: join 16", ""),
-    ("join 0\nsetting 0 cabins 100001", "refused 5 at 4", "2: refused: setting 0 cabins 100001", "Cabins are 0 to 100,000"),
-    ("join 0\namount 0 3 fees file 1", "refused 5 at 4", "2: refused: amount 0 3 fees file 1", "Years are 2017 to 2019"),
-    ("join 0\nmark 0 6 1", "refused 5 at 4", "2: refused: mark 0 6 1", "Indicators are A1"),
-    ("rates 20001 0", "refused 5 at 0", "1: refused: rates 20001 0", "Each rate is 0 to 20,000"),
-    ("index june-2017 0", "refused 5 at 0", "1: refused: index june-2017 0", "each 1 to 100,000"),
     (
-        "join 0\ninterruption 0 file MV own 94607000 94608000 1",
+        "join 0\nsetting 0 cabins 100001",
         "refused 5 at 4",
-        "2: refused: interruption 0 file MV own 2019-12-31T23:43:20 2020-01-01T00:00 1",
-        "The end is from 2017-01-01T00:00 to 2019-12-31T23:59:59",
+        "2: refused: setting 0 cabins 100001",
+        "\n  The value is 100001: cabins are 0 to 100,000.\n",
     ),
     ("join 4\n\njoin 4", "refused 6 at 4", "3: refused: join 4", "It joined in line 1."),
     ("join 0\nmark 1 A1 1", "refused 7 at 4", "2: refused: mark 1 A1 1", ""),
@@ -39,32 +35,32 @@ TEXTS = [
         "join 0\namount 0 2018 fees file 100000000000\namount 0 2017 fees file 5\namount 0 2018 fees file 1",
         "refused 8 at 34",
         "4: refused: amount 0 2018 fees file 1",
-        "Look at fees of operator 0 in 2018. Earlier calls there: line 2.",
+        "  Of operator 0 in 2018 there stands 100,000,000,000 in fees at this point.\n  Earlier calls there: line 2.\n",
     ),
     (
         "join 0\namount 0 2018 fees file 100000000001",
         "refused 8 at 4",
         "2: refused: amount 0 2018 fees file 100000000001",
-        "Look at fees of operator 0 in 2018. Earlier calls there: none.",
+        "  Of operator 0 in 2018 there stands 0 in fees at this point.\n  Earlier calls there: none.\n",
     ),
     (
         "join 0\namount 0 2018 fees withdraw 1",
         "refused 9 at 4",
         "2: refused: amount 0 2018 fees withdraw 1",
-        "Look at fees of operator 0 in 2018. Earlier calls there: none.",
+        "  Of operator 0 in 2018 there stands 0 in fees at this point.\n  Earlier calls there: none.\n",
     ),
     (
         "join 0\ninterruption 0 file MV own 0 181 2\namount 0 2017 mv-weight withdraw 1\ninterruption 0 withdraw MV own 0 181 2",
         "refused 9 at 46",
         "4: refused: interruption 0 withdraw MV own 2017-01-01T00:00 2017-01-01T00:03:01 2",
-        "Look at mv-weight and mv-seconds of operator 0 in 2017. Earlier calls there: line 2, line 3.\n"
-        "  An interruption counts in the year of its end;",
+        "  Of operator 0 in 2017 there stands 1 in mv-weight and 362 in mv-seconds at this point.\n"
+        "  Earlier calls there: line 2, line 3.\n  An interruption counts in the year of its end;",
     ),
     (
         "join 0\ninterruption 0 file LV own 2017-12-31T23:00 2018-01-01T01:00 1\namount 0 2017 lv-weight withdraw 1",
         "refused 9 at 31",
         "3: refused: amount 0 2017 lv-weight withdraw 1",
-        "Look at lv-weight of operator 0 in 2017. Earlier calls there: none.",
+        "  Of operator 0 in 2017 there stands 0 in lv-weight at this point.\n  Earlier calls there: none.\n",
     ),
 ]
 
@@ -79,16 +75,55 @@ SETTLING = [
 ]
 
 
+# A line that 5 refuses, and what is said of each value that is outside its range.
+OUTSIDE = [
+    ("setting 0 access-points 4000001", ["The value is 4000001: access points are 0 to 4,000,000."]),
+    ("setting 0 income 100000000001", ["The value is 100000000001: income is 0 to 100,000,000,000 cents."]),
+    ("setting 0 3 1", ["The setting is 3: it is one of cabins, access-points, income, or a number 0 to 2."]),
+    ("amount 0 3 fees file 1", ["The year is 3: it is one of 2017, 2018, 2019, or a number 0 to 2."]),
+    ("amount 0 2017 fees 2 1", ["The sign is 2: it is one of file, withdraw, or a number 0 to 1."]),
+    ("mark 0 6 1", ["The indicator is 6: it is one of A1, A2, A3, A4, D1, D2, or a number 0 to 5."]),
+    ("mark 0 A1 2", ["The mark is 2: it is 0 (cleared) or 1 (unreliable)."]),
+    ("rates 20001 0", ["The pot is 20001: a rate is 0 to 20,000 millionths."]),
+    ("rates 0 20001", ["The cap is 20001: a rate is 0 to 20,000 millionths."]),
+    ("index june-2017 0", ["The value is 0: an index is 1 to 100,000 hundredths."]),
+    (
+        "index 4 100001",
+        [
+            "The index is 4: it is one of june-2016, june-2017, june-2018, june-2013, or a number 0 to 3.",
+            "The value is 100001: an index is 1 to 100,000 hundredths.",
+        ],
+    ),
+    ("interruption 0 file MV own 94607000 94608000 1", ["The end is 2020-01-01T00:00: it is 2017-01-01T00:00 to 2019-12-31T23:59:59."]),
+    ("interruption 0 file MV own -31536001 0 1", ["The start is 2016-01-01T23:59:59: it is not before 2016-01-02T00:00."]),
+    ("interruption 0 file MV own 500 300 1", ["The start is 2017-01-01T00:08:20: it is not after the end, 2017-01-01T00:05."]),
+    ("interruption 0 file MV own 0 300 100001", ["The weight is 100001: for MV it is 1 to 100,000 cabins."]),
+    ("interruption 0 file MV own 0 300 0", ["The weight is 0: for MV it is 1 to 100,000 cabins."]),
+    ("interruption 0 file LV own 0 300 2", ["The weight is 2: for LV it is 1."]),
+    (
+        "interruption 0 file 2 5 0 300 2",
+        [
+            "The level is 2: it is one of MV, LV, or a number 0 to 1.",
+            "The cause is 5: it is one of own, planned, coupled, exceptional, unattested, or a number 0 to 4.",
+        ],
+    ),
+]
+
+ALONE = "nothing is settled; without this line nothing else would be refused"
+
+
 class Refusals(InFolder):
     def check(self, path, printed, place, besides):
-        run = settle(path)
+        run = settle_here(path)
         self.assertEqual((run.status, run.output), (1, f"{printed}\n".encode()), path.read_bytes())
         lines = run.said.splitlines()
         self.assertEqual(lines[0], f"{path}{place}")
         number = int(printed.split()[1])
         self.assertEqual(lines[1], f"  {number}: {MEANINGS[number]}")
-        self.assertEqual(len(lines) > 2, bool(besides), run.said)
+        explained = [line for line in lines[2:] if line.startswith("  ")]
+        self.assertEqual(bool(explained), bool(besides), run.said)
         self.assertIn(besides, run.said)
+        self.assertEqual(" at " in printed, f"{path}: nothing is settled" in run.said)
         return number
 
     def test_every_refusal(self):
@@ -110,12 +145,71 @@ class Refusals(InFolder):
     def test_many_places_are_cut(self):
         text = "join 0\n" + "amount 0 2017 fees file 1\n" * 20 + "amount 0 2017 fees withdraw 21"
         run = settle(self.file("calls.txt", text))
+        self.assertIn("  Earlier calls there: line 2, line 3, ", run.said)
         self.assertIn("line 12, line 13 and 8 more.", run.said)
 
     def test_too_long(self):
-        run = settle(self.file("calls.txt", "join 0\n" + "rates 1 1\n" * 6000))
+        path = self.file("calls.txt", "join 0\n" + "rates 1 1\n" * 6000)
+        run = settle(path)
         self.assertEqual((run.status, run.output), (1, b"too long\n"))
-        self.assertIn("calls.txt: a filing has at most 65,536 bytes, and this one has 66,004.", run.said)
+        self.assertEqual(
+            run.said,
+            f"{path}: a filing has at most 65,536 bytes, and this one has 66,004\n"
+            f"{path}:5959: here it passes them: file totals in the place of many entries\n",
+        )
+        encoded = settle("--encode", self.folder / "made.q", path)
+        self.assertEqual((encoded.status, encoded.said), (0, run.said))
+        run = settle(self.file("filing.q", b"\x01\x00\x01\x00" + bytes([6, 0, 8] + [0] * 8) * 6000))
+        self.assertIn("filing.q: field 5959 at byte 65531: here it passes them", run.said)
+
+    def test_the_value_that_is_outside_its_range(self):
+        for line, sentences in OUTSIDE:
+            run = settle_here(self.file("calls.txt", f"{NETWORK}{line}\n"))
+            self.assertEqual(run.output, b"refused 5 at 30\n", line)
+            self.assertEqual([told[2:] for told in run.said.splitlines()[2:] if told.startswith("  ")], sentences)
+
+
+class WhatElse(InFolder):
+    """After a refusal: what else would be refused, on a copy without the line."""
+
+    def said_of(self, text):
+        path = self.file("calls.txt", text)
+        run = settle_here(path)
+        self.assertEqual(run.status, 1)
+        return [line.replace(f"{path}:", "") for line in run.said.splitlines() if not line.startswith("  ")]
+
+    def test_nothing_else(self):
+        self.assertEqual(self.said_of(f"{NETWORK}mark 0 A1 0\njoin 0\n"), ["5: refused: join 0", f" {ALONE}"])
+
+    def test_lines_and_settling(self):
+        said = self.said_of("join 0\njoin 0\n\nmark 1 A1 0\namount 0 2017 fees withdraw 5\nrates 20001 7\nsetting 0 cabins 5\n")
+        self.assertEqual(
+            said,
+            [
+                "2: refused: join 0",
+                "4: would be refused too: mark 1 A1 0: 7: This operator has not joined yet.",
+                "5: would be refused too: amount 0 2017 fees withdraw 5: "
+                "9: The figure would fall below 0: more is withdrawn than stands in it by then.",
+                "6: would be refused too: rates 20001 7: 5: The pot is 20001: a rate is 0 to 20,000 millionths.",
+                " then settling would be refused: 11: An operator that has joined has no cabins, or no access points.",
+                " nothing is settled",
+            ],
+        )
+
+    def test_at_most_ten(self):
+        said = self.said_of(NETWORK + "setting 5 cabins 1\n" * 40)
+        self.assertEqual(len(said), 12)
+        self.assertEqual(said[10].split(":")[0], "14")
+        self.assertEqual(said[11], " nothing is settled, and there may be more")
+
+    def test_the_fields_of_a_filing_keep_their_places(self):
+        data = bytes.fromhex("01 0001 00 01 0001 00 01 0001 00 01 0001 10 63 0000")
+        run = settle(self.file("filing.q", data))
+        self.assertIn("field 3 at byte 8: would be refused too: join 0: 6: ", run.said)
+        self.assertIn("field 4 at byte 12: would be refused too: join 16: 4: ", run.said)
+        self.assertIn("field 5 at byte 16: would be refused too: the bytes 63 00 00: 2: ", run.said)
+        self.assertTrue(run.said.endswith("nothing is settled; what follows these bytes cannot be read\n"))
+        self.assertEqual(run.output, b"refused 6 at 4\n")
 
 
 class Meanings(unittest.TestCase):

@@ -8,9 +8,9 @@ COLUMNS = "call, operator, setting, value, sign, level, cause, start, end, weigh
 
 def numbers(data):
     """The calls of a table as numbers, each after its line; it must have no problem."""
-    calls, problems = sheet.read(words.decoded(data if isinstance(data, bytes) else data.encode()))
+    rows, problems = sheet.read(words.decoded(data if isinstance(data, bytes) else data.encode()))
     assert not problems, problems
-    return [(line, call.kind.name, *call.values) for line, call in calls]
+    return [(row.line, row.call.kind.name, *row.call.values) for row in rows]
 
 
 class Taken(InFolder):
@@ -37,12 +37,36 @@ class Taken(InFolder):
     def test_a_row_is_at_its_first_line(self):
         self.assertEqual(numbers('call,operator\n"join","\n0"\njoin,1\n'), [(2, "join", 0), (4, "join", 1)])
 
+    def test_what_spreadsheets_add(self):
+        for table in [
+            "sep=;\ncall;operator;value;setting\nsetting;0;7;cabins\n",
+            "\ufeffsep=;\r\ncall;operator;value;setting\r\nsetting;0;7;cabins\r\n",
+            "SEP=,\ncall,operator,value,setting\nsetting,0,7,cabins\n",
+            ";;;;\ncall;operator;value;setting\nsetting;0;7;cabins\n",
+        ]:
+            lines = table.count("\n")
+            self.assertEqual(numbers(table), [(lines, "setting", 0, 0, 7)], table)
+
+    def test_columns_that_are_not_read(self):
+        for table in [
+            "call,operator,value,setting,,,\nsetting,0,7,cabins,,,\n",
+            "call,operator,Note,value,setting\nsetting,0,all # of them,7,cabins\n",
+            'call,operator,#checked by,value,setting,note\nsetting,0,"x, y",7,cabins,join # 5\n',
+            "call,operator,#,#,value,setting\nsetting,0,a,b,7,cabins\n",
+            "call,operator,value,setting # the columns\nsetting,0,7,cabins\n",
+        ]:
+            self.assertEqual(numbers(table), [(2, "setting", 0, 0, 7)], table)
+
+    def test_times_as_spreadsheets_write_them(self):
+        table = "call;operator;sign;level;cause;weight;start;end\ninterruption;1;file;MV;own;3;14/01/2017 08:10;2017-01-14 09:00\n"
+        self.assertEqual(numbers(table), [(2, "interruption", 1, 0, 0, 0, 1152600, 1155600, 3)])
+
     def test_a_header_alone_has_no_call(self):
         self.assertEqual(numbers("call,operator\n"), [])
 
 
 CALLS = "a call: join, setting, interruption, amount, mark, rates, index"
-COLUMN = f"the name of a column: {COLUMNS}"
+COLUMN = f"the name of a column: {COLUMNS}; or note, or a name that begins with #, for what is not read"
 OPERATOR = "an operator, 0 to 15, as a whole number in digits alone (operator of join)"
 
 # A table, and line, word and what is expected of each of its errors.
@@ -50,7 +74,9 @@ ERRORS = [
     ("", [(1, "", f"a header line with names of columns: {COLUMNS}")]),
     ("# nothing\n\n", [(1, "", f"a header line with names of columns: {COLUMNS}")]),
     ("join,0\n", [(1, "join", COLUMN), (1, "0", COLUMN), (1, "join,0", "a column call")]),
-    ("call,operator,note\njoin,0,x\n", [(1, "note", COLUMN)]),
+    ("call,operator,remark\njoin,0,x\n", [(1, "remark", COLUMN)]),
+    ("call,operator,,\njoin,0,,5\n", [(2, "5", "no cell under a column without a name")]),
+    ("sep=|\ncall|operator\njoin|0\n", [(2, "call|operator", COLUMN), (2, "call|operator", "a column call")]),
     ("call,operator,Operator\njoin,0,0\n", [(1, "operator", "each column once")]),
     ("operator\n0\n", [(1, "operator", "a column call")]),
     ("call,operator\njion,0\n", [(2, "jion", CALLS)]),
@@ -60,7 +86,7 @@ ERRORS = [
     ("call,pot\njoin,\n", [(2, "", OPERATOR)]),
     ("call,operator\njoin\n", [(2, "", OPERATOR)]),
     ("call,operator,value\njoin,0,5\n", [(2, "5", "an empty cell (join has no value)")]),
-    ("call,operator\njoin,0,5\n", [(2, "5", "no cell after the last column, operator")]),
+    ("call,operator\njoin,0,5\n", [(2, "5", "no cell under a column without a name")]),
     ('call,operator\njoin,0\njoin,"1\n', [(3, 'join,"1', "cells with quotes that match (unexpected end of data)")]),
     (
         "call,operator,value\njoin,x\njoin,0,1\n\nfoo,0\n",

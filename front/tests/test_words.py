@@ -6,9 +6,9 @@ from front.tests.common import InFolder, settle, settle_here
 
 def numbers(text):
     """The calls of a text as numbers; it must have no problem."""
-    calls, problems = words.read(words.decoded(text if isinstance(text, bytes) else text.encode()))
+    rows, problems = words.read(words.decoded(text if isinstance(text, bytes) else text.encode()))
     assert not problems, problems
-    return [(call.kind.name, *call.values) for _, call in calls]
+    return [(row.call.kind.name, *row.call.values) for row in rows]
 
 
 class Taken(InFolder):
@@ -66,6 +66,17 @@ class Taken(InFolder):
             self.assertEqual(times.seconds_of(clock), seconds)
             self.assertEqual(times.clock_of(seconds), clock)
 
+    def test_times_as_spreadsheets_write_them(self):
+        expected = numbers("interruption 3 file MV own 2017-01-14T08:10 2017-02-05T17:05:30 120")
+        for start, end in [
+            ("14/01/2017 08:10", "05/02/2017 17:05:30"),
+            ("14/1/2017 8:10", "5/2/2017 17:05:30"),
+            ("2017-01-14 08:10", "2017-02-05  17:05:30"),
+            ("2017-01-14\t8:10", "2017-02-05T17:05:30"),
+            ("14/01/2017 08:10", "3085530"),
+        ]:
+            self.assertEqual(numbers(f"interruption 3 file MV own {start} {end} 120"), expected, start)
+
     def test_blanks_comments_line_ends_and_byte_order_marks(self):
         expected = [("join", 0), ("rates", 1, 2), ("join", 1)]
         for text in [
@@ -91,7 +102,7 @@ class Taken(InFolder):
             ("join 0\ninterruption 0 file MV own -9223372036854775808 9223372036854775807 4294967295", b"refused 5 at 4\n"),
             ("rates 4294967295 0", b"refused 5 at 0\n"),
         ]:
-            run = settle(self.file("calls.txt", text))
+            run = settle_here(self.file("calls.txt", text))
             self.assertEqual((run.status, run.output), (1, printed), text)
 
 
@@ -148,7 +159,7 @@ ERRORS = [
     ("index 0 102.5", [("102.5", "the index in hundredths, 1 to 100000, as a whole number in digits alone (value of index)")]),
 ]
 
-TIME = "a time that exists, as 2017-03-04T10:00 or 2017-03-04T10:00:30, or seconds from the start of 2017"
+TIME = "a time that exists, as 2017-03-14T10:00, 2017-03-14 10:00:30 or 14/03/2017 10:00, or seconds from the start of 2017"
 NO_TIMES = [
     "2017-02-30T10:00",
     "2017-03-04T24:00",
@@ -158,8 +169,10 @@ NO_TIMES = [
     "10:00",
     "2017-3-4T10:00",
     "2017-03-04T10",
-    "2017-03-04T10:00Z",
-    "2017-03-04T10:00+01:00",
+    "14/13/2017T10:00",
+    "03/14/2017T10:00",
+    "14-03-2017T10:00",
+    "2017-03-04T10:00ZZ",
     "0000-01-01T00:00",
     "9223372036854775808",
     "-9223372036854775809",
@@ -190,6 +203,25 @@ class Errors(InFolder):
         for word in NO_TIMES:
             path, said = self.said_of(f"interruption 0 file MV own 0 {word} 1")
             self.assertEqual(said[0], f"{path}:1: {word!r}: expected {TIME} (end of interruption)")
+
+    def test_a_zone_is_told_in_winter_time(self):
+        for word, here in [
+            ("2017-03-04T10:00Z", "2017-03-04T11:00"),
+            ("2017-07-01T10:00+02:00", "2017-07-01T09:00"),
+            ("2017-07-01T10:00:30-0030", "2017-07-01T11:30:30"),
+            ("2017-01-01 00:30 cest", "2016-12-31T23:30"),
+            ("14/07/2017 10:00 Z", "2017-07-14T11:00"),
+        ]:
+            path, said = self.said_of(f"interruption 0 file MV own 0 {word} 1")
+            expected = f"expected a clock time without a zone: all times are winter time, all year, in which this one is {here}"
+            self.assertEqual(said[0], f"{path}:1: {word!r}: {expected} (end of interruption)")
+
+    def test_the_first_twenty_errors_and_how_many_more(self):
+        path, said = self.said_of("join x\n" * 1234)
+        self.assertEqual(len(said), 22)
+        self.assertTrue(said[19].startswith(f"{path}:20: 'x'"))
+        self.assertEqual(said[20:], [f"{path}: .. and 1,214 more", f"{path}: 1,234 errors; nothing is settled and nothing is written"])
+        self.assertEqual(len(self.said_of("join x\n" * 20)[1]), 21)
 
     def test_all_errors_of_a_file_at_once(self):
         path, said = self.said_of("join x\njoin 0\namount y 2020 fees put 1\r\n# join x\nfoo\n")

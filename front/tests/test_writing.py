@@ -2,7 +2,7 @@
 
 import unittest
 
-from front.tests.common import EXERCISE, ROOT, InFolder, settle
+from front.tests.common import EXERCISE, ROOT, InFolder, settle, settle_here
 
 MISSING = "this tree has no crates/rewrite yet"
 
@@ -13,11 +13,11 @@ class Writer(InFolder):
         once, twice = self.folder / "once.q", self.folder / "twice.q"
         for path in [ROOT / "examples" / "case-m", ROOT / "examples" / "course", EXERCISE / "words", EXERCISE / "csv"]:
             self.assertEqual(settle("--write", once, path), (0, b"", ""))
-            self.assertEqual(settle("--write", twice, once), (0, b"", ""))
+            self.assertEqual(settle_here("--write", twice, once), (0, b"", ""))
             self.assertEqual(once.read_bytes(), twice.read_bytes())
             self.assertLessEqual(len(once.read_bytes()), 7067)
-            self.assertEqual(settle(once), settle(path))
-            self.assertEqual(settle("--write", "-", path).output, once.read_bytes())
+            self.assertEqual(settle_here("--quiet", once), settle_here("--quiet", path))
+            self.assertEqual(settle_here("--write", "-", path).output, once.read_bytes())
 
     def test_withdrawn_entries_are_gone(self):
         path = self.file("calls.txt", "join 3\namount 3 2018 fees file 9\namount 3 2018 fees withdraw 9\nrates 0 7\n")

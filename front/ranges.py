@@ -1,0 +1,72 @@
+"""The ranges of the values of a call, and which of its values are outside: what a refusal by 5 means."""
+
+from front.words import word_of
+
+YEARS = "2017-01-01T00:00 to 2019-12-31T23:59:59"
+MOST_END = 94_607_999
+LEAST_START = -31_536_000
+MOST_WEIGHT = 100_000
+SETTINGS = (
+    (100_000, "cabins are 0 to 100,000"),
+    (4_000_000, "access points are 0 to 4,000,000"),
+    (100_000_000_000, "income is 0 to 100,000,000,000 cents"),
+)
+MOST_RATE = 20_000
+MOST_INDEX = 100_000
+
+
+def outside(call):
+    """A sentence for each value of a call that is outside its range: the value, and the range."""
+    wrong = [*_without_word(call), *CHECKS.get(call.kind.name, _none)(call)]
+    words = {place.name: word_of(place, value) for place, value in zip(call.kind.places, call.values)}
+    return [f"The {name} is {words[name]}: {text}." for name, text in wrong]
+
+
+def _without_word(call):
+    """The values that should have a word, and are none of its numbers."""
+    for place, value in zip(call.kind.places, call.values):
+        if place.words and value >= len(place.words):
+            yield place.name, f"it is one of {', '.join(place.words)}, or a number 0 to {len(place.words) - 1}"
+
+
+def _none(_call):
+    return ()
+
+
+def _setting(call):
+    which = call.value("setting")
+    if which < len(SETTINGS) and call.value("value") > SETTINGS[which][0]:
+        yield "value", SETTINGS[which][1]
+
+
+def _interruption(call):
+    start, end, weight = (call.value(name) for name in ("start", "end", "weight"))
+    if not 0 <= end <= MOST_END:
+        yield "end", f"it is {YEARS}"
+    if start < LEAST_START:
+        yield "start", "it is not before 2016-01-02T00:00"
+    if start > end:
+        yield "start", f"it is not after the end, {word_of(call.kind.places[5], end)}"
+    if call.value("level") == 1 and weight != 1:
+        yield "weight", "for LV it is 1"
+    if call.value("level") == 0 and not 1 <= weight <= MOST_WEIGHT:
+        yield "weight", f"for MV it is 1 to {MOST_WEIGHT:,} cabins"
+
+
+def _mark(call):
+    if call.value("mark") > 1:
+        yield "mark", "it is 0 (cleared) or 1 (unreliable)"
+
+
+def _rates(call):
+    for name in ("pot", "cap"):
+        if call.value(name) > MOST_RATE:
+            yield name, f"a rate is 0 to {MOST_RATE:,} millionths"
+
+
+def _index(call):
+    if not 1 <= call.value("value") <= MOST_INDEX:
+        yield "value", f"an index is 1 to {MOST_INDEX:,} hundredths"
+
+
+CHECKS = {"setting": _setting, "interruption": _interruption, "mark": _mark, "rates": _rates, "index": _index}
