@@ -165,7 +165,7 @@ def _withdrawals(fields, outcomes):
         if outcome and outcome.left_out:
             idle = f"this withdrawal changes nothing, since such an interruption is left out ({outcome.word})"
             yield Note(field, f"{idle}; correct cause and times, or take it out")
-        if not filed[key]:
+        if filed[key] <= 0:
             level = word_of(field.call.kind.places[2], field.call.value("level"))
             yield Note(field, f"no {level} interruption of these very values is left here to withdraw; correct it to what was filed")
         filed[key] -= 1

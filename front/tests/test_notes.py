@@ -190,6 +190,9 @@ class Notes(InFolder):
         self.assertEqual(self.added(*enough, filed, same), [])
         self.assertEqual(self.added(*enough, same, filed), [])
         self.assertEqual(self.added(*enough, filed, same, same), [(5, AGAIN.format(25)), (5, TWIN.format("MV"))])
+        self.assertEqual(
+            [line for line, text in self.added(*enough, filed, same, same, same) if text == TWIN.format("MV")], [5, 6]
+        )
 
     def test_numbers_that_look_like_dates(self):
         for start, date in [("20170314", "2017-03-14"), ("14032017", "2017-03-14"), ("20161231", "2016-12-31")]:
