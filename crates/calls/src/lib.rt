@@ -33,6 +33,7 @@ pub use limits::LAST_SETTING;
 pub use limits::LAST_YEAR;
 pub use limits::MARK_PLACES;
 pub use limits::OPERATOR_FIGURES;
+pub use limits::OPERATORS;
 pub use limits::SETTING_PLACES;
 pub use limits::SETTINGS;
 pub use limits::YEARS;

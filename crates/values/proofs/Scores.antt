@@ -5,6 +5,7 @@ use native.Mathlib.Nat.{div-le-self, mul-le-mul, le-trans}
 use native.Mathlib.Omega.{arith}
 use lib.Dec.{eqb}
 use lib.ListN.{getD}
+use Rattle.calls.specs.Limits.{operators, years, figureCount, indicatorCount}
 use Rattle.calls.specs.Masks.{has}
 use Rattle.book.specs.declared.Book.{Book}
 use Rattle.exact.specs.Division.{over}
@@ -20,22 +21,22 @@ unfolding over
 over-le dividend divisor = cond-le (eqb divisor 0) zero-le (div-le-self dividend divisor)
 
 module _ (b : Book) (small : Within (b .settings) (b .figures) (b .indices)) where
-  module _ (operator year : ℕ) (lo : operator < 16) (ly : year < 3) where
-    frequency-le : (figure which : ℕ) → figure < 8 → yearlyValue b (frequency figure which) operator year ≤ yearlyMost
+  module _ (operator year : ℕ) (lo : operator < operators) (ly : year < years) where
+    frequency-le : (figure which : ℕ) → figure < figureCount → yearlyValue b (frequency figure which) operator year ≤ yearlyMost
     unfolding yearlyValue
     frequency-le figure which lf = le-trans (over-le _ _) (omega (arith, figure-most b (small .figures-within) operator year figure lo ly lf))
 
-    duration-le : (seconds weight : ℕ) → seconds < 8 → yearlyValue b (duration seconds weight) operator year ≤ yearlyMost
+    duration-le : (seconds weight : ℕ) → seconds < figureCount → yearlyValue b (duration seconds weight) operator year ≤ yearlyMost
     unfolding yearlyValue
     duration-le seconds weight lf = le-trans (over-le _ _) (omega (arith, figure-most b (small .figures-within) operator year seconds lo ly lf))
 
-    fee-le : (fees connections : ℕ) → fees < 8 → yearlyValue b (fee fees connections) operator year ≤ yearlyMost
+    fee-le : (fees connections : ℕ) → fees < figureCount → yearlyValue b (fee fees connections) operator year ≤ yearlyMost
     unfolding yearlyValue
     fee-le fees connections lf =
         let product = mul-le-mul (figure-most b (small .figures-within) operator year fees lo ly lf) (index-most b (small .indices-within) 3 (omega arith)) in
         le-trans (over-le _ _) (omega (arith, product))
 
-    yearly-le : (number : ℕ) → number < 6 → yearlyValue b (numbered number .measure) operator year ≤ yearlyMost
+    yearly-le : (number : ℕ) → number < indicatorCount → yearlyValue b (numbered number .measure) operator year ≤ yearlyMost
     unfolding numbered electricity
     yearly-le zero lt = frequency-le 0 0 (omega arith)
     yearly-le (suc zero) lt = duration-le 1 0 (omega arith)
@@ -45,8 +46,8 @@ module _ (b : Book) (small : Within (b .settings) (b .figures) (b .indices)) whe
     yearly-le (suc (suc (suc (suc (suc zero))))) lt = fee-le 6 7 (omega arith)
     yearly-le (suc (suc (suc (suc (suc (suc n)))))) lt = absurd (omega arith)
 
-  module _ (number : ℕ) (ln : number < 6) where
-    three-years-le : (operator : ℕ) → operator < 16 → threeYears b (numbered number .measure) operator ≤ scoreMost
+  module _ (number : ℕ) (ln : number < indicatorCount) where
+    three-years-le : (operator : ℕ) → operator < operators → threeYears b (numbered number .measure) operator ≤ scoreMost
     unfolding threeYears
     three-years-le operator lo =
         omega (
@@ -57,7 +58,7 @@ module _ (b : Book) (small : Within (b .settings) (b .figures) (b .indices)) whe
         )
 
     -- the same of the values by operator
-    pub yearlies-le : (year : ℕ) → year < 3 → (k : ℕ) → getD (yearlyValues b (numbered number .measure) year) k 0 ≤ yearlyMost
+    pub yearlies-le : (year : ℕ) → year < years → (k : ℕ) → getD (yearlyValues b (numbered number .measure) year) k 0 ≤ yearlyMost
     yearlies-le year ly = each-le _ _ (λ k lt. yearly-le k year lt ly number ln)
 
     -- no score passes three years of the largest yearly value
