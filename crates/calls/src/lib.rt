@@ -25,6 +25,7 @@ pub use limits::FIGURES;
 pub use limits::FRESH_INDEX;
 pub use limits::INDEX_LEAST;
 pub use limits::INDEX_MOST;
+pub use limits::INDICATOR_COUNT;
 pub use limits::INDICATORS;
 pub use limits::INDICES;
 pub use limits::LAST_FIGURE;

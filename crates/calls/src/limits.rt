@@ -18,6 +18,9 @@ pub const LAST_SETTING: u8 = (SETTINGS - 1) as u8;
 
 pub const INDICATORS: usize = 6;
 
+// As a number of eight bits, by which indicators are counted.
+pub const INDICATOR_COUNT: u8 = INDICATORS as u8;
+
 pub(crate) const LAST_INDICATOR: u8 = (INDICATORS - 1) as u8;
 
 pub const INDICES: usize = 4;

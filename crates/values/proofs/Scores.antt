@@ -1,6 +1,6 @@
 -- The scores of an indicator, one for each operator, and their bounds in a book in range.
 -- Assumes nothing.
-use Prim.Native.Nat.{ℕ, zero, suc, _≤_, _<_, zero-le}
+use Prim.Native.Nat.{ℕ, _≤_, _<_, zero-le}
 use native.Mathlib.Nat.{div-le-self, mul-le-mul, le-trans}
 use native.Mathlib.Omega.{arith}
 use lib.Dec.{eqb}
@@ -15,6 +15,7 @@ use Rattle.values.proofs.Tables.{each-le}
 use Rattle.values.specs.Bounds.{yearlyMost, scoreMost}
 use Rattle.values.specs.Parts.{Within}
 use Rattle.values.proofs.InRange.{figure-most, index-most}
+use Rattle.values.proofs.Numbered.{of-numbered}
 
 pub over-le : (dividend divisor : ℕ) → over dividend divisor ≤ dividend
 unfolding over
@@ -37,14 +38,10 @@ module _ (b : Book) (small : Within (b .settings) (b .figures) (b .indices)) whe
         le-trans (over-le _ _) (omega (arith, product))
 
     yearly-le : (number : ℕ) → number < indicatorCount → yearlyValue b (numbered number .measure) operator year ≤ yearlyMost
-    unfolding numbered electricity
-    yearly-le zero lt = frequency-le 0 0 (omega arith)
-    yearly-le (suc zero) lt = duration-le 1 0 (omega arith)
-    yearly-le (suc (suc zero)) lt = frequency-le 2 1 (omega arith)
-    yearly-le (suc (suc (suc zero))) lt = duration-le 3 2 (omega arith)
-    yearly-le (suc (suc (suc (suc zero)))) lt = fee-le 4 5 (omega arith)
-    yearly-le (suc (suc (suc (suc (suc zero))))) lt = fee-le 6 7 (omega arith)
-    yearly-le (suc (suc (suc (suc (suc (suc n)))))) lt = absurd (omega arith)
+    unfolding electricity
+    yearly-le =
+        of-numbered (λ number indicator. yearlyValue b (indicator .measure) operator year ≤ yearlyMost)
+        (frequency-le 0 0 (omega arith), (duration-le 1 0 (omega arith), (frequency-le 2 1 (omega arith), (duration-le 3 2 (omega arith), (fee-le 4 5 (omega arith), (fee-le 6 7 (omega arith), tt))))))
 
   module _ (number : ℕ) (ln : number < indicatorCount) where
     three-years-le : (operator : ℕ) → operator < operators → threeYears b (numbered number .measure) operator ≤ scoreMost
