@@ -21,7 +21,7 @@ use Rattle.book.specs.Book.{bookWith, freshBook, isJoined, isMarked, settingOf,
 use Rattle.book.proofs.Bounds.{Bounds, bounded}
 use Rattle.book.proofs.SlotLaws.{setting-slot-lt, figure-slot-lt}
 use Rattle.history.proofs.Kept.{fresh-in-range}
-use Rattle.ledger.specs.Calls.{unattested}
+use Rattle.ledger.specs.Calls.{unattestedFrom, unattested}
 use Rattle.ledger.proofs.AdmissionLaws.{acceptedCall}
 use Rattle.writing.specs.Written.{inTurn, unlessFresh, joinCalls, settingCalls, amountCalls, markCalls, indexCalls, rateCalls, writtenCalls}
 use Rattle.writing.proofs.Filings.{Leads, stays-ranged, leads-none, leads-one, leads-then, leads-turns, leads-rows}
@@ -62,7 +62,7 @@ module _ (b : Book) (ranged : inRange b ≡ true) where
 
   join-step : (k : ℕ) → k < operators → inRange (joinStage k) ≡ true
       → Leads (joinStage k) (cond (isJoined b k) (Join k ∷ []) []) (joinStage (suc k))
-  unfolding joinStage isJoined unattested
+  unfolding joinStage isJoined unattestedFrom unattested
   join-step k lt in-range = go (has (b .joined) k) refl
     where
       go : (t : Bool) → has (b .joined) k ≡ t → Leads (joinStage k) (cond t (Join k ∷ []) []) (joinStage (suc k))
