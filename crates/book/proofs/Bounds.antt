@@ -8,16 +8,16 @@ use lib.Dec.{leb, ltb, eqb}
 use lib.ListN.{length, getD}
 use borrow.Author.Tests.{leb-true, le-leb, ltb-true, lt-ltb, eqb-true, eq-eqb}
 use Rattle.book.specs.declared.Book.{Book}
-use Rattle.calls.specs.Limits.{operators, years, figureCount, settingCount, indicatorCount, indexCount, settingLimit, figureLimit, rateLimit, indexLeast, indexMost}
+use Rattle.calls.specs.Limits.{operators, years, figureCount, settingCount, indicatorCount, indexCount, settingPlaces, figurePlaces, settingLimit, figureLimit, rateLimit, indexLeast, indexMost}
 use Rattle.book.specs.Book.{isJoined, isMarked, settingOf, figureOf, indexOf, most, isComplete, hasSixteenBits, settingsInRange, figuresInRange, marksInRange, indicesInRange, ratesInRange, inRange}
 use Rattle.calls.proofs.Flags.{and-true, both}
 use Rattle.book.proofs.EveryLaws.{every-of-each, each-of-every}
 
 pub record Bounds (b : Book) : Type 0 where
-  pub marks-long : length (b .marks) ≡ 6
-  pub settings-long : length (b .settings) ≡ 48
-  pub figures-long : length (b .figures) ≡ 384
-  pub indices-long : length (b .indices) ≡ 4
+  pub marks-long : length (b .marks) ≡ indicatorCount
+  pub settings-long : length (b .settings) ≡ settingPlaces
+  pub figures-long : length (b .figures) ≡ figurePlaces
+  pub indices-long : length (b .indices) ≡ indexCount
   pub joined-small : b .joined < 2 ^ 16
   pub marks-small : (indicator : ℕ) → indicator < indicatorCount → getD (b .marks) indicator 0 < 2 ^ 16
   pub setting : (operator which : ℕ) → operator < operators → which < settingCount → settingOf b operator which ≤ most b operator (settingLimit which)
@@ -38,10 +38,10 @@ implies true t e p = e
 implies false t e p = absurd (false≢true p)
 
 -- lengths and bits, which the types of the code give
-pub complete : (b : Book) → length (b .marks) ≡ 6 → length (b .settings) ≡ 48 → length (b .figures) ≡ 384 → length (b .indices) ≡ 4 → isComplete b ≡ true
+pub complete : (b : Book) → length (b .marks) ≡ indicatorCount → length (b .settings) ≡ settingPlaces → length (b .figures) ≡ figurePlaces → length (b .indices) ≡ indexCount → isComplete b ≡ true
 unfolding isComplete
 complete b marks settings figures indices =
-    and-true (and-true (and-true (eq-eqb _ 6 marks) (eq-eqb _ 48 settings)) (eq-eqb _ 384 figures)) (eq-eqb _ 4 indices)
+    and-true (and-true (and-true (eq-eqb _ indicatorCount marks) (eq-eqb _ settingPlaces settings)) (eq-eqb _ figurePlaces figures)) (eq-eqb _ indexCount indices)
 
 pub sixteen-bits : {mask : ℕ} → mask < 2 ^ 16 → hasSixteenBits mask ≡ true
 unfolding hasSixteenBits
@@ -93,9 +93,9 @@ bounded b ranged =
     let (three, rates-hold) = both (settingsInRange b && figuresInRange b && marksInRange b) (ratesInRange b) four in
     let (two, marks-hold) = both (settingsInRange b && figuresInRange b) (marksInRange b) three in
     let (settings-hold, figures-hold) = both (settingsInRange b) (figuresInRange b) two in
-    let (lists, indices-complete) = both (eqb (length (b .marks)) 6 && eqb (length (b .settings)) 48 && eqb (length (b .figures)) 384) (eqb (length (b .indices)) 4) complete-holds in
-    let (places, figures-complete) = both (eqb (length (b .marks)) 6 && eqb (length (b .settings)) 48) (eqb (length (b .figures)) 384) lists in
-    let (marks-complete, settings-complete) = both (eqb (length (b .marks)) 6) (eqb (length (b .settings)) 48) places in
+    let (lists, indices-complete) = both (eqb (length (b .marks)) indicatorCount && eqb (length (b .settings)) settingPlaces && eqb (length (b .figures)) figurePlaces) (eqb (length (b .indices)) indexCount) complete-holds in
+    let (places, figures-complete) = both (eqb (length (b .marks)) indicatorCount && eqb (length (b .settings)) settingPlaces) (eqb (length (b .figures)) figurePlaces) lists in
+    let (marks-complete, settings-complete) = both (eqb (length (b .marks)) indicatorCount) (eqb (length (b .settings)) settingPlaces) places in
     let rates = both (leb (b .«pot_rate») rateLimit) (leb (b .«cap_rate») rateLimit) rates-hold in
     record {
       marks-long = eqb-true _ _ marks-complete;

@@ -9,7 +9,7 @@ use lib.Dec.{eqb}
 use lib.ListN.{length, getD, set}
 use lib.Seq.{getD-set-same, getD-set-other}
 use borrow.Author.Tests.{eqb-true, eqb-false, eq-eqb, ne-eqb}
-use Rattle.calls.specs.Limits.{operators, years, figureCount, settingCount}
+use Rattle.calls.specs.Limits.{operators, years, figureCount, settingCount, settingPlaces, operatorFigures, figurePlaces}
 use Rattle.book.specs.Book.{settingSlot, figureSlot}
 
 -- what stands at a place after a store
@@ -28,11 +28,11 @@ store-holds P (x ∷ l) zero v (suc j) new old = old
 store-holds P (x ∷ l) (suc i) v zero new old = old
 store-holds P (x ∷ l) (suc i) v (suc j) new old = store-holds P l i v j (λ e. new (ap suc e)) old
 
-pub setting-slot-lt : (operator which : ℕ) → operator < operators → which < settingCount → settingSlot operator which < 48
+pub setting-slot-lt : (operator which : ℕ) → operator < operators → which < settingCount → settingSlot operator which < settingPlaces
 unfolding settingSlot
 setting-slot-lt operator which lo lw = omega arith
 
-pub figure-slot-lt : (operator year figure : ℕ) → operator < operators → year < years → figure < figureCount → figureSlot operator year figure < 384
+pub figure-slot-lt : (operator year figure : ℕ) → operator < operators → year < years → figure < figureCount → figureSlot operator year figure < figurePlaces
 unfolding figureSlot
 figure-slot-lt operator year figure lo ly lf = omega arith
 
@@ -64,10 +64,10 @@ same-figure-slot o y f p z g ly lf lz lg = go (eqb o p) (eqb y z) (eqb f g) refl
     go false s t c d e = differ (λ q. eqb-false o p c (omega (arith, q)))
 
 -- each place is a slot
-pub setting-place : (i : ℕ) → settingSlot (i / 3) (i % 3) ≡ i
+pub setting-place : (i : ℕ) → settingSlot (i / settingCount) (i % settingCount) ≡ i
 unfolding settingSlot
 setting-place i = omega arith
 
-pub figure-place : (i : ℕ) → figureSlot (i / 24) (i / 8 % 3) (i % 8) ≡ i
+pub figure-place : (i : ℕ) → figureSlot (i / operatorFigures) (i / figureCount % years) (i % figureCount) ≡ i
 unfolding figureSlot
 figure-place i = omega arith

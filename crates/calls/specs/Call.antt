@@ -11,6 +11,11 @@ use Rattle.calls.specs.declared.Call.the-variants.{Join, Setting, Interr
 use Rattle.calls.specs.Limits.{years, figureCount, settingCount, indicatorCount, indexCount, settingLimit, rateLimit, indexLeast, indexMost, yearLength, lastEnd, startBefore, weightLimit, shortMost}
 use Rattle.calls.specs.Answers.{Acceptance, yes-said, counted-in, left-out-as-short, left-out-under}
 
+-- "A join therefore sets all six marks of the operator" (02, point 1): whether it sets the one at an indicator; book, history and writer go by
+-- this
+abbrev pub joinMarks : ℕ → Bool
+joinMarks indicator = true
+
 -- "End is 0 to 94,607,999, start at least -31,536,000 and at most end"
 unfoldable pub timesInRange : ℤ → ℤ → Bool
 timesInRange start end = leZ (pos 0) end && leZ end (pos lastEnd) && leZ (negℤ (pos startBefore)) start && leZ start end

@@ -16,8 +16,21 @@ figureCount = 8
 abbrev pub settingCount : ℕ
 settingCount = 3
 
+-- how many of each the operators have, and the figures of one operator
+abbrev pub settingPlaces : ℕ
+settingPlaces = operators * settingCount
+
+abbrev pub operatorFigures : ℕ
+operatorFigures = years * figureCount
+
+abbrev pub figurePlaces : ℕ
+figurePlaces = operators * years * figureCount
+
 abbrev pub indicatorCount : ℕ
 indicatorCount = 6
+
+abbrev pub markPlaces : ℕ
+markPlaces = operators * indicatorCount
 
 abbrev pub indexCount : ℕ
 indexCount = 4

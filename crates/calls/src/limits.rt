@@ -1,35 +1,40 @@
 // The counts and limits of 01, "The book" and "The filing", as specs/Limits.antt says them in definitions.
 
-pub const LAST_OPERATOR: u8 = 15;
+pub const OPERATORS: usize = 16;
+
+pub const LAST_OPERATOR: u8 = (OPERATORS - 1) as u8;
 
 pub const YEARS: usize = 3;
 
-pub const LAST_YEAR: u8 = 2;
+pub const LAST_YEAR: u8 = (YEARS - 1) as u8;
 
 pub const FIGURES: usize = 8;
 
-pub const LAST_FIGURE: u8 = 7;
+pub const LAST_FIGURE: u8 = (FIGURES - 1) as u8;
 
 pub const SETTINGS: usize = 3;
 
-pub const LAST_SETTING: u8 = 2;
+pub const LAST_SETTING: u8 = (SETTINGS - 1) as u8;
 
 pub const INDICATORS: usize = 6;
 
-pub(crate) const LAST_INDICATOR: u8 = 5;
+// As a number of eight bits, by which indicators are counted.
+pub const INDICATOR_COUNT: u8 = INDICATORS as u8;
+
+pub(crate) const LAST_INDICATOR: u8 = (INDICATORS - 1) as u8;
 
 pub const INDICES: usize = 4;
 
-pub(crate) const LAST_INDEX: u8 = 3;
+pub(crate) const LAST_INDEX: u8 = (INDICES - 1) as u8;
 
 // How many of each the sixteen operators have, and the figures of one operator.
-pub const SETTING_PLACES: usize = 48;
+pub const SETTING_PLACES: usize = OPERATORS * SETTINGS;
 
-pub const FIGURE_PLACES: usize = 384;
+pub const FIGURE_PLACES: usize = OPERATORS * OPERATOR_FIGURES;
 
-pub const OPERATOR_FIGURES: usize = 24;
+pub const OPERATOR_FIGURES: usize = YEARS * FIGURES;
 
-pub const MARK_PLACES: usize = 96;
+pub const MARK_PLACES: usize = OPERATORS * INDICATORS;
 
 pub(crate) const CABIN_LIMIT: u64 = 100000;
 

@@ -10,6 +10,8 @@ use crate::print::put_word;
 use crate::rows::byte;
 use crate::rows::cell;
 use book::Book;
+use calls::FIGURE_PLACES;
+use calls::SETTING_PLACES;
 
 pub(crate) fn store(b: Book, at: usize) -> Book
     requires { ⌜ at + 7 < cellCount ⌝ }
@@ -46,14 +48,14 @@ fn store_marks(b: Book, place: u64, value: u64) -> Book {
 
 fn store_setting(b: Book, place: u64, value: u64) -> Book {
     let mut next = b;
-    let slot = (put_setting(place % 48) % 48) as usize;
+    let slot = (put_setting(place % SETTING_PLACES as u64) % SETTING_PLACES as u64) as usize;
     next.settings[slot] = put_number(value);
     next
 }
 
 fn store_figure(b: Book, place: u64, value: u64) -> Book {
     let mut next = b;
-    let slot = (put_figure(place % 384) % 384) as usize;
+    let slot = (put_figure(place % FIGURE_PLACES as u64) % FIGURE_PLACES as u64) as usize;
     next.figures[slot] = put_number(value);
     next
 }

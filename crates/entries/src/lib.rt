@@ -14,6 +14,7 @@ use calls::FIGURES;
 use calls::FRESH_INDEX;
 use calls::INDICATORS;
 use calls::INDICES;
+use calls::MARK_PLACES;
 use calls::OPERATOR_FIGURES;
 use calls::SETTING_PLACES;
 use calls::SETTINGS;
@@ -28,15 +29,15 @@ pub enum Entry {
 
 const SETTINGS_FROM: usize = 16;
 
-const AMOUNTS_FROM: usize = 64;
+const AMOUNTS_FROM: usize = SETTINGS_FROM + SETTING_PLACES;
 
-const MARKS_FROM: usize = 448;
+const MARKS_FROM: usize = AMOUNTS_FROM + FIGURE_PLACES;
 
-const INDICES_FROM: usize = 544;
+const INDICES_FROM: usize = MARKS_FROM + MARK_PLACES;
 
-const RATES_FROM: usize = 548;
+const RATES_FROM: usize = INDICES_FROM + INDICES;
 
-pub const PLACES: usize = 549;
+pub const PLACES: usize = RATES_FROM + 1;
 
 // The sign of an amount that is filed.
 const FILE: u64 = 0;

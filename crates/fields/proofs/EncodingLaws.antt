@@ -14,7 +14,8 @@ use borrow.Author.Tests.{lt-ltb, le-ltb}
 use Rattle.calls.specs.declared.Call.{Call}
 use Rattle.calls.specs.declared.Call.the-variants.{Join, Setting, Interruption, Amount, Mark, Rates, Index}
 use Rattle.calls.specs.Answers.{accepted}
-use Rattle.fields.specs.Field.{bigEndian, unsigned, twosComplement, signed, byte, tags, isKnown, tagged, sizeAt, call-then, fieldAt}
+use Rattle.contents.specs.Content.{bigEndian, unsigned, twosComplement, signed, byte, tags, isKnown, tagged}
+use Rattle.fields.specs.Field.{sizeAt, call-then, fieldAt}
 use Rattle.fields.specs.Encoding.{inBytes, bitsOf, fieldOf, encoded, FitsSigned, FitsBytes, Decodes}
 use Rattle.fields.proofs.FieldLaws.{filed}
 

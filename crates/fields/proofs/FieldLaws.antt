@@ -10,7 +10,8 @@ use lib.ListN.{length, take, drop}
 use borrow.Author.Tests.{lt-ltb, le-ltb, eq-eqb, ne-eqb, ltb-false, eqb-true, eqb-false}
 use Rattle.calls.specs.declared.Call.{Call}
 use Rattle.calls.specs.Answers.{Said, refused-by, accepted, firstOf}
-use Rattle.fields.specs.Field.{byte, unsigned, isKnown, tagged, Found, at-end, call-then, fieldLines, callAt, fieldAt}
+use Rattle.contents.specs.Content.{byte, unsigned, isKnown, tagged}
+use Rattle.fields.specs.Field.{Found, at-end, call-then, fieldLines, callAt, fieldAt}
 
 -- how an answer leaves the offset: a call ends 3 bytes on or more and does not pass the end
 abbrev pub Stands : List ℕ → ℕ → Said Found → Type 0

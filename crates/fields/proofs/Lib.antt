@@ -1,6 +1,4 @@
 -- The laws that the proofs of `fields`, and of the crates above it, use.
-pub mod NumberLaws
-pub mod TagLaws
 pub mod FieldLaws
 pub mod LowestOfFields
 pub mod EncodingLaws

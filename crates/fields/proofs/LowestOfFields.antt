@@ -15,7 +15,8 @@ use Rattle.calls.specs.Answers.{Said, refused-by, accepted, firstOf, numberOf}
 use Rattle.calls.specs.Laws.{applies, risesFrom, Lowest, ToldApart}
 use Rattle.calls.proofs.Lowest.{lowest}
 use Rattle.calls.proofs.SaidLaws.{numbers-apart}
-use Rattle.fields.specs.Field.{bigEndian, unsigned, sizeAt, leftAt, Found, at-end, call-then, fieldLines, callAt, fieldAt, fieldSaid}
+use Rattle.contents.specs.Content.{bigEndian, unsigned}
+use Rattle.fields.specs.Field.{sizeAt, leftAt, Found, at-end, call-then, fieldLines, callAt, fieldAt, fieldSaid}
 use Rattle.fields.specs.Laws.{FieldAnswered}
 
 pub lowest-of-fields : (bytes : List ℕ) (at : ℕ) → Lowest (fieldLines bytes at) (callAt bytes at)

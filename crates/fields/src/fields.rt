@@ -2,11 +2,11 @@
 ghost use mathlib.Core.Path.{_≡_};
 ghost use Rattle.fields.specs.Field.{fieldAt, fieldSaid};
 use crate::Field;
-use crate::contents::call_at;
-use crate::contents::content_size;
-use crate::contents::is_known;
-use crate::numbers::unsigned_at;
 use calls::Refusal;
+use contents::call_at;
+use contents::content_size;
+use contents::is_known;
+use contents::unsigned_at;
 
 pub fn field_at(bytes: &[u8], at: usize) -> Field
     ensures { λ r. ⌜ fieldSaid r ≡ fieldAt (now (bytes .entry)) at ⌝ }

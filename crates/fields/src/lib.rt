@@ -1,7 +1,5 @@
 // A field of a filing: its bytes, and the call that they give.
-mod contents;
 mod fields;
-mod numbers;
 
 use calls::Call;
 use calls::Refusal;

@@ -1,11 +1,13 @@
 -- Every marked case holds: each is computed from the definitions.
 -- Assumes nothing.
 use Prim.Native.Nat.{ℕ, _≤_}
-use mathlib.Core.Path.{_≡_, refl, sym, _∙_}
+use mathlib.Core.Path.{_≡_, refl, sym, ap, _∙_}
 use mathlib.Core.List.{List, [], _∷_}
 use native.Mathlib.Omega.{arith}
-use lib.ListN.{length}
-use Rattle.calls.specs.Answers.{refused-by, accepted, yes-said, onAnswer}
+use lib.IntN.{pos, negℤ}
+use lib.ListN.{length, take}
+use Rattle.calls.specs.Answers.{Said, refused-by, accepted, Acceptance, yes-said, onAnswer}
+use Rattle.book.specs.declared.Book.{Book}
 use Rattle.book.specs.Book.{freshBook}
 use Rattle.settlement.specs.Settlement.{settled}
 use Rattle.filing.specs.Reader.{reading, read}
@@ -16,10 +18,12 @@ use Rattle.output.specs.Output.{refusedBy, refusedField, settlementText, readin
 use Rattle.output.proofs.OutputLaws.{output-refused}
 use Rattle.output.proofs.Opened.{output-opened}
 use Rattle.history.specs.Demand.{bookOf}
-use Rattle.calls.specs.declared.Call.the-variants.{Join}
+use Rattle.calls.specs.declared.Call.{Call}
+use Rattle.calls.specs.declared.Call.the-variants.{Join, Mark}
 use Rattle.writer.specs.Writer.{writerAnswer}
 use Rattle.writer.proofs.Opened.{writer-opened}
-use Rattle.guarantees.specs.Marked.{caseM, filingM, linesM, refusedFilings, marked, All}
+use Rattle.guarantees.specs.Marked.{caseM, filingM, linesM, newcomer, sixMarks, refusedFilings, marked, All}
+use Rattle.guarantees.proofs.AppliedLaws.{appliedFrom, book-of}
 
 -- a filing refused at a field: what is printed needs no settlement
 refused-example : (bytes : List ℕ) (number : ℕ) (text : List ℕ) → length bytes ≤ 65536 → read freshBook bytes .said ≡ refused-by number
@@ -48,22 +52,50 @@ filings-refused = (
   ),
 )
 
--- M's bytes are read to their end, and leave the book that M's calls leave
-read-m : read freshBook filingM ≡ reading (bookOf (caseM 10000)) 23 199 (accepted yes-said)
-unfolding filing-opened
+-- M's bytes are read to their end, and leave the book that M's calls, applied, leave
+read-m : read freshBook filingM ≡ reading (appliedFrom freshBook (caseM 10000)) 23 199 (accepted yes-said)
+unfolding filing-opened appliedFrom
 read-m = refl
 
-settles-m : settled (bookOf (caseM 10000)) .said ≡ accepted yes-said
-unfolding output-opened
+settles-m : settled (appliedFrom freshBook (caseM 10000)) .said ≡ accepted yes-said
+unfolding output-opened appliedFrom
 settles-m = refl
 
-printed-m : textOf (bookOf (caseM 10000)) ≡ linesM
-unfolding output-opened
+printed-m : textOf (appliedFrom freshBook (caseM 10000)) ≡ linesM
+unfolding output-opened appliedFrom
 printed-m = refl
 
 output-m : outputOf filingM ≡ linesM
 unfolding outputOf readingText settlementText onAnswer
 output-m = rw (read-m, settles-m) printed-m
+
+-- M with cap rate 50
+cut-applied : take 2 (settled (appliedFrom freshBook (caseM 50)) .settlement .adjustments) ≡ pos 5000 ∷ negℤ (pos 5000) ∷ []
+unfolding output-opened appliedFrom
+cut-applied = refl
+
+cut-m : take 2 (settled (bookOf (caseM 50)) .settlement .adjustments) ≡ pos 5000 ∷ negℤ (pos 5000) ∷ []
+cut-m = ap (λ (b : Book). take 2 (settled b .settlement .adjustments)) (book-of (caseM 50)) ∙ cut-applied
+
+-- what settling says of the book that calls leave
+said-after : {answer : Said Acceptance} (calls : List Call) → settled (appliedFrom freshBook calls) .said ≡ answer → settled (bookOf calls) .said ≡ answer
+said-after calls same = ap (λ (b : Book). settled b .said) (book-of calls) ∙ same
+
+marked-six : settled (bookOf sixMarks) .said ≡ refused-by 12
+unfolding output-opened appliedFrom
+marked-six = said-after sixMarks refl
+
+joined-only : settled (bookOf (Join 0 ∷ [])) .said ≡ refused-by 11
+unfolding output-opened appliedFrom
+joined-only = said-after (Join 0 ∷ []) refl
+
+joined-new : settled (bookOf (newcomer [])) .said ≡ refused-by 12
+unfolding output-opened appliedFrom
+joined-new = said-after (newcomer []) refl
+
+cleared-one : settled (bookOf (newcomer (Mark 0 0 0 ∷ []))) .said ≡ accepted yes-said
+unfolding output-opened appliedFrom
+cleared-one = said-after (newcomer (Mark 0 0 0 ∷ [])) refl
 
 -- a join needs four bytes
 join-too-long : writerAnswer (bookOf (Join 0 ∷ [])) (0 ∷ 0 ∷ 0 ∷ []) ≡ refused-by 13
@@ -73,4 +105,4 @@ join-too-long = refl
 pub all-hold : All marked
 unfolding output-opened
 all-hold =
-    (refl, (refl, (refl, (refl, (refl, (refl, (refl, (refl, (refl, (refl, (output-m, (refl, (filings-refused, (refl, (refl, (refl, (refl, (refl, (refl, (refl, (join-too-long, (refl, tt))))))))))))))))))))))
+    (refl, (refl, (refl, (refl, (refl, (refl, (refl, (refl, (refl, (refl, (output-m, (cut-m, (filings-refused, (refl, (refl, (refl, (joined-only, (marked-six, (joined-new, (cleared-one, (join-too-long, (refl, tt))))))))))))))))))))))

@@ -18,6 +18,7 @@ use Rattle.settlement.specs.Settlement.{pointsOfAll, settledBy, settled}
 use Rattle.settlement.specs.Laws.{Settles, pointsAt}
 use Rattle.filing.specs.Reader.{reading, read}
 use Rattle.writing.specs.Written.{writtenCalls, written}
+use Rattle.writing.specs.Laws.{writtenMost}
 
 -- a settlement of a book over a list of indicators has the numbers that 01 defines
 pub record Defined (b : Book) (indicators : List Indicator) (s : Settlement) : Type 0 where
@@ -45,4 +46,4 @@ pub record Demand2 : Type 0 where
   pub read-back : (b : Book) → inRange b ≡ true
       → read freshBook (written b) ≡ reading b (length (writtenCalls b)) (length (written b)) (accepted yes-said)
   -- "at most 7,067 bytes"
-  pub most : (b : Book) → inRange b ≡ true → length (written b) ≤ 7067
+  pub most : (b : Book) → inRange b ≡ true → length (written b) ≤ writtenMost

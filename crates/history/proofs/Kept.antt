@@ -8,7 +8,7 @@ use mathlib.Core.Bool.{true}
 use mathlib.Core.List.{List, [], _∷_}
 use native.Mathlib.Omega.{arith}
 use lib.ListN.{getD-replicate}
-use Rattle.calls.specs.Limits.{freshIndex, indexCount}
+use Rattle.calls.specs.Limits.{freshIndex, indexCount, indicatorCount, settingPlaces, figurePlaces}
 use Rattle.book.specs.declared.Book.{Book}
 use Rattle.calls.specs.declared.Call.{Call}
 use Rattle.calls.specs.Held.{Held, Same}
@@ -132,12 +132,12 @@ fresh =
       held =
           record {
             joined = λ o lt. has-zero o;
-            setting = λ o w lo lw. getD-replicate {A = ℕ} 48 (settingSlot o w) 0 0 (setting-slot-lt o w lo lw);
-            mark = λ o i lo li. rw (getD-replicate {A = ℕ} 6 i 0 0 li) (has-zero o);
+            setting = λ o w lo lw. getD-replicate {A = ℕ} settingPlaces (settingSlot o w) 0 0 (setting-slot-lt o w lo lw);
+            mark = λ o i lo li. rw (getD-replicate {A = ℕ} indicatorCount i 0 0 li) (has-zero o);
             pot-rate = refl;
             cap-rate = refl;
             index = λ n lt. getD-replicate {A = ℕ} indexCount n freshIndex 0 lt;
-            total = λ o y f lo ly lf. getD-replicate {A = ℕ} 384 (figureSlot o y f) 0 0 (figure-slot-lt o y f lo ly lf);
+            total = λ o y f lo ly lf. getD-replicate {A = ℕ} figurePlaces (figureSlot o y f) 0 0 (figure-slot-lt o y f lo ly lf);
           };
       covered = λ o y f. omega arith;
     }

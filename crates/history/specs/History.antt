@@ -9,7 +9,7 @@ use Rattle.calls.specs.declared.Call.the-variants.{Join, Setting, Interruption,
 use Rattle.calls.specs.Limits.{freshIndex}
 use Rattle.calls.specs.Held.{Held, held}
 use Rattle.calls.specs.Answers.{Said, onAnswer, Acceptance}
-use Rattle.calls.specs.Call.{Entry, factsOf}
+use Rattle.calls.specs.Call.{joinMarks, Entry, factsOf}
 use Rattle.ledger.specs.Table.{answerTo}
 
 pub record History : Type 0 where
@@ -67,7 +67,7 @@ withEntries h (entry ∷ rest) = withEntries (withEntry h entry) rest
 -- "Join adds the operator", and sets every mark of it (02, point 1: "with a join counted as setting six marks"). "Setting, mark and
 -- index replace the value they name, rates both rates."
 unfoldable pub recorded : History → Call → History
-recorded h (Join operator) = history (at1 operator true (h .joined)) (h .setting) (at1 operator (λ indicator. true) (h .mark)) (h .pot-rate) (h .cap-rate) (h .index) (h .filed) (h .withdrawn)
+recorded h (Join operator) = history (at1 operator true (h .joined)) (h .setting) (at1 operator joinMarks (h .mark)) (h .pot-rate) (h .cap-rate) (h .index) (h .filed) (h .withdrawn)
 recorded h (Setting operator which value) = history (h .joined) (at2 operator which value (h .setting)) (h .mark) (h .pot-rate) (h .cap-rate) (h .index) (h .filed) (h .withdrawn)
 recorded h (Interruption operator sign level cause start end weight) = withEntries h (factsOf (Interruption operator sign level cause start end weight) .entries)
 recorded h (Amount operator year figure sign value) = withEntries h (factsOf (Amount operator year figure sign value) .entries)

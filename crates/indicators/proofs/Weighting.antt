@@ -3,35 +3,23 @@
 use mathlib.Core.Path.{_≡_, refl, ap}
 use mathlib.Core.Bool.{true, false, cond}
 use mathlib.Core.List.{List}
-use Prim.Native.Nat.{ℕ, zero, suc, _≤_, _<_}
-use native.Mathlib.Omega.{arith}
+use Prim.Native.Nat.{ℕ, _<_}
+use lib.Dec.{ltb}
 use lib.ListN.{getD}
+use Rattle.calls.specs.Limits.{indicatorCount}
 use Rattle.calls.specs.Masks.{has}
 use Rattle.apportion.specs.Sum.{sum}
 use Rattle.values.specs.Operators.{each}
 use Rattle.values.specs.Indicator.{Measure, electricity, numbered}
 use Rattle.indicators.specs.Points.{exponentWeight, isBetter, levelled, isLevelled, weightOfOne, weights}
 use Rattle.values.proofs.Tables.{each-at, each-same}
+use Rattle.values.proofs.Numbered.{of-numbered}
 use Rattle.indicators.proofs.WeightLaws.{linearWeight, together}
 
 -- the first four indicators are levelled, the others linear
-pub levels : (number : ℕ) → number < 4 → isLevelled (numbered number .measure) ≡ true
-unfolding numbered electricity isLevelled
-levels zero lt = refl
-levels (suc zero) lt = refl
-levels (suc (suc zero)) lt = refl
-levels (suc (suc (suc zero))) lt = refl
-levels (suc (suc (suc (suc n)))) lt = absurd (omega arith)
-
-pub linears : (number : ℕ) → 4 ≤ number → number < 6 → isLevelled (numbered number .measure) ≡ false
-unfolding numbered electricity isLevelled
-linears zero le lt = absurd (omega arith)
-linears (suc zero) le lt = absurd (omega arith)
-linears (suc (suc zero)) le lt = absurd (omega arith)
-linears (suc (suc (suc zero))) le lt = absurd (omega arith)
-linears (suc (suc (suc (suc zero)))) le lt = refl
-linears (suc (suc (suc (suc (suc zero))))) le lt = refl
-linears (suc (suc (suc (suc (suc (suc n)))))) le lt = absurd (omega arith)
+pub level-of : (number : ℕ) → number < indicatorCount → isLevelled (numbered number .measure) ≡ ltb number 4
+unfolding electricity isLevelled
+level-of = of-numbered (λ number indicator. isLevelled (indicator .measure) ≡ ltb number 4) (refl, (refl, (refl, (refl, (refl, (refl, tt))))))
 
 module _ (mask : ℕ) (scores : List ℕ) where
   -- the better operators' weights taken from a list

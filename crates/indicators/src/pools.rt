@@ -1,6 +1,7 @@
 // The pool of an indicator, and its points: the pool shared by the weights.
 ghost use mathlib.Core.Path.{_≡_};
 ghost use Prim.Native.Nat.{_≤_, _<_};
+ghost use Rattle.calls.specs.Limits.{indicatorCount};
 ghost use Rattle.book.specs.declared.Book.{Book};
 ghost use Rattle.values.specs.Bounds.{pointsMost, poolMost};
 ghost use Rattle.values.specs.Indicator.{pool, numbered};
@@ -27,7 +28,7 @@ pub fn points_of(
     indices: &[u32; INDICES],
     number: u8,
 ) -> [u64; 16]
-    requires { ⌜ Within (now settings) (now figures) (now indices) × (number < 6) ⌝ }
+    requires { ⌜ Within (now settings) (now figures) (now indices) × (number < indicatorCount) ⌝ }
     ensures { λ r. ⌜ ((b : Book) → HasMarks b joined (now (marks .entry)) → HasMeasures b (now (settings .entry)) (now (figures .entry)) (now (indices .entry)) → r ≡ points b (numbered number)) ⌝ }
 {
     let mask = reliable_mask(joined, marks, number);
@@ -39,7 +40,7 @@ pub fn points_of(
 }
 
 fn weights_of(mask: u16, scores: [u64; 16], number: u8) -> [u64; 16]
-    requires { ⌜ ScoresWithin scores × (number < 6) ⌝ }
+    requires { ⌜ ScoresWithin scores × (number < indicatorCount) ⌝ }
     ensures { λ r. ⌜ r ≡ weights (numbered number .measure) mask scores ⌝ }
 {
     if number < 4 {
@@ -50,7 +51,7 @@ fn weights_of(mask: u16, scores: [u64; 16], number: u8) -> [u64; 16]
 
 // In hundredths.
 pub fn pool_of(joined: u16, marks: &[u16; INDICATORS], number: u8) -> u64
-    requires { ⌜ number < 6 ⌝ }
+    requires { ⌜ number < indicatorCount ⌝ }
     ensures { λ r. ⌜ ((b : Book) → HasMarks b joined (now (marks .entry)) → r ≡ pool b (numbered number)) × (r ≤ poolMost) ⌝ }
 {
     divide(
@@ -60,7 +61,7 @@ pub fn pool_of(joined: u16, marks: &[u16; INDICATORS], number: u8) -> u64
 }
 
 fn points_a_year(number: u8) -> u64
-    requires { ⌜ number < 6 ⌝ }
+    requires { ⌜ number < indicatorCount ⌝ }
     ensures { λ r. ⌜ (r ≡ numbered number .points) × (r ≤ pointsMost) ⌝ }
 {
     match number {

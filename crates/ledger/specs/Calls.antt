@@ -1,8 +1,8 @@
 -- What a filing call does to a book, and what it answers.
 -- Assumes nothing.
-use Prim.Native.Nat.{ℕ, _+_, _-_}
+use Prim.Native.Nat.{ℕ, suc, _+_, _-_}
 use mathlib.Core.Bool.{cond}
-use mathlib.Core.List.{List, [], _∷_, map}
+use mathlib.Core.List.{List, [], _∷_}
 use lib.Dec.{eqb}
 use lib.ListN.{getD, set}
 use Rattle.book.specs.declared.Book.{Book}
@@ -10,7 +10,7 @@ use Rattle.calls.specs.declared.Call.{Call}
 use Rattle.calls.specs.declared.Call.the-variants.{Join, Setting, Interruption, Amount, Mark, Rates, Index}
 use Rattle.calls.specs.Answers.{Said, refused-by, onAnswer, Acceptance}
 use Rattle.calls.specs.Masks.{including, remasked}
-use Rattle.calls.specs.Call.{Entry, factsOf}
+use Rattle.calls.specs.Call.{joinMarks, Entry, factsOf}
 use Rattle.book.specs.Book.{bookWith, settingSlot, figureSlot, isJoined, figureOf, inRange}
 use Rattle.ledger.specs.Table.{answerTo}
 
@@ -29,9 +29,14 @@ unfoldable pub enterAll : Book → List Entry → Book
 enterAll b [] = b
 enterAll b (entry ∷ rest) = enterAll (entered b entry) rest
 
--- marks with those of an operator set at every indicator: nothing of it is attested yet (02, point 1: "all six marks of the operator")
+-- masks of marks, from an indicator on, with those of an operator set that a join sets
+unfoldable pub unattestedFrom : ℕ → List ℕ → ℕ → List ℕ
+unattestedFrom indicator [] operator = []
+unattestedFrom indicator (mask ∷ rest) operator = cond (joinMarks indicator) (including mask operator) mask ∷ unattestedFrom (suc indicator) rest operator
+
+-- the marks after a join: nothing of the operator is attested yet
 unfoldable pub unattested : List ℕ → ℕ → List ℕ
-unattested marks operator = map (λ (mask : ℕ). including mask operator) marks
+unattested marks operator = unattestedFrom 0 marks operator
 
 -- the book after a call that nothing refuses
 unfoldable pub changed : Book → Call → Book

@@ -6,6 +6,7 @@ use mathlib.Core.List.{List}
 use native.Mathlib.Omega.{arith}
 use lib.ListN.{length, getD, take}
 use lib.Seq.{take-all}
+use Rattle.calls.specs.Limits.{indicatorCount}
 use Rattle.apportion.specs.Sum.{sum}
 use Rattle.apportion.proofs.Sums.{sum-take-suc, take-le, sum-bound, element-le}
 use Rattle.values.specs.Operators.{table}
@@ -34,13 +35,13 @@ module _ (xs : List ℕ) where
 -- six numbers of a list, an operator's
 module _ (points : List ℕ) (operator : ℕ) where
   abbrev pub operatorsPoints : List ℕ
-  operatorsPoints = table 6 (λ (number : ℕ). getD points (16 * number + operator) 0)
+  operatorsPoints = table indicatorCount (λ (number : ℕ). getD points (16 * number + operator) 0)
 
-  pub six : length operatorsPoints ≡ 6
-  six = length-table _ 6
+  pub six : length operatorsPoints ≡ indicatorCount
+  six = length-table _ indicatorCount
 
-  pub point-at : (number : ℕ) → number < 6 → getD points (16 * number + operator) 0 ≡ getD operatorsPoints number 0
-  point-at number lt = sym (table-at (λ (number : ℕ). getD points (16 * number + operator) 0) 6 number 0 lt)
+  pub point-at : (number : ℕ) → number < indicatorCount → getD points (16 * number + operator) 0 ≡ getD operatorsPoints number 0
+  point-at number lt = sym (table-at (λ (number : ℕ). getD points (16 * number + operator) 0) indicatorCount number 0 lt)
 
   pub points-most : sum points < 2 ^ 60 → sum operatorsPoints < 2 ^ 63
   points-most few =

@@ -13,6 +13,8 @@ ghost use Rattle.text.specs.Steps.{withTextAt};
 use apportion::sum_of;
 use book::Book;
 use book::is_joined;
+use calls::INDICATORS;
+use settlement::POINT_PLACES;
 use settlement::Settlement;
 use text::put_byte;
 use text::put_decimal;
@@ -133,20 +135,20 @@ fn points_of_operator(s: Settlement, operator: usize) -> u64
     let points = s.points;
     let mut t = 0;
     let mut number = 0;
-    while number < 6 {
+    while number < INDICATORS {
         t += points[16 * number + operator];
         number += 1;
     }
     t
 }
 
-fn total_points(points: [u64; 96]) -> u64
+fn total_points(points: [u64; POINT_PLACES]) -> u64
     requires { ⌜ sum points < 2 ^ 60 ⌝ }
     ensures { λ r. ⌜ r ≡ sum points ⌝ }
 {
     let mut t = 0;
     let mut i = 0;
-    while i < 96 {
+    while i < POINT_PLACES {
         t += points[i];
         i += 1;
     }

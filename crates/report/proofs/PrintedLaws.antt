@@ -21,7 +21,7 @@ use Rattle.indicators.proofs.WeightLaws.{weights-length}
 use Rattle.settlement.specs.declared.Settlement.{Settlement}
 use Rattle.settlement.specs.Settlement.{pointsOfAll, settlementBy, settled}
 use Rattle.settlement.specs.Laws.{Settles, Balanced}
-use Rattle.calls.specs.Limits.{operators}
+use Rattle.calls.specs.Limits.{operators, indicatorCount}
 use Rattle.values.specs.Bounds.{poolMost}
 use Rattle.settlement.proofs.Amounts.{pot-most, limit-most}
 use Rattle.settlement.proofs.Gathering.{share-le, pool-le}
@@ -93,7 +93,7 @@ module _ (b : Book) (s : Settlement) (printable : Printable s) where
 shares-le : (T : ℕ) (list : List ℕ) → length list ≡ 16 → sum (share T list) ≤ 16 * T
 shares-le T list long = rw (shared T list .long, long) at (sum-bound (share T list) T (λ k lt. share-le T list k))
 
-six-indicators : length electricity ≡ 6
+six-indicators : length electricity ≡ indicatorCount
 unfolding electricity
 six-indicators = refl
 

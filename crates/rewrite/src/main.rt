@@ -6,6 +6,7 @@ use load::Loaded;
 use load::load_filing;
 use rewriting::Stream;
 use rewriting::rewritten;
+use writer::WRITTEN_MOST;
 
 fn main() {
     // One byte more than a filing may have, so that a longer one shows.
@@ -17,7 +18,7 @@ fn main() {
 }
 
 fn print_rewritten(filing: &[u8]) {
-    let mut text = [0u8; 7067];
+    let mut text = [0u8; WRITTEN_MOST];
     let printed = rewritten(filing, &mut text);
     let count = printed.count;
     let stream = printed.stream;

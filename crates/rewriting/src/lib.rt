@@ -15,6 +15,7 @@ use output::LONGEST_FILING;
 use output::put_refused_field;
 use text::Filled;
 use text::put_word;
+use writer::WRITTEN_MOST;
 use writer::write;
 
 pub enum Stream {
@@ -30,7 +31,7 @@ pub struct Printed {
 
 // Puts what is printed at the front of a buffer that every written filing fits, leaves the bytes after it, and answers how many there are
 // and where they go.
-pub fn rewritten(filing: &[u8], out: &mut [u8; 7067]) -> Printed
+pub fn rewritten(filing: &[u8], out: &mut [u8; WRITTEN_MOST]) -> Printed
     ensures { λ r. ⌜ (r .stream, r .count) ≡ toldOf (printoutOf (now (filing .entry))) ⌝ }
     ensures { λ r. ⌜ now (out .exit) ≡ putInto (now (out .entry)) (printoutOf (now (filing .entry)) .text) ⌝ }
 {

@@ -3,6 +3,9 @@
 ghost use Prim.Native.Nat.{_<_};
 use book::Book;
 use calls::Answer;
+use calls::FIGURE_PLACES;
+use calls::SETTING_PLACES;
+use calls::SETTINGS;
 use libc::STDOUT_FILENO;
 
 fn main() {
@@ -46,22 +49,22 @@ fn full_book() -> Book {
     b
 }
 
-fn settings() -> [u64; 48] {
-    let mut list = [0u64; 48];
+fn settings() -> [u64; SETTING_PLACES] {
+    let mut list = [0u64; SETTING_PLACES];
     let mut i = 0;
     while i < 16 {
-        list[3 * i] = 1000 + 37 * i as u64;
-        list[3 * i + 1] = 4000000 - 10007 * i as u64;
-        list[3 * i + 2] = 100000000000 - 12345 * i as u64;
+        list[SETTINGS * i] = 1000 + 37 * i as u64;
+        list[SETTINGS * i + 1] = 4000000 - 10007 * i as u64;
+        list[SETTINGS * i + 2] = 100000000000 - 12345 * i as u64;
         i += 1;
     }
     list
 }
 
-fn figures() -> [u64; 384] {
-    let mut list = [0u64; 384];
+fn figures() -> [u64; FIGURE_PLACES] {
+    let mut list = [0u64; FIGURE_PLACES];
     let mut i = 0;
-    while i < 384 {
+    while i < FIGURE_PLACES {
         list[i] = 100000000000 - 1234567 * i as u64;
         i += 1;
     }

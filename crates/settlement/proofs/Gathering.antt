@@ -11,6 +11,9 @@ use lib.Bits.{bitAnd, and-le-r}
 use lib.Count.{ones-le}
 use lib.ListN.{length, getD, take, length-set, List·getD-eq-default, replicate}
 use lib.Seq.{take-suc, take-suc-set, take-paste, length-paste, take-all}
+use Rattle.calls.specs.Limits.{indicatorCount}
+use Rattle.values.proofs.Numbered.{of-numbered}
+use Rattle.settlement.specs.Settlement.{pointPlaces}
 use Rattle.book.specs.declared.Book.{Book}
 use Rattle.apportion.specs.Sum.{sum}
 use Rattle.apportion.specs.Share.{share}
@@ -39,17 +42,11 @@ share-le T list place = go (decLt 0 (sum list)) (decLt place (length list))
         let past : length (share T list) ≤ place = omega (arith, shared T list .long, outside) in
         rw (List·getD-eq-default (share T list) 0 past) (omega arith)
 
-points-most : (number : ℕ) → number < 6 → numbered number .points ≤ pointsMost
-unfolding numbered electricity
-points-most zero lt = omega arith
-points-most (suc zero) lt = omega arith
-points-most (suc (suc zero)) lt = omega arith
-points-most (suc (suc (suc zero))) lt = omega arith
-points-most (suc (suc (suc (suc zero)))) lt = omega arith
-points-most (suc (suc (suc (suc (suc zero))))) lt = omega arith
-points-most (suc (suc (suc (suc (suc (suc n)))))) lt = absurd (omega arith)
+points-most : (number : ℕ) → number < indicatorCount → numbered number .points ≤ pointsMost
+unfolding electricity
+points-most = of-numbered (λ number indicator. indicator .points ≤ pointsMost) (omega arith, (omega arith, (omega arith, (omega arith, (omega arith, (omega arith, tt))))))
 
-pub pool-le : (b : Book) (number : ℕ) → number < 6 → pool b (numbered number) ≤ poolMost
+pub pool-le : (b : Book) (number : ℕ) → number < indicatorCount → pool b (numbered number) ≤ poolMost
 unfolding pool reliableMask
 pool-le b number lt =
     let mask : ℕ = bitAnd (b .joined) (65535 - getD (b .marks) (numbered number .number) 0) in
@@ -57,7 +54,7 @@ pool-le b number lt =
     let product = mul-le-mul (points-most number lt) (ones-le 16 mask small) in
     le-trans (over-le _ _) (omega (arith, product))
 
-pub point-le : (b : Book) (number : ℕ) → number < 6 → (operator : ℕ) → getD (points b (numbered number)) operator 0 ≤ poolMost
+pub point-le : (b : Book) (number : ℕ) → number < indicatorCount → (operator : ℕ) → getD (points b (numbered number)) operator 0 ≤ poolMost
 unfolding points
 point-le b number lt operator = le-trans (share-le _ _ operator) (pool-le b number lt)
 
@@ -81,15 +78,15 @@ pools-snoc b (x ∷ list) indicator = ap (λ (l : List ℕ). pool b x ∷ l) (po
 abbrev firsts : ℕ → List Indicator
 firsts n = take n electricity
 
-one-more : (n : ℕ) → n < 6 → firsts (n + 1) ≡ firsts n ++ (numbered n ∷ [])
+one-more : (n : ℕ) → n < indicatorCount → firsts (n + 1) ≡ firsts n ++ (numbered n ∷ [])
 unfolding electricity numbered
 one-more n lt = rw add-one (take-suc electricity n _ lt)
 
 -- what has been gathered of the first indicators
 pub record Gathers (b : Book) (n : ℕ) (g : Gathered) : Type 0 where
-  pub pools-long : length (g .pools) ≡ 6
+  pub pools-long : length (g .pools) ≡ indicatorCount
   pub pools-so-far : take n (g .pools) ≡ map (pool b) (firsts n)
-  pub points-long : length (g .points) ≡ 96
+  pub points-long : length (g .points) ≡ pointPlaces
   pub points-so-far : take (16 * n) (g .points) ≡ pointsOfAll b (firsts n)
   pub totals-are : g .totals ≡ each (allPoints b (firsts n))
   pub totals-most : (k : ℕ) → getD (g .totals) k 0 ≤ n * poolMost
@@ -107,12 +104,12 @@ added-le list other most more first second k = go (decLt k 16)
         let past : length (each (λ (operator : ℕ). getD list operator 0 + getD other operator 0)) ≤ k = omega (arith, length-each (λ (operator : ℕ). getD list operator 0 + getD other operator 0), outside) in
         rw (List·getD-eq-default (each (λ (operator : ℕ). getD list operator 0 + getD other operator 0)) 0 past) (omega arith)
 
-totals-more : (b : Book) (n : ℕ) (g : Gathered) → n < 6 → Gathers b n g → added (g .totals) (points b (numbered n)) ≡ each (allPoints b (firsts (n + 1)))
+totals-more : (b : Book) (n : ℕ) (g : Gathered) → n < indicatorCount → Gathers b n g → added (g .totals) (points b (numbered n)) ≡ each (allPoints b (firsts (n + 1)))
 totals-more b n g lt so-far =
     each-same _ _
     (λ k lk. rw (one-more n lt, totals-snoc b (firsts n) (numbered n) k, so-far .totals-are, each-at (allPoints b (firsts n)) k lk) refl)
 
-module _ (b : Book) (n : ℕ) (g more : Gathered) (lt : n < 6) (so-far : Gathers b n g) where
+module _ (b : Book) (n : ℕ) (g more : Gathered) (lt : n < indicatorCount) (so-far : Gathers b n g) where
   pub gathers-more : OneGathered b n g more → Gathers b (n + 1) more
   gathers-more one =
       let sixteen : length (points b (numbered n)) ≡ 16 = points-length b (numbered n) in
@@ -144,7 +141,7 @@ zeros zero k = omega arith
 zeros (suc n) zero = omega arith
 zeros (suc n) (suc k) = zeros n k
 
-pub gathers-none : (b : Book) → Gathers b 0 (record { pools = replicate 6 0; points = replicate 96 0; totals = replicate 16 0 })
+pub gathers-none : (b : Book) → Gathers b 0 (record { pools = replicate indicatorCount 0; points = replicate pointPlaces 0; totals = replicate 16 0 })
 unfolding pointsOfAll allPoints each table
 gathers-none b =
     record {
@@ -156,12 +153,12 @@ gathers-none b =
       totals-most = λ k. zeros 16 k;
     }
 
-pub gathers-all : (b : Book) (g : Gathered) → Gathers b 6 g → AllGathered b g
+pub gathers-all : (b : Book) (g : Gathered) → Gathers b indicatorCount g → AllGathered b g
 unfolding electricity
 gathers-all b g so-far =
     record {
-      pools-are = sym (take-all 6 (g .pools) (omega (arith, so-far .pools-long))) ∙ so-far .pools-so-far;
-      points-are = sym (take-all 96 (g .points) (omega (arith, so-far .points-long))) ∙ so-far .points-so-far;
+      pools-are = sym (take-all indicatorCount (g .pools) (omega (arith, so-far .pools-long))) ∙ so-far .pools-so-far;
+      points-are = sym (take-all pointPlaces (g .points) (omega (arith, so-far .points-long))) ∙ so-far .points-so-far;
       totals-are = so-far .totals-are;
       totals-most = λ k. omega (arith, so-far .totals-most k);
     }

@@ -11,6 +11,7 @@ use lib.ListN.{getD}
 use Rattle.apportion.specs.Share.{share}
 use Rattle.apportion.proofs.Shared.{shared}
 use Rattle.calls.specs.Masks.{has}
+use Rattle.calls.specs.Limits.{settingCount}
 use Rattle.book.specs.declared.Book.{Book}
 use Rattle.book.specs.Book.{isJoined, settingOf, most, inRange}
 use Rattle.book.proofs.Bounds.{bounded}
@@ -32,7 +33,7 @@ no-size (pos n) none = ap pos (omega arith)
 no-size (negsuc n) none = absurd (omega arith)
 
 module _ (b : Book) (ranged : inRange b ≡ true) (operator : ℕ) (lt : operator < 16) (apart : isJoined b operator ≡ false) where
-  setting-none : (which : ℕ) → which < 3 → settingOf b operator which ≡ 0
+  setting-none : (which : ℕ) → which < settingCount → settingOf b operator which ≡ 0
   unfolding most
   setting-none which small =
       let none : settingOf b operator which ≤ 0 = rw apart at (bounded b ranged .setting operator which lt small) in

@@ -42,11 +42,15 @@ unfoldable pub settlementBy : Book → List Indicator → Settlement
 settlementBy b indicators =
     settlement (map (pool b) indicators) (pointsOfAll b indicators) (pot b) (contributions b) (returns b indicators) (limits b) (adjustments b indicators)
 
+-- a number for each indicator and operator
+abbrev pub pointPlaces : ℕ
+pointPlaces = operators * indicatorCount
+
 -- "it is all 0 on refusal"
 unfoldable pub nothing : Settlement
 nothing =
     let none : List ℕ = replicate operators 0 in
-    settlement (replicate indicatorCount 0) (replicate (operators * indicatorCount) 0) 0 none none none (replicate operators (pos 0))
+    settlement (replicate indicatorCount 0) (replicate pointPlaces 0) 0 none none none (replicate operators (pos 0))
 
 -- the numbers by which settling refuses
 unfoldable pub settlingLines : Book → List Indicator → List (ℕ × Bool)

@@ -8,7 +8,9 @@ ghost use Rattle.values.specs.Bounds.{poolMost, totalMost};
 ghost use Rattle.values.specs.Operators.{each};
 ghost use Rattle.values.specs.Parts.{HasMarks, HasMeasures, Within};
 ghost use Rattle.settlement.specs.Steps.{GatheringAsked, OneGathered, AllGathered};
+use crate::POINT_PLACES;
 use calls::FIGURE_PLACES;
+use calls::INDICATOR_COUNT;
 use calls::INDICATORS;
 use calls::INDICES;
 use calls::SETTING_PLACES;
@@ -16,8 +18,8 @@ use indicators::points_of;
 use indicators::pool_of;
 
 pub(crate) struct Gathered {
-    pub pools: [u64; 6],
-    pub points: [u64; 96],
+    pub pools: [u64; INDICATORS],
+    pub points: [u64; POINT_PLACES],
     pub totals: [u64; 16],
 }
 
@@ -32,12 +34,12 @@ pub(crate) fn gather(
     ensures { λ r. ⌜ ((b : Book) → HasMarks b joined (now (marks .entry)) → HasMeasures b (now (settings .entry)) (now (figures .entry)) (now (indices .entry)) → AllGathered b r) ⌝ }
 {
     let mut g = Gathered {
-        pools: [0u64; 6],
-        points: [0u64; 96],
+        pools: [0u64; INDICATORS],
+        points: [0u64; POINT_PLACES],
         totals: [0u64; 16],
     };
     let mut number = 0;
-    while number < 6 {
+    while number < INDICATOR_COUNT {
         g = gather_one(g, joined, marks, settings, figures, indices, number);
         number += 1;
     }
@@ -71,7 +73,7 @@ fn gather_one(
 }
 
 // Sixteen numbers put into the list from a place on.
-fn place(list: [u64; 96], at: usize, shares: [u64; 16]) -> [u64; 96]
+fn place(list: [u64; POINT_PLACES], at: usize, shares: [u64; 16]) -> [u64; POINT_PLACES]
     requires { ⌜ at ≤ 80 ⌝ }
     ensures { λ r. ⌜ r ≡ paste list at shares 16 ⌝ }
 {

@@ -4,14 +4,19 @@ mod money;
 mod settling;
 
 use calls::Answer;
+use calls::INDICATORS;
+use calls::OPERATORS;
 pub use settling::settle;
+
+// A number for each indicator and operator.
+pub const POINT_PLACES: usize = OPERATORS * INDICATORS;
 
 // All 0 on refusal and for operators not joined.
 pub struct Settlement {
     // In hundredths, by indicator.
-    pub pools: [u64; 6],
+    pub pools: [u64; INDICATORS],
     // In hundredths, at indicator * 16 + operator.
-    pub points: [u64; 96],
+    pub points: [u64; POINT_PLACES],
     // Money in cents, by operator.
     pub pot: u64,
     pub contributions: [u64; 16],

@@ -14,6 +14,7 @@ ghost use Rattle.values.specs.Indicator.{electricity};
 ghost use Rattle.settlement.specs.Money.{adjustedBy};
 ghost use Rattle.settlement.specs.Steps.{AllGathered, HasCharges, Payable};
 ghost use Rattle.settlement.specs.Settlement.{networkMissing, allMarked, settlementBy, nothing, settled};
+use crate::POINT_PLACES;
 use crate::Settled;
 use crate::Settlement;
 use crate::gather::Gathered;
@@ -28,6 +29,7 @@ use apportion::share;
 use book::Book;
 use book::in_range;
 use calls::Answer;
+use calls::INDICATOR_COUNT;
 use calls::INDICATORS;
 use calls::Refusal;
 use calls::has_bit;
@@ -65,8 +67,8 @@ fn refuse(refusal: Refusal) -> Settled
 {
     Settled {
         settlement: Settlement {
-            pools: [0u64; 6],
-            points: [0u64; 96],
+            pools: [0u64; INDICATORS],
+            points: [0u64; POINT_PLACES],
             pot: 0,
             contributions: [0u64; 16],
             returns: [0u64; 16],
@@ -108,7 +110,7 @@ fn all_marked(joined: u16, marks: &[u16; INDICATORS]) -> bool
     ensures { λ r. ⌜ ((b : Book) → inRange b ≡ true → HasMarks b joined (now (marks .entry)) → r ≡ allMarked b electricity) ⌝ }
 {
     let mut number = 0;
-    while number < 6 {
+    while number < INDICATOR_COUNT {
         if reliable_mask(joined, marks, number) != 0 {
             return false;
         }

@@ -9,7 +9,7 @@ use native.Mathlib.Decide.{decLt}
 use native.Mathlib.Nat.{le-trans}
 use lib.ListN.{length, getD, List·getD-eq-default}
 use Rattle.book.specs.declared.Book.{Book}
-use Rattle.calls.specs.Limits.{settingLimit, figureLimit, rateLimit, indexMost}
+use Rattle.calls.specs.Limits.{operators, years, figureCount, settingCount, indicatorCount, indexCount, settingLimit, figureLimit, rateLimit, indexMost}
 use Rattle.book.specs.Book.{bookWith, isJoined, settingOf, figureOf, indexOf, most, inRange}
 use Rattle.book.proofs.Bounds.{bounded}
 use Rattle.values.specs.Bounds.{accessLimit, incomeLimit}
@@ -27,13 +27,13 @@ most-le b operator limit = go (isJoined b operator)
     go false = omega arith
 
 module _ (b : Book) (ranged : inRange b ≡ true) where
-  setting-le : (operator which : ℕ) → operator < 16 → which < 3 → settingOf b operator which ≤ settingLimit which
+  setting-le : (operator which : ℕ) → operator < operators → which < settingCount → settingOf b operator which ≤ settingLimit which
   setting-le operator which lo lw = le-trans (bounded b ranged .setting operator which lo lw) (most-le b operator (settingLimit which))
 
-  pub access-le : (operator : ℕ) → operator < 16 → settingOf b operator 1 ≤ accessLimit
+  pub access-le : (operator : ℕ) → operator < operators → settingOf b operator 1 ≤ accessLimit
   access-le operator lo = setting-le operator 1 lo (omega arith)
 
-  pub income-le : (operator : ℕ) → operator < 16 → settingOf b operator 2 ≤ incomeLimit
+  pub income-le : (operator : ℕ) → operator < operators → settingOf b operator 2 ≤ incomeLimit
   income-le operator lo = setting-le operator 2 lo (omega arith)
 
   pub within : Within (b .settings) (b .figures) (b .indices)
@@ -47,9 +47,9 @@ module _ (b : Book) (ranged : inRange b ≡ true) where
 
   -- the marks of any indicator number, there or not, are sixteen bits
   pub mark-set-small : (indicator : ℕ) → getD (b .marks) indicator 0 < 2 ^ 16
-  mark-set-small indicator = go (decLt indicator 6)
+  mark-set-small indicator = go (decLt indicator indicatorCount)
     where
-      go : Dec (indicator < 6) → getD (b .marks) indicator 0 < 2 ^ 16
+      go : Dec (indicator < indicatorCount) → getD (b .marks) indicator 0 < 2 ^ 16
       go (yes inside) = bounded b ranged .marks-small indicator inside
       go (no outside) =
           let past : length (b .marks) ≤ indicator = omega (arith, bounded b ranged .marks-long, outside) in
@@ -77,25 +77,24 @@ holding settings figures indices = lending 0 [] settings figures indices
 
 -- settings, figures and indices of a book whose lists are within their limits
 module _ (b : Book) (small : SettingsWithin (b .settings)) where
-  setting-most : (operator which : ℕ) → operator < 16 → which < 3 → settingOf b operator which ≤ settingLimit which
+  setting-most : (operator which : ℕ) → operator < operators → which < settingCount → settingOf b operator which ≤ settingLimit which
   unfolding SettingsWithin settingOf
   setting-most operator which lo lw = small operator which lo lw
 
   -- no setting passes the largest limit
-  pub settings-most : (which : ℕ) → which < 3 → (k : ℕ) → getD (settingsOf b which) k 0 ≤ incomeLimit
+  pub settings-most : (which : ℕ) → which < settingCount → (k : ℕ) → getD (settingsOf b which) k 0 ≤ incomeLimit
   settings-most zero lw = each-le _ _ (λ k lt. omega (arith, setting-most k 0 lt (omega arith)))
   settings-most (suc zero) lw = each-le _ _ (λ k lt. omega (arith, setting-most k 1 lt (omega arith)))
-  settings-most (suc (suc zero)) lw = each-le _ _ (λ k lt. setting-most k 2 lt (omega arith))
-  settings-most (suc (suc (suc which))) lw = absurd (omega arith)
+  settings-most (suc (suc which)) lw = each-le _ _ (λ k lt. setting-most k (suc (suc which)) lt lw)
 
 module _ (b : Book) (small : FiguresWithin (b .figures)) where
-  pub figure-most : (operator year figure : ℕ) → operator < 16 → year < 3 → figure < 8 → figureOf b operator year figure ≤ figureLimit
+  pub figure-most : (operator year figure : ℕ) → operator < operators → year < years → figure < figureCount → figureOf b operator year figure ≤ figureLimit
   unfolding FiguresWithin figureOf
   figure-most operator year figure lo ly lf = small operator year figure lo ly lf
 
-  pub figures-most : (year figure : ℕ) → year < 3 → figure < 8 → (k : ℕ) → getD (figuresOf b year figure) k 0 ≤ figureLimit
+  pub figures-most : (year figure : ℕ) → year < years → figure < figureCount → (k : ℕ) → getD (figuresOf b year figure) k 0 ≤ figureLimit
   figures-most year figure ly lf = each-le _ _ (λ k lt. figure-most k year figure lt ly lf)
 
-pub index-most : (b : Book) → IndicesWithin (b .indices) → (number : ℕ) → number < 4 → indexOf b number ≤ indexMost
+pub index-most : (b : Book) → IndicesWithin (b .indices) → (number : ℕ) → number < indexCount → indexOf b number ≤ indexMost
 unfolding IndicesWithin indexOf
 index-most b small number lt = small number lt

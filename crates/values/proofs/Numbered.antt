@@ -1,26 +1,35 @@
--- The six indicators by number, and their yearly values as quotients.
+-- An indicator by its number: what holds of every indicator of the list holds of the numbered one; and yearly values as quotients.
 -- Assumes nothing.
 use Prim.Native.Nat.{ℕ, zero, suc, _*_, _<_}
 use mathlib.Core.Path.{_≡_, refl, ap₂}
-use mathlib.Core.List.{List}
+use mathlib.Core.List.{List, [], _∷_}
 use native.Mathlib.Omega.{arith}
-use lib.ListN.{getD}
+use lib.ListN.{length, getD}
+use Rattle.calls.specs.Limits.{indicatorCount}
 use Rattle.book.specs.declared.Book.{Book}
 use Rattle.book.specs.Book.{settingOf, figureOf, indexOf}
 use Rattle.values.specs.Operators.{each, settingsOf, figuresOf}
 use Rattle.exact.specs.Division.{over}
-use Rattle.values.specs.Indicator.{frequency, duration, fee, electricity, numbered, yearlyValue, yearlyValues}
+use Rattle.values.specs.Indicator.{Indicator, frequency, duration, fee, electricity, numbered, yearlyValue, yearlyValues}
 use Rattle.values.proofs.Tables.{each-at, each-same}
 
-pub number-of : (number : ℕ) → number < 6 → numbered number .number ≡ number
+-- a fact of each place of a list and the indicator there
+abbrev pub Throughout : (ℕ → Indicator → Type 0) → List Indicator → Type 0
+Throughout P [] = Unit {0}
+Throughout P (indicator ∷ rest) = P 0 indicator × Throughout (λ place. P (suc place)) rest
+
+at-place : (P : ℕ → Indicator → Type 0) (list : List Indicator) (other : Indicator) (n : ℕ) → Throughout P list → n < length list → P n (getD list n other)
+at-place P [] other n all lt = absurd (omega arith)
+at-place P (indicator ∷ rest) other zero all lt = all .0
+at-place P (indicator ∷ rest) other (suc n) all lt = at-place (λ place. P (suc place)) rest other n (all .1) (omega arith)
+
+pub of-numbered : (P : ℕ → Indicator → Type 0) → Throughout P electricity → (number : ℕ) → number < indicatorCount → P number (numbered number)
 unfolding numbered electricity
-number-of zero lt = refl
-number-of (suc zero) lt = refl
-number-of (suc (suc zero)) lt = refl
-number-of (suc (suc (suc zero))) lt = refl
-number-of (suc (suc (suc (suc zero)))) lt = refl
-number-of (suc (suc (suc (suc (suc zero))))) lt = refl
-number-of (suc (suc (suc (suc (suc (suc number)))))) lt = absurd (omega arith)
+of-numbered P all number lt = at-place P electricity _ number all lt
+
+pub number-of : (number : ℕ) → number < indicatorCount → numbered number .number ≡ number
+unfolding electricity
+number-of = of-numbered (λ number indicator. indicator .number ≡ number) (refl, (refl, (refl, (refl, (refl, (refl, tt))))))
 
 -- quotients operator by operator, dividends and divisors each multiplied first
 abbrev pub quotientsBy : ℕ → List ℕ → ℕ → List ℕ → List ℕ

@@ -1,10 +1,11 @@
 -- The scores of an indicator, one for each operator, and their bounds in a book in range.
 -- Assumes nothing.
-use Prim.Native.Nat.{ℕ, zero, suc, _≤_, _<_, zero-le}
+use Prim.Native.Nat.{ℕ, _≤_, _<_, zero-le}
 use native.Mathlib.Nat.{div-le-self, mul-le-mul, le-trans}
 use native.Mathlib.Omega.{arith}
 use lib.Dec.{eqb}
 use lib.ListN.{getD}
+use Rattle.calls.specs.Limits.{operators, years, figureCount, indicatorCount}
 use Rattle.calls.specs.Masks.{has}
 use Rattle.book.specs.declared.Book.{Book}
 use Rattle.exact.specs.Division.{over}
@@ -14,39 +15,36 @@ use Rattle.values.proofs.Tables.{each-le}
 use Rattle.values.specs.Bounds.{yearlyMost, scoreMost}
 use Rattle.values.specs.Parts.{Within}
 use Rattle.values.proofs.InRange.{figure-most, index-most}
+use Rattle.values.proofs.Numbered.{of-numbered}
 
 pub over-le : (dividend divisor : ℕ) → over dividend divisor ≤ dividend
 unfolding over
 over-le dividend divisor = cond-le (eqb divisor 0) zero-le (div-le-self dividend divisor)
 
 module _ (b : Book) (small : Within (b .settings) (b .figures) (b .indices)) where
-  module _ (operator year : ℕ) (lo : operator < 16) (ly : year < 3) where
-    frequency-le : (figure which : ℕ) → figure < 8 → yearlyValue b (frequency figure which) operator year ≤ yearlyMost
+  module _ (operator year : ℕ) (lo : operator < operators) (ly : year < years) where
+    frequency-le : (figure which : ℕ) → figure < figureCount → yearlyValue b (frequency figure which) operator year ≤ yearlyMost
     unfolding yearlyValue
     frequency-le figure which lf = le-trans (over-le _ _) (omega (arith, figure-most b (small .figures-within) operator year figure lo ly lf))
 
-    duration-le : (seconds weight : ℕ) → seconds < 8 → yearlyValue b (duration seconds weight) operator year ≤ yearlyMost
+    duration-le : (seconds weight : ℕ) → seconds < figureCount → yearlyValue b (duration seconds weight) operator year ≤ yearlyMost
     unfolding yearlyValue
     duration-le seconds weight lf = le-trans (over-le _ _) (omega (arith, figure-most b (small .figures-within) operator year seconds lo ly lf))
 
-    fee-le : (fees connections : ℕ) → fees < 8 → yearlyValue b (fee fees connections) operator year ≤ yearlyMost
+    fee-le : (fees connections : ℕ) → fees < figureCount → yearlyValue b (fee fees connections) operator year ≤ yearlyMost
     unfolding yearlyValue
     fee-le fees connections lf =
         let product = mul-le-mul (figure-most b (small .figures-within) operator year fees lo ly lf) (index-most b (small .indices-within) 3 (omega arith)) in
         le-trans (over-le _ _) (omega (arith, product))
 
-    yearly-le : (number : ℕ) → number < 6 → yearlyValue b (numbered number .measure) operator year ≤ yearlyMost
-    unfolding numbered electricity
-    yearly-le zero lt = frequency-le 0 0 (omega arith)
-    yearly-le (suc zero) lt = duration-le 1 0 (omega arith)
-    yearly-le (suc (suc zero)) lt = frequency-le 2 1 (omega arith)
-    yearly-le (suc (suc (suc zero))) lt = duration-le 3 2 (omega arith)
-    yearly-le (suc (suc (suc (suc zero)))) lt = fee-le 4 5 (omega arith)
-    yearly-le (suc (suc (suc (suc (suc zero))))) lt = fee-le 6 7 (omega arith)
-    yearly-le (suc (suc (suc (suc (suc (suc n)))))) lt = absurd (omega arith)
+    yearly-le : (number : ℕ) → number < indicatorCount → yearlyValue b (numbered number .measure) operator year ≤ yearlyMost
+    unfolding electricity
+    yearly-le =
+        of-numbered (λ number indicator. yearlyValue b (indicator .measure) operator year ≤ yearlyMost)
+        (frequency-le 0 0 (omega arith), (duration-le 1 0 (omega arith), (frequency-le 2 1 (omega arith), (duration-le 3 2 (omega arith), (fee-le 4 5 (omega arith), (fee-le 6 7 (omega arith), tt))))))
 
-  module _ (number : ℕ) (ln : number < 6) where
-    three-years-le : (operator : ℕ) → operator < 16 → threeYears b (numbered number .measure) operator ≤ scoreMost
+  module _ (number : ℕ) (ln : number < indicatorCount) where
+    three-years-le : (operator : ℕ) → operator < operators → threeYears b (numbered number .measure) operator ≤ scoreMost
     unfolding threeYears
     three-years-le operator lo =
         omega (
@@ -57,7 +55,7 @@ module _ (b : Book) (small : Within (b .settings) (b .figures) (b .indices)) whe
         )
 
     -- the same of the values by operator
-    pub yearlies-le : (year : ℕ) → year < 3 → (k : ℕ) → getD (yearlyValues b (numbered number .measure) year) k 0 ≤ yearlyMost
+    pub yearlies-le : (year : ℕ) → year < years → (k : ℕ) → getD (yearlyValues b (numbered number .measure) year) k 0 ≤ yearlyMost
     yearlies-le year ly = each-le _ _ (λ k lt. yearly-le k year lt ly number ln)
 
     -- no score passes three years of the largest yearly value

@@ -6,6 +6,7 @@ ghost use mathlib.Core.Path.{_≡_};
 ghost use mathlib.Core.Bool.{cond};
 ghost use Prim.Native.Nat.{ℕ, _+_, _*_, _-_, _^_, _<_};
 ghost use lib.ListN.{getD};
+ghost use Rattle.calls.specs.Limits.{indicatorCount};
 ghost use Rattle.calls.specs.Masks.{has};
 ghost use Rattle.exact.specs.Division.{over};
 ghost use Rattle.book.specs.declared.Book.{Book};
@@ -30,7 +31,7 @@ pub fn scores_of(
     indices: &[u32; INDICES],
     number: u8,
 ) -> [u64; 16]
-    requires { ⌜ Within (now settings) (now figures) (now indices) × (number < 6) ⌝ }
+    requires { ⌜ Within (now settings) (now figures) (now indices) × (number < indicatorCount) ⌝ }
     ensures { λ r. ⌜ ((b : Book) → HasMeasures b (now (settings .entry)) (now (figures .entry)) (now (indices .entry)) → mask ≡ reliableMask b (numbered number) → r ≡ scores b (numbered number)) ⌝ }
 {
     let first = yearly_values(settings, figures, indices, number, 0);
@@ -58,7 +59,7 @@ fn score(mask: u16, operator: u8, first: u64, second: u64, third: u64) -> u64
 
 // Joined and without a mark: a mask of both.
 pub fn reliable_mask(joined: u16, marks: &[u16; INDICATORS], number: u8) -> u16
-    requires { ⌜ number < 6 ⌝ }
+    requires { ⌜ number < indicatorCount ⌝ }
     ensures { λ r. ⌜ ((b : Book) → HasMarks b joined (now (marks .entry)) → r ≡ reliableMask b (numbered number)) ⌝ }
 {
     let unmarked = others(marks[number as usize]);

@@ -17,6 +17,9 @@ use entries::PLACES;
 use entries::entry_at;
 use text::Filled;
 
+// The most that a written filing has.
+pub const WRITTEN_MOST: usize = 7067;
+
 // A refusal leaves the buffer; otherwise the bytes after the filing stay.
 pub fn write(b: Book, buffer: &mut [u8]) -> Filled
     ensures { λ r. ⌜ filledSaid r ≡ writerAnswer b (now (buffer .entry)) ⌝ }

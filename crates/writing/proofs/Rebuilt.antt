@@ -14,14 +14,14 @@ use Rattle.calls.proofs.MaskLaws.{has-zero}
 use Rattle.book.specs.declared.Book.{Book}
 use Rattle.calls.specs.declared.Call.{Call}
 use Rattle.calls.specs.declared.Call.the-variants.{Join, Setting, Amount, Mark, Rates, Index}
-use Rattle.calls.specs.Limits.{operators, years, figureCount, settingCount, indicatorCount, indexCount, settingLimit, figureLimit, freshIndex}
+use Rattle.calls.specs.Limits.{operators, years, figureCount, settingCount, indicatorCount, indexCount, settingPlaces, operatorFigures, figurePlaces, settingLimit, figureLimit, freshIndex}
 use Rattle.calls.specs.Masks.{has}
 use Rattle.calls.specs.Answers.{yes-said}
 use Rattle.book.specs.Book.{bookWith, freshBook, isJoined, isMarked, settingOf, figureOf, indexOf, settingSlot, figureSlot, most, inRange}
 use Rattle.book.proofs.Bounds.{Bounds, bounded}
 use Rattle.book.proofs.SlotLaws.{setting-slot-lt, figure-slot-lt}
 use Rattle.history.proofs.Kept.{fresh-in-range}
-use Rattle.ledger.specs.Calls.{unattested}
+use Rattle.ledger.specs.Calls.{unattestedFrom, unattested}
 use Rattle.ledger.proofs.AdmissionLaws.{acceptedCall}
 use Rattle.writing.specs.Written.{inTurn, unlessFresh, joinCalls, settingCalls, amountCalls, markCalls, indexCalls, rateCalls, writtenCalls}
 use Rattle.writing.proofs.Filings.{Leads, stays-ranged, leads-none, leads-one, leads-then, leads-turns, leads-rows}
@@ -31,14 +31,14 @@ use Rattle.writing.proofs.Accepting.{join-accepted, setting-accepted, a
 
 -- the marks that joins leave: every mark of those who have joined
 abbrev joinedMarks : ℕ → List ℕ
-joinedMarks joined = replicate 6 joined
+joinedMarks joined = replicate indicatorCount joined
 
 -- fresh lists
 abbrev noSettings : List ℕ
-noSettings = replicate 48 0
+noSettings = replicate settingPlaces 0
 
 abbrev noFigures : List ℕ
-noFigures = replicate 384 0
+noFigures = replicate figurePlaces 0
 
 abbrev freshIndices : List ℕ
 freshIndices = replicate indexCount freshIndex
@@ -62,7 +62,7 @@ module _ (b : Book) (ranged : inRange b ≡ true) where
 
   join-step : (k : ℕ) → k < operators → inRange (joinStage k) ≡ true
       → Leads (joinStage k) (cond (isJoined b k) (Join k ∷ []) []) (joinStage (suc k))
-  unfolding joinStage isJoined unattested
+  unfolding joinStage isJoined unattestedFrom unattested
   join-step k lt in-range = go (has (b .joined) k) refl
     where
       go : (t : Bool) → has (b .joined) k ≡ t → Leads (joinStage k) (cond t (Join k ∷ []) []) (joinStage (suc k))
@@ -105,14 +105,14 @@ module _ (b : Book) (ranged : inRange b ≡ true) where
 
       go : (t : Bool) → eqb value 0 ≡ t → Leads (settingStage k) (cond t [] (Setting operator which value ∷ [])) (settingStage (suc k))
       go true e =
-          let same = mix-same (b .settings) noSettings long k inside (eqb-true value 0 e ∙ sym (getD-replicate {A = ℕ} 48 k 0 0 (setting-slot-lt operator which lo lw))) in
+          let same = mix-same (b .settings) noSettings long k inside (eqb-true value 0 e ∙ sym (getD-replicate {A = ℕ} settingPlaces k 0 0 (setting-slot-lt operator which lo lw))) in
           rw same (leads-none (settingStage (suc k)) (rw (← same) in-range))
       go false e =
           let may = joined-if (has (b .joined) operator) (settingLimit which) value (bounds .setting operator which lo lw) (eqb-false value 0 e) in
           leads-one (settingStage k) (Setting operator which value) (settingStage (suc k)) yes-said in-range
           (setting-accepted (settingStage k) operator which value lo lw (may .1) (may .0) ∙ rw (mix-set (b .settings) noSettings long k inside) refl)
 
-  settings-lead : inRange (settingStage 0) ≡ true → Leads (settingStage 0) (settingCalls b) (settingStage 48)
+  settings-lead : inRange (settingStage 0) ≡ true → Leads (settingStage 0) (settingCalls b) (settingStage settingPlaces)
   unfolding settingCalls settingSlot
   settings-lead in-range = leads-rows operators settingCount _ settingStage in-range (λ o w lo lw here. setting-step o w lo lw here)
 
@@ -141,7 +141,7 @@ module _ (b : Book) (ranged : inRange b ≡ true) where
       long = sym (bounds .figures-long)
 
       fresh : getD noFigures k 0 ≡ 0
-      fresh = getD-replicate {A = ℕ} 384 k 0 0 (figure-slot-lt operator year figure lo ly lf)
+      fresh = getD-replicate {A = ℕ} figurePlaces k 0 0 (figure-slot-lt operator year figure lo ly lf)
 
       go : (t : Bool) → eqb value 0 ≡ t → Leads (figureStage k) (cond t [] (Amount operator year figure 0 value ∷ [])) (figureStage (suc k))
       go true e =
@@ -153,23 +153,23 @@ module _ (b : Book) (ranged : inRange b ≡ true) where
           (amount-accepted (figureStage k) operator year figure value lo ly lf (may .1) (may .0) (mix-at (b .figures) noFigures long k inside ∙ fresh)
           ∙ rw (mix-set (b .figures) noFigures long k inside) refl)
 
-  figures-lead : inRange (figureStage 0) ≡ true → Leads (figureStage 0) (amountCalls b) (figureStage 384)
+  figures-lead : inRange (figureStage 0) ≡ true → Leads (figureStage 0) (amountCalls b) (figureStage figurePlaces)
   unfolding amountCalls figureSlot
-  figures-lead in-range = leads-turns operators _ (λ (o : ℕ). figureStage (o * 24)) in-range rows
+  figures-lead in-range = leads-turns operators _ (λ (o : ℕ). figureStage (o * operatorFigures)) in-range rows
     where
       calls : ℕ → ℕ → ℕ → List Call
       calls o y f = unlessFresh (figureOf b o y f) 0 (Amount o y f 0 (figureOf b o y f))
 
-      rows : (o : ℕ) → o < operators → inRange (figureStage (o * 24)) ≡ true
-          → Leads (figureStage (o * 24)) (inTurn years (λ (y : ℕ). inTurn figureCount (calls o y))) (figureStage (suc o * 24))
+      rows : (o : ℕ) → o < operators → inRange (figureStage (o * operatorFigures)) ≡ true
+          → Leads (figureStage (o * operatorFigures)) (inTurn years (λ (y : ℕ). inTurn figureCount (calls o y))) (figureStage (suc o * operatorFigures))
       rows o lo here =
-          let first : o * 24 + 0 ≡ o * 24 = omega arith in
-          let last : o * 24 + 24 ≡ suc o * 24 = omega arith in
+          let first : o * operatorFigures + 0 ≡ o * operatorFigures = omega arith in
+          let last : o * operatorFigures + operatorFigures ≡ suc o * operatorFigures = omega arith in
           rw (first, last) at
-          (leads-rows years figureCount (calls o) (λ (k : ℕ). figureStage (o * 24 + k)) (rw first here)
+          (leads-rows years figureCount (calls o) (λ (k : ℕ). figureStage (o * operatorFigures + k)) (rw first here)
           (λ y f ly lf there.
-          let place : o * 24 + (y * 8 + f) ≡ (o * 3 + y) * 8 + f = omega arith in
-          let next : o * 24 + suc (y * 8 + f) ≡ suc ((o * 3 + y) * 8 + f) = omega arith in
+          let place : o * operatorFigures + (y * figureCount + f) ≡ (o * years + y) * figureCount + f = omega arith in
+          let next : o * operatorFigures + suc (y * figureCount + f) ≡ suc ((o * years + y) * figureCount + f) = omega arith in
           rw (place, next) (figure-step o y f lo ly lf (rw place at there))))
 
   -- marks, operator by operator, indicator by indicator: of the first operators as the book has them, of the others as their joins set them
@@ -179,7 +179,7 @@ module _ (b : Book) (ranged : inRange b ≡ true) where
   markStage : ℕ → ℕ → Book
   markStage o i = bookWith (b .joined) (mix i (partMarks (suc o)) (partMarks o)) (b .settings) (b .figures) 0 0 freshIndices
 
-  part-long : (o : ℕ) → length (partMarks o) ≡ 6
+  part-long : (o : ℕ) → length (partMarks o) ≡ indicatorCount
   unfolding partMarks
   part-long o = length-map (b .marks) (λ (mask : ℕ). mixBits o mask (b .joined)) ∙ bounds .marks-long
 
@@ -226,29 +226,29 @@ module _ (b : Book) (ranged : inRange b ≡ true) where
   marksBook : ℕ → Book
   marksBook o = bookWith (b .joined) (partMarks o) (b .settings) (b .figures) 0 0 freshIndices
 
-  marks-lead : inRange (marksBook 0) ≡ true → Leads (marksBook 0) (markCalls b) (marksBook 16)
+  marks-lead : inRange (marksBook 0) ≡ true → Leads (marksBook 0) (markCalls b) (marksBook operators)
   unfolding markCalls marksBook markStage
   marks-lead in-range = leads-turns operators _ marksBook in-range row
     where
       row : (o : ℕ) → o < operators → inRange (marksBook o) ≡ true
           → Leads (marksBook o) (inTurn indicatorCount (λ (i : ℕ). cond (isJoined b o && not (isMarked b o i)) (Mark o i 0 ∷ []) [])) (marksBook (suc o))
       row o lo here =
-          rw (mix-all 6 (partMarks (suc o)) (partMarks o) (part-long (suc o)) (part-long o)) at
+          rw (mix-all indicatorCount (partMarks (suc o)) (partMarks o) (part-long (suc o)) (part-long o)) at
           (leads-turns indicatorCount _ (markStage o) here (λ i li there. mark-step o i lo li there))
 
   part-none : partMarks 0 ≡ joinedMarks (b .joined)
   part-none =
       ext-getD 0 (partMarks 0) (joinedMarks (b .joined)) (part-long 0)
       (λ i lt.
-      let li : i < 6 = rw (part-long 0) at lt in
-      part-at 0 i li ∙ mix-no-bits (getD (b .marks) i 0) (b .joined) ∙ sym (getD-replicate {A = ℕ} 6 i (b .joined) 0 li))
+      let li : i < indicatorCount = rw (part-long 0) at lt in
+      part-at 0 i li ∙ mix-no-bits (getD (b .marks) i 0) (b .joined) ∙ sym (getD-replicate {A = ℕ} indicatorCount i (b .joined) 0 li))
 
-  part-all : partMarks 16 ≡ b .marks
+  part-all : partMarks operators ≡ b .marks
   part-all =
-      ext-getD 0 (partMarks 16) (b .marks) (part-long 16 ∙ sym (bounds .marks-long))
+      ext-getD 0 (partMarks operators) (b .marks) (part-long operators ∙ sym (bounds .marks-long))
       (λ i lt.
-      let li : i < 6 = rw (part-long 16) at lt in
-      part-at 16 i li ∙ mix-all-bits 16 (getD (b .marks) i 0) (b .joined) (bounds .marks-small i li) (bounds .joined-small))
+      let li : i < indicatorCount = rw (part-long operators) at lt in
+      part-at operators i li ∙ mix-all-bits operators (getD (b .marks) i 0) (b .joined) (bounds .marks-small i li) (bounds .joined-small))
 
   -- indices, place by place
   indexStage : ℕ → Book
@@ -277,17 +277,17 @@ module _ (b : Book) (ranged : inRange b ≡ true) where
           (index-accepted (indexStage k) k value lt (bounds .index k lt .0) (bounds .index k lt .1)
           ∙ rw (mix-set (b .indices) freshIndices long k inside) refl)
 
-  indices-lead : inRange (indexStage 0) ≡ true → Leads (indexStage 0) (indexCalls b) (indexStage 4)
+  indices-lead : inRange (indexStage 0) ≡ true → Leads (indexStage 0) (indexCalls b) (indexStage indexCount)
   unfolding indexCalls
   indices-lead in-range = leads-turns indexCount _ indexStage in-range index-step
 
   -- rates, if either is not 0
-  rates-lead : inRange (indexStage 4) ≡ true → Leads (indexStage 4) (rateCalls b) b
+  rates-lead : inRange (indexStage indexCount) ≡ true → Leads (indexStage indexCount) (rateCalls b) b
   unfolding rateCalls indexStage
   rates-lead in-range = rw same (go (eqb (b .«pot_rate») 0 && eqb (b .«cap_rate») 0) refl)
     where
-      same : mix 4 (b .indices) freshIndices ≡ b .indices
-      same = mix-all 4 (b .indices) freshIndices (bounds .indices-long) refl
+      same : mix indexCount (b .indices) freshIndices ≡ b .indices
+      same = mix-all indexCount (b .indices) freshIndices (bounds .indices-long) refl
 
       before : Book
       before = bookWith (b .joined) (b .marks) (b .settings) (b .figures) 0 0 (b .indices)
@@ -306,8 +306,8 @@ module _ (b : Book) (ranged : inRange b ≡ true) where
   pub written-leads : Leads freshBook (writtenCalls b) b
   unfolding writtenCalls settingStage figureStage marksBook indexStage
   written-leads =
-      let settings-all = mix-all 48 (b .settings) noSettings (bounds .settings-long) refl in
-      let figures-all = mix-all 384 (b .figures) noFigures (bounds .figures-long) refl in
+      let settings-all = mix-all settingPlaces (b .settings) noSettings (bounds .settings-long) refl in
+      let figures-all = mix-all figurePlaces (b .figures) noFigures (bounds .figures-long) refl in
       let joins = joins-lead in
       let settings = rw settings-all at (settings-lead (stays-ranged joins)) in
       let figures = rw figures-all at (figures-lead (stays-ranged settings)) in

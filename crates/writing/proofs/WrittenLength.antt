@@ -1,4 +1,4 @@
--- The calls that a book in range is written as fit their bytes, and their filing has at most 7,067 bytes.
+-- The calls that a book in range is written as fit their bytes, and their filing has at most so many bytes as the law says.
 -- Assumes nothing.
 use Prim.Native.Nat.{ℕ, zero, suc, _+_, _*_, _≤_, _<_}
 use mathlib.Core.Path.{_≡_, refl, sym, ap, _∙_}
@@ -16,6 +16,7 @@ use Rattle.book.specs.Book.{isJoined, isMarked, settingOf, figureOf, indexOf, m
 use Rattle.book.proofs.Bounds.{Bounds, bounded}
 use Rattle.fields.specs.Encoding.{inBytes, fieldOf, encoded, FitsBytes}
 use Rattle.writing.specs.Written.{inTurn, joinCalls, settingCalls, amountCalls, markCalls, indexCalls, rateCalls, writtenCalls, filingOf}
+use Rattle.writing.specs.Laws.{writtenMost}
 use Rattle.writing.proofs.ReadBack.{AllFit}
 
 -- calls that fit their bytes, and a filing of at most so many bytes
@@ -77,33 +78,33 @@ module _ (b : Book) (ranged : inRange b ≡ true) where
   bounds : Bounds b
   bounds = bounded b ranged
 
-  joins-small : Small (joinCalls b) 64
+  joins-small : Small (joinCalls b) (operators * 4)
   unfolding joinCalls encoded fieldOf inBytes
   joins-small = small-turns operators _ 4 (λ o lo. small-if (isJoined b o) (Join o) 4 tt (omega arith))
 
-  settings-small : Small (settingCalls b) 624
+  settings-small : Small (settingCalls b) (operators * (settingCount * 13))
   unfolding settingCalls encoded fieldOf inBytes most
   settings-small =
-      small-turns operators _ 39
+      small-turns operators _ (settingCount * 13)
       (λ o lo. small-turns settingCount _ 13
       (λ w lw. small-unless (eqb (settingOf b o w) 0) (Setting o w (settingOf b o w)) 13
       (omega (arith, within (isJoined b o) (settingLimit w) (settingOf b o w) (bounds .setting o w lo lw), setting-most w)) (omega arith)))
 
-  amounts-small : Small (amountCalls b) 5760
+  amounts-small : Small (amountCalls b) (operators * (years * (figureCount * 15)))
   unfolding amountCalls encoded fieldOf inBytes most
   amounts-small =
-      small-turns operators _ 360
-      (λ o lo. small-turns years _ 120
+      small-turns operators _ (years * (figureCount * 15))
+      (λ o lo. small-turns years _ (figureCount * 15)
       (λ y ly. small-turns figureCount _ 15
       (λ f lf. small-unless (eqb (figureOf b o y f) 0) (Amount o y f 0 (figureOf b o y f)) 15
       (omega (arith, within (isJoined b o) figureLimit (figureOf b o y f) (bounds .figure o y f lo ly lf))) (omega arith))))
 
-  marks-small : Small (markCalls b) 576
+  marks-small : Small (markCalls b) (operators * (indicatorCount * 6))
   unfolding markCalls encoded fieldOf inBytes
   marks-small =
-      small-turns operators _ 36 (λ o lo. small-turns indicatorCount _ 6 (λ i li. small-if (isJoined b o && not (isMarked b o i)) (Mark o i 0) 6 tt (omega arith)))
+      small-turns operators _ (indicatorCount * 6) (λ o lo. small-turns indicatorCount _ 6 (λ i li. small-if (isJoined b o && not (isMarked b o i)) (Mark o i 0) 6 tt (omega arith)))
 
-  indices-small : Small (indexCalls b) 32
+  indices-small : Small (indexCalls b) (indexCount * 8)
   unfolding indexCalls encoded fieldOf inBytes
   indices-small =
       small-turns indexCount _ 8
@@ -115,7 +116,7 @@ module _ (b : Book) (ranged : inRange b ≡ true) where
       small-unless (eqb (b .«pot_rate») 0 && eqb (b .«cap_rate») 0) (Rates (b .«pot_rate») (b .«cap_rate»)) 11
       (omega (arith, bounds .pot-rate), omega (arith, bounds .cap-rate)) (omega arith)
 
-  pub written-small : Small (writtenCalls b) 7067
+  pub written-small : Small (writtenCalls b) writtenMost
   unfolding writtenCalls
   written-small =
       small-then (small-then (small-then (small-then (small-then joins-small settings-small) amounts-small) marks-small) indices-small) rates-small

@@ -1,12 +1,13 @@
 -- What holds of the written filing of every book in range. Proofs: proofs/ReadBack.antt, proofs/WrittenLength.antt.
 -- Assumes nothing.
-use Prim.Native.Nat.{_≤_}
+use Prim.Native.Nat.{ℕ, _≤_}
 use mathlib.Core.Path.{_≡_}
 use mathlib.Core.Logic.{_↔_}
 use mathlib.Core.Bool.{true, false}
 use mathlib.Core.List.{List, [], _∷_}
 use lib.ListN.{length, replicate}
 use Rattle.book.specs.declared.Book.{Book}
+use Rattle.calls.specs.Limits.{indicatorCount, indexCount, settingPlaces, figurePlaces}
 use Rattle.calls.specs.Answers.{Said, accepted, isRefused, Acceptance, yes-said}
 use Rattle.book.specs.Book.{bookWith, freshBook, inRange}
 use Rattle.ledger.specs.Calls.{filedBook, filedAnswers}
@@ -18,6 +19,10 @@ abbrev pub NoneRefused : List (Said Acceptance) → Type 0
 NoneRefused [] = Unit {0}
 NoneRefused (answer ∷ rest) = (isRefused answer ≡ false) × NoneRefused rest
 
+-- "at most 7,067 bytes"
+abbrev pub writtenMost : ℕ
+writtenMost = 7067
+
 pub record WrittenOut (b : Book) (ranged : inRange b ≡ true) : Type 0 where
   -- filing the written calls one by one, none is refused, and they lead to the book
   pub filed : filedBook freshBook (writtenCalls b) ≡ b
@@ -26,14 +31,13 @@ pub record WrittenOut (b : Book) (ranged : inRange b ≡ true) : Type 0 where
   pub read-back : read freshBook (written b) ≡ reading b (length (writtenCalls b)) (length (written b)) (accepted yes-said)
   -- two books are equal exactly when their written filings are the same bytes
   pub told-apart : (other : Book) → inRange other ≡ true → (b ≡ other) ↔ (written b ≡ written other)
-  -- "at most 7,067 bytes"
-  pub most : length (written b) ≤ 7067
+  pub most : length (written b) ≤ writtenMost
 
 -- a book with every value filed, none of them fresh, and every mark cleared
 abbrev pub fullest : Book
-fullest = bookWith 65535 (replicate 6 0) (replicate 48 1) (replicate 384 1) 1 1 (replicate 4 10001)
+fullest = bookWith 65535 (replicate indicatorCount 0) (replicate settingPlaces 1) (replicate figurePlaces 1) 1 1 (replicate indexCount 10001)
 
 -- it is in range, and needs exactly that many
 pub record Fullest : Type 0 where
   pub ranged : inRange fullest ≡ true
-  pub exact : length (written fullest) ≡ 7067
+  pub exact : length (written fullest) ≡ writtenMost

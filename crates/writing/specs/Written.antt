@@ -7,6 +7,7 @@ use lib.Dec.{eqb}
 use Rattle.book.specs.declared.Book.{Book}
 use Rattle.calls.specs.declared.Call.{Call}
 use Rattle.calls.specs.declared.Call.the-variants.{Join, Setting, Amount, Mark, Rates, Index}
+use Rattle.calls.specs.Call.{joinMarks}
 use Rattle.calls.specs.Limits.{operators, years, figureCount, settingCount, indicatorCount, indexCount, freshIndex}
 use Rattle.book.specs.Book.{isJoined, isMarked, settingOf, figureOf, indexOf}
 use Rattle.fields.specs.Encoding.{encoded}
@@ -40,7 +41,7 @@ module _ (b : Book) where
   unfoldable pub markCalls : List Call
   markCalls =
       inTurn operators (λ (operator : ℕ). inTurn indicatorCount (λ (indicator : ℕ).
-      cond (isJoined b operator && not (isMarked b operator indicator)) (Mark operator indicator 0 ∷ []) []))
+      cond (isJoined b operator && (joinMarks indicator && not (isMarked b operator indicator))) (Mark operator indicator 0 ∷ []) []))
 
   unfoldable pub indexCalls : List Call
   indexCalls = inTurn indexCount (λ (number : ℕ). unlessFresh (indexOf b number) freshIndex (Index number (indexOf b number)))

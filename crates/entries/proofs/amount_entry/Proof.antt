@@ -4,6 +4,7 @@ use mathlib.Core.Path.{_≡_, refl}
 use native.Mathlib.Omega.{arith}
 use borrow.Author.Tests.{eq-eqb, ne-eqb}
 use lib.ListN.{getD}
+use Rattle.calls.specs.Limits.{figureCount, operatorFigures}
 use Rattle.book.specs.Book.{figureSlot}
 use Rattle.entries.specs.Entries.{amountAt}
 use Rattle.entries.proofs.EntryLaws.{nothing-there, amount-there}
@@ -34,7 +35,7 @@ returns : tie.Need-returns
 unfolding amountAt
 returns c =
     let place = c .before .before .before .args .place in
-    let at : c .before .before .figure-slot .result ≡ figureSlot (place / 24) (place % 24 / 8) (place % 8) = c .before .before .figure-slot .ensures .0 in
+    let at : c .before .before .figure-slot .result ≡ figureSlot (place / operatorFigures) (place % operatorFigures / figureCount) (place % figureCount) = c .before .before .figure-slot .ensures .0 in
     nothing-there (rw (← at, eq-eqb _ 0 (c .if1 .taken)) refl)
 
 mul-t16 : tie.Need-mul-t16
@@ -60,7 +61,7 @@ unfolding amountAt
 returns-2 c =
     let place = c .before .before .before .args .place in
     let figures = c .before .before .before .args .figures .now in
-    amount-there (place / 24) (omega arith) {calls = amountAt figures place} (place % 24 / 8) (place % 8) (getD figures (c .before .before .figure-slot .result) 0) (omega arith) (omega arith) (rw (← c .before .before .figure-slot .ensures .0, ne-eqb _ 0 (c .if1 .left)) refl)
+    amount-there (place / operatorFigures) (omega arith) {calls = amountAt figures place} (place % operatorFigures / figureCount) (place % figureCount) (getD figures (c .before .before .figure-slot .result) 0) (omega arith) (omega arith) (rw (← c .before .before .figure-slot .ensures .0, ne-eqb _ 0 (c .if1 .left)) refl)
 
 pub amount-entry-spec : {M : Type 1} → statement M
 amount-entry-spec =

@@ -6,6 +6,7 @@ use mathlib.Core.List.{List, [], _∷_}
 use native.Mathlib.Omega.{arith}
 use Rattle.calls.specs.declared.Call.{Call}
 use Rattle.calls.specs.declared.Call.the-variants.{Mark}
+use Rattle.calls.specs.Limits.{indicatorCount}
 use Rattle.calls.proofs.Flags.{denied, granted}
 use Rattle.entries.specs.Entries.{markAt}
 use Rattle.entries.proofs.EntryLaws.{nothing-there, mark-there}
@@ -16,7 +17,7 @@ use Rattle.entries.proofs.mark_entry.Tie as tie
 
 -- the calls at a place, by whether its mark is cleared
 abbrev written-if : ℕ → Bool → List Call
-written-if place cleared = cond cleared (Mark (place / 6) (place % 6) 0 ∷ []) []
+written-if place cleared = cond cleared (Mark (place / indicatorCount) (place % indicatorCount) 0 ∷ []) []
 
 mul-is-cleared : tie.Need-mul-is-cleared
 mul-is-cleared c = search needs
@@ -50,7 +51,7 @@ returns-2 : tie.Need-returns-2
 unfolding markAt
 returns-2 c =
     let place = c .before .before .before .args .place in
-    mark-there (place / 6) (omega arith) (place % 6) (omega arith) (ap (written-if place) (granted (c .before .is-cleared .ensures) (c .if1 .left)))
+    mark-there (place / indicatorCount) (omega arith) (place % indicatorCount) (omega arith) (ap (written-if place) (granted (c .before .is-cleared .ensures) (c .if1 .left)))
 
 pub mark-entry-spec : {M : Type 1} → statement M
 mark-entry-spec =

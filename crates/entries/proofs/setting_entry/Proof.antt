@@ -3,6 +3,7 @@
 use mathlib.Core.Path.{refl}
 use native.Mathlib.Omega.{arith}
 use borrow.Author.Tests.{eq-eqb, ne-eqb}
+use Rattle.calls.specs.Limits.{settingCount}
 use Rattle.entries.specs.Entries.{settingAt}
 use Rattle.entries.proofs.EntryLaws.{nothing-there, setting-there}
 use Prim.Native.Nat.{_/_, _%_}
@@ -39,7 +40,7 @@ returns-2 : tie.Need-returns-2
 unfolding settingAt
 returns-2 c =
     let place = c .before .before .before .args .place in
-    setting-there (place / 3) (omega arith) (place % 3) _ (omega arith) (rw (← c .before .before .setting-slot .ensures .0, ne-eqb _ 0 (c .if1 .left)) refl)
+    setting-there (place / settingCount) (omega arith) (place % settingCount) _ (omega arith) (rw (← c .before .before .setting-slot .ensures .0, ne-eqb _ 0 (c .if1 .left)) refl)
 
 pub setting-entry-spec : {M : Type 1} → statement M
 setting-entry-spec =

@@ -2,16 +2,17 @@
 -- Assumes nothing.
 use Prim.Native.Nat.{_-_, _≤_}
 use native.Mathlib.Omega.{arith}
+use Rattle.calls.specs.Limits.{figurePlaces}
 use Rattle.settle_many.proofs.figures.Statement.{statement}
 use Rattle.settle_many.proofs.figures.Tie as tie
 use Rattle.settle_many.proofs.figures.Reads as reads
 use Rattle.settle_many.proofs.figures.Lts as lts
 
 abbrev Inv-loop : tie.InvT-loop
-Inv-loop list₀ i₀ list i = i ≤ 384
+Inv-loop list₀ i₀ list i = i ≤ figurePlaces
 
 abbrev μ-loop : tie.MeasureT-loop
-μ-loop list₀ i₀ list i = 384 - i
+μ-loop list₀ i₀ list i = figurePlaces - i
 
 loop-holds : tie.Need-loop-holds Inv-loop μ-loop
 loop-holds c = omega arith

@@ -8,7 +8,7 @@ use native.Mathlib.Omega.{arith}
 use lib.Dec.{leb}
 use lib.ListN.{getD}
 use borrow.Author.Tests.{lt-leb, le-leb}
-use Rattle.calls.specs.Limits.{figureLimit}
+use Rattle.calls.specs.Limits.{figurePlaces, operatorFigures, figureLimit}
 use Rattle.calls.specs.Masks.{has}
 use mathlib.Core.Bool.{cond}
 use borrow.Author.Count.{below-more}
@@ -17,10 +17,10 @@ use Rattle.book.proofs.range.figures_in_range.Statement.{statement}
 use Rattle.book.proofs.range.figures_in_range.Tie as tie
 
 abbrev Inv-loop : tie.InvT-loop
-Inv-loop joined figures i₀ i = (i ≤ 384) × ((k : ℕ) → k < i → leb (getD figures k 0) (cond (has joined (k / 24)) figureLimit 0) ≡ true)
+Inv-loop joined figures i₀ i = (i ≤ figurePlaces) × ((k : ℕ) → k < i → leb (getD figures k 0) (cond (has joined (k / operatorFigures)) figureLimit 0) ≡ true)
 
 abbrev μ-loop : tie.MeasureT-loop
-μ-loop joined figures i₀ i = 384 - i
+μ-loop joined figures i₀ i = figurePlaces - i
 
 loop-holds : tie.Need-loop-holds Inv-loop μ-loop
 loop-holds c = (omega arith, λ k lt. absurd (omega (arith, lt)))

@@ -6,6 +6,7 @@ use mathlib.Core.Bool.{true, not, _&&_, _||_}
 use Prim.Native.Nat.{ℕ, _-_, _/_, _%_, _≤_, _<_}
 use native.Mathlib.Omega.{arith}
 use lib.ListN.{getD}
+use Rattle.calls.specs.Limits.{markPlaces}
 use Rattle.calls.specs.Masks.{has}
 use Rattle.book.specs.Book.{hasSixteenBits}
 use Rattle.calls.proofs.Flags.{denied, granted}
@@ -15,10 +16,10 @@ use Rattle.book.proofs.range.marks_in_range.Statement.{statement}
 use Rattle.book.proofs.range.marks_in_range.Tie as tie
 
 abbrev Inv-loop : tie.InvT-loop
-Inv-loop joined marks i₀ i = (i ≤ 96) × ((k : ℕ) → k < i → hasSixteenBits (getD marks (k / 16) 0) && (not (has (getD marks (k / 16) 0) (k % 16)) || has joined (k % 16)) ≡ true)
+Inv-loop joined marks i₀ i = (i ≤ markPlaces) × ((k : ℕ) → k < i → hasSixteenBits (getD marks (k / 16) 0) && (not (has (getD marks (k / 16) 0) (k % 16)) || has joined (k % 16)) ≡ true)
 
 abbrev μ-loop : tie.MeasureT-loop
-μ-loop joined marks i₀ i = 96 - i
+μ-loop joined marks i₀ i = markPlaces - i
 
 loop-holds : tie.Need-loop-holds Inv-loop μ-loop
 loop-holds c = (omega arith, λ k lt. absurd (omega (arith, lt)))

@@ -11,16 +11,16 @@ use borrow.Author.Tests.{lt-leb, le-leb}
 use Rattle.calls.specs.Masks.{has}
 use mathlib.Core.Bool.{cond}
 use borrow.Author.Count.{below-more}
-use Rattle.calls.specs.Limits.{settingLimit}
+use Rattle.calls.specs.Limits.{settingCount, settingPlaces, settingLimit}
 use Rattle.book.proofs.FlatRange.{settings-hold, settings-fail}
 use Rattle.book.proofs.range.settings_in_range.Statement.{statement}
 use Rattle.book.proofs.range.settings_in_range.Tie as tie
 
 abbrev Inv-loop : tie.InvT-loop
-Inv-loop joined settings i₀ i = (i ≤ 48) × ((k : ℕ) → k < i → leb (getD settings k 0) (cond (has joined (k / 3)) (settingLimit (k % 3)) 0) ≡ true)
+Inv-loop joined settings i₀ i = (i ≤ settingPlaces) × ((k : ℕ) → k < i → leb (getD settings k 0) (cond (has joined (k / settingCount)) (settingLimit (k % settingCount)) 0) ≡ true)
 
 abbrev μ-loop : tie.MeasureT-loop
-μ-loop joined settings i₀ i = 48 - i
+μ-loop joined settings i₀ i = settingPlaces - i
 
 loop-holds : tie.Need-loop-holds Inv-loop μ-loop
 loop-holds c = (omega arith, λ k lt. absurd (omega (arith, lt)))

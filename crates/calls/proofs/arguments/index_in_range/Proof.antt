@@ -2,6 +2,7 @@
 -- Assumes nothing.
 use native.Mathlib.Omega.{arith}
 use borrow.Author.Tests.{lt-ltb, le-ltb, lt-leb, le-leb}
+use Rattle.calls.specs.Limits.{indexCount, indexLeast}
 use Rattle.calls.specs.Call.{factsOf}
 use Rattle.calls.proofs.arguments.index_in_range.Statement.{statement}
 use Rattle.calls.proofs.arguments.index_in_range.Tie as tie
@@ -9,17 +10,17 @@ use Rattle.calls.proofs.arguments.index_in_range.Tie as tie
 -- no such index
 returns : tie.Need-returns
 unfolding factsOf
-returns c = simp (le-ltb (c .before .args .number) 4 (c .if1 .taken))
+returns c = simp (le-ltb (c .before .args .number) indexCount (c .if1 .taken))
 
 -- below the least
 returns-2 : tie.Need-returns-2
 unfolding factsOf
-returns-2 c = simp (lt-ltb (c .before .before .args .number) 4 (omega arith), lt-leb 1 (c .before .before .args .value) (c .if2 .taken))
+returns-2 c = simp (lt-ltb (c .before .before .args .number) indexCount (omega arith), lt-leb indexLeast (c .before .before .args .value) (c .if2 .taken))
 
 -- the most decides
 returns-3 : tie.Need-returns-3
 unfolding factsOf
-returns-3 c = simp (lt-ltb (c .before .before .args .number) 4 (omega arith), le-leb 1 (c .before .before .args .value) (omega arith))
+returns-3 c = simp (lt-ltb (c .before .before .args .number) indexCount (omega arith), le-leb indexLeast (c .before .before .args .value) (omega arith))
 
 pub index-in-range-spec : {M : Type 1} → statement M
 index-in-range-spec = tie.close (tie.spec returns returns-2 returns-3)

@@ -6,7 +6,8 @@ use native.Mathlib.Omega.{arith}
 use lib.ListN.{getD, take, drop}
 use Rattle.calls.proofs.Flags.{denied, granted}
 use Rattle.calls.specs.Answers.{accepted}
-use Rattle.fields.specs.Field.{tagged, call-then}
+use Rattle.contents.specs.Content.{tagged}
+use Rattle.fields.specs.Field.{call-then}
 use Rattle.fields.proofs.FieldLaws.{ends, no-length, passes-end, unknown-tag, wrong-length, filed}
 use borrow.Author.Needs.{needs}
 use Rattle.fields.proofs.fields.field_at.Statement.{statement}

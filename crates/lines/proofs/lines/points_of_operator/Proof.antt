@@ -3,16 +3,17 @@
 use Prim.Native.Nat.{_-_, _≤_}
 use native.Mathlib.Omega.{arith}
 use borrow.Author.Needs.{needs}
+use Rattle.calls.specs.Limits.{indicatorCount}
 use Rattle.lines.specs.Lines.{pointsOfOperator}
 use Rattle.lines.proofs.SumLaws.{Summing, summing-none, summing-most, summing-more, summing-all, operatorsPoints, six, point-at, points-most}
 use Rattle.lines.proofs.lines.points_of_operator.Statement.{statement}
 use Rattle.lines.proofs.lines.points_of_operator.Tie as tie
 
 abbrev Inv-loop : tie.InvT-loop
-Inv-loop operator points t₀ number₀ t number = (number ≤ 6) × Summing (operatorsPoints points operator) number t
+Inv-loop operator points t₀ number₀ t number = (number ≤ indicatorCount) × Summing (operatorsPoints points operator) number t
 
 abbrev μ-loop : tie.MeasureT-loop
-μ-loop operator points t₀ number₀ t number = 6 - number
+μ-loop operator points t₀ number₀ t number = indicatorCount - number
 
 loop-holds : tie.Need-loop-holds Inv-loop μ-loop
 loop-holds c = (omega arith, summing-none _)

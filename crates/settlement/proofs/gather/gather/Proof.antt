@@ -3,6 +3,7 @@
 use mathlib.Core.Path.{_≡_}
 use Prim.Native.Nat.{_-_, _≤_}
 use native.Mathlib.Omega.{arith}
+use Rattle.calls.specs.Limits.{indicatorCount}
 use Rattle.book.specs.declared.Book.{Book}
 use Rattle.values.specs.Parts.{HasMarks, HasMeasures}
 use Rattle.values.proofs.InRange.{lending, lending-marked, lending-measured}
@@ -12,10 +13,10 @@ use Rattle.settlement.proofs.gather.gather.Tie as tie
 
 abbrev Inv-loop : tie.InvT-loop
 Inv-loop joined marks settings figures indices g₀ number₀ g number =
-    (number ≤ 6) × ((b : Book) → HasMarks b joined marks → HasMeasures b settings figures indices → Gathers b number g)
+    (number ≤ indicatorCount) × ((b : Book) → HasMarks b joined marks → HasMeasures b settings figures indices → Gathers b number g)
 
 abbrev μ-loop : tie.MeasureT-loop
-μ-loop joined marks settings figures indices g₀ number₀ g number = 6 - number
+μ-loop joined marks settings figures indices g₀ number₀ g number = indicatorCount - number
 
 loop-holds : tie.Need-loop-holds Inv-loop μ-loop
 loop-holds c = (omega arith, λ b marked measured. gathers-none b)
@@ -47,7 +48,7 @@ loop-again c =
 returns : tie.Need-returns Inv-loop μ-loop
 returns c =
     let here = c .before .loop in
-    let last : here .number ≡ 6 = omega arith in
+    let last : here .number ≡ indicatorCount = omega arith in
     λ b marked measured. gathers-all b (here .g) (rw last at (here .inv .1 b marked measured))
 
 pub gather-spec : {M : Type 1} → statement M

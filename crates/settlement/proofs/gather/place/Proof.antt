@@ -7,6 +7,7 @@ use native.Mathlib.Omega.{arith}
 use lib.ListN.{length}
 use lib.Seq.{paste, paste-zero, paste-suc}
 use native.Mathlib.Numerals.{add-one}
+use Rattle.settlement.specs.Settlement.{pointPlaces}
 use Rattle.settlement.proofs.gather.place.Statement.{statement}
 use Rattle.settlement.proofs.gather.place.Tie as tie
 
@@ -44,7 +45,7 @@ loop-again : tie.Need-loop-again Inv-loop μ-loop
 loop-again c =
     let begun = c .before .before in
     let here = c .before .loop in
-    let long : length (begun .args .list) ≡ 96 = search needs in
+    let long : length (begun .args .list) ≡ pointPlaces = search needs in
     let sixteen : length (begun .args .t3) ≡ 16 = search needs in (
       omega arith,
       rw (here .inv .1, add-one) (paste-suc (begun .args .list) (begun .args .at) (begun .args .t3) (here .i) 0 (omega arith) (omega arith)),

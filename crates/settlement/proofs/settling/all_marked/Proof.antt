@@ -6,6 +6,7 @@ use Prim.Native.Nat.{ℕ, _+_, _-_, _≤_, _<_}
 use native.Mathlib.Omega.{arith}
 use borrow.Author.Tests.{eq-eqb, ne-eqb}
 use lib.Dec.{eqb}
+use Rattle.calls.specs.Limits.{indicatorCount}
 use Rattle.book.specs.declared.Book.{Book}
 use Rattle.book.specs.Book.{inRange}
 use Rattle.settlement.specs.Settlement.{allMarked}
@@ -21,17 +22,17 @@ use Rattle.settlement.proofs.settling.all_marked.Tie as tie
 
 abbrev Inv-loop : tie.InvT-loop
 Inv-loop joined marks number₀ number =
-    (number ≤ 6) × ((b : Book) → inRange b ≡ true → HasMarks b joined marks → allMarked b (drop number electricity) ≡ allMarked b electricity)
+    (number ≤ indicatorCount) × ((b : Book) → inRange b ≡ true → HasMarks b joined marks → allMarked b (drop number electricity) ≡ allMarked b electricity)
 
 abbrev μ-loop : tie.MeasureT-loop
-μ-loop joined marks number₀ number = 6 - number
+μ-loop joined marks number₀ number = indicatorCount - number
 
 -- the next indicator, and those after it
-next : (n : ℕ) → n < 6 → drop n electricity ≡ numbered n ∷ drop (n + 1) electricity
+next : (n : ℕ) → n < indicatorCount → drop n electricity ≡ numbered n ∷ drop (n + 1) electricity
 unfolding electricity numbered
 next n lt = rw add-one (drop-cons electricity n _ lt)
 
-more : (b : Book) → inRange b ≡ true → (n : ℕ) → n < 6
+more : (b : Book) → inRange b ≡ true → (n : ℕ) → n < indicatorCount
     → allMarked b (drop n electricity) ≡ eqb (reliableMask b (numbered n)) 0 && allMarked b (drop (n + 1) electricity)
 more b ranged n lt = ap (allMarked b) (next n lt) ∙ marked-more b ranged (numbered n) (drop (n + 1) electricity)
 
@@ -68,7 +69,7 @@ returns-2 : tie.Need-returns-2 Inv-loop μ-loop
 unfolding electricity
 returns-2 c = λ b ranged marked.
     let here = c .before .loop in
-    let last : here .number ≡ 6 = omega arith in
+    let last : here .number ≡ indicatorCount = omega arith in
     sym (marked-none b) ∙ (rw last at (here .inv .1 b ranged marked))
 
 pub all-marked-spec : {M : Type 1} → statement M

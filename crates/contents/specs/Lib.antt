@@ -1,0 +1,2 @@
+-- The definitions of `contents`.
+pub mod Content

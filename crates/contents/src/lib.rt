@@ -1,0 +1,8 @@
+// The content of a field: its numbers, and the call that a tag's content gives.
+mod contents;
+mod numbers;
+
+pub use contents::call_at;
+pub use contents::content_size;
+pub use contents::is_known;
+pub use numbers::unsigned_at;
