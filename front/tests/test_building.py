@@ -217,5 +217,5 @@ class RealTree(InFolder):
         crates = building.needed(ROOT, "quality")
         self.assertEqual(crates[-1], "quality")
         self.assertTrue({"exact", "calls", "output", "load"} <= set(crates))
-        self.assertFalse({"io", "writing", "book_test"} & set(crates))
+        self.assertFalse({"io", "writing", "replay"} & set(crates))
         self.assertIsNone(building.reason_to_build(ROOT, PROGRAM, crates), "rt check quality builds it")
