@@ -28,9 +28,7 @@ hold() { # SUBCOMMAND FILE
 hold product crates/exact_test/stdout
 hold share crates/apportion_test/stdout
 hold walk crates/walker_test/stdout
-hold calls crates/book_test/stdout
-# the calls with the book lent are held to the same output
-cmp crates/book_test/stdout crates/lent_test/stdout
+hold calls crates/replay/stdout
 cmp <("$model" table) crates/exponent_test/stdout
 echo "model: $(wc -l <crates/exponent_test/stdout) weights of crates/exponent_test/stdout agree"
 

@@ -274,7 +274,7 @@ class RealTree(InFolder):
         crates = building.needed(ROOT, "quality")
         self.assertEqual(crates[-1], "quality")
         self.assertTrue({"exact", "calls", "output", "load"} <= set(crates))
-        self.assertFalse({"io", "writing", "book_test"} & set(crates))
+        self.assertFalse({"io", "writing", "replay"} & set(crates))
         for name in ("quality", "rewrite", "outcomes"):
             why = building.reason_to_build(ROOT, PROGRAM.with_name(name), building.needed(ROOT, name))
             self.assertIsNone(why, "tests/front.sh brings it up to date")

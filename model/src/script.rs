@@ -1,25 +1,26 @@
 //! The text commands of the subcommands `calls` and `encode`: filing calls, raw
 //! values put into the book, and the book or its settlement printed on one line.
 
-use crate::book::{joined, Book, Operator, FIGURES, INDICATORS, INDICES, OPERATORS, YEARS};
+use crate::book::{Book, Operator, FIGURES, INDICATORS, INDICES, OPERATORS, YEARS};
 use crate::calls::{Answer, Interruption, Reason};
 use crate::filing::{self, Field};
 use crate::numbers::{number, signed_number};
-use crate::settlement::{self, Settlement};
+use crate::settlement;
 use std::fmt::Display;
 
-/// Answer to one command; filing calls, `fresh` and `store` alter the book.
+/// Answer to one command; filing calls, `fresh` and `store` alter the book. These
+/// two and `show` answer with the whole book.
 pub fn answer(book: &mut Book, line: &str) -> Result<String, String> {
     let words: Vec<&str> = line.split(' ').collect();
     match words[0] {
         "fresh" => {
             let [] = after(&words)?;
             *book = Book::fresh();
-            Ok("fresh".to_string())
+            Ok(show(book))
         }
         "store" => {
             store(book, &words)?;
-            Ok("stored".to_string())
+            Ok(show(book))
         }
         "show" => {
             let [] = after(&words)?;
@@ -196,58 +197,48 @@ fn place(word: &str, count: usize) -> Result<usize, String> {
 
 // What is shown.
 
-/// The whole book on one line. Of an operator not joined only the marks are
-/// seen, as bits of their masks.
+/// The whole book on one line: the joined operators, pot rate and cap rate, then
+/// as lists the marks by indicator, the indices, and by operator the settings and
+/// the figures.
 fn show(book: &Book) -> String {
-    let operators: String = joined(&book.operators)
-        .into_iter()
-        .map(|k| show_operator(k, &book.operators[k]))
-        .collect();
-    format!(
-        "joined {} marks{} rates {} {} indices{}{operators}",
-        book.joined_mask(),
-        spaced((0..INDICATORS).map(|indicator| book.mark_mask(indicator))),
-        book.pot_rate,
-        book.cap_rate,
-        spaced(&book.indices)
-    )
+    let operators = &book.operators;
+    let figures = |operator: &Operator| operator.figures.concat();
+    let lists = [
+        list((0..INDICATORS).map(|indicator| book.mark_mask(indicator))),
+        list(&book.indices),
+        list(operators.iter().flat_map(Operator::settings)),
+        list(operators.iter().flat_map(figures)),
+    ];
+    let (joined, pot, cap) = (book.joined_mask(), book.pot_rate, book.cap_rate);
+    format!("{joined} {pot} {cap}{}", lists.concat())
 }
 
-fn show_operator(k: usize, operator: &Operator) -> String {
-    let settings = spaced(operator.settings());
-    let figures = spaced(operator.figures.iter().flatten());
-    format!(" | {k}{settings}{figures}")
-}
-
-/// The settlement of the joined operators on one line, or the refusal.
+/// The answer and the whole settlement on one line: the pot, then as lists the
+/// pools, the points by indicator and operator, contributions, returns, limits and
+/// adjustments.
 fn settle(book: &Book) -> String {
     let (answer, settlement) = settlement::settle(book);
-    if answer != Answer::Yes {
-        return answer_words(answer);
-    }
-    let operators: String = joined(&book.operators)
-        .into_iter()
-        .map(|k| show_settled(k, &settlement))
-        .collect();
-    let pools = spaced(&settlement.points.pools);
-    format!("pot {} pools{pools}{operators}", settlement.money.pot)
+    let (points, money) = (&settlement.points, &settlement.money);
+    let at_indicator = |indicator: usize| points.points.iter().map(move |of| of[indicator]);
+    let lists = [
+        list(&points.pools),
+        list((0..INDICATORS).flat_map(at_indicator)),
+        list(&money.contributions),
+        list(&money.returns),
+        list(&money.limits),
+        list(&money.adjustments),
+    ];
+    format!("{} {}{}", answer_words(answer), money.pot, lists.concat())
 }
 
-fn show_settled(k: usize, settlement: &Settlement) -> String {
-    let points = spaced(&settlement.points.points[k]);
-    let money = &settlement.money;
-    format!(
-        " | {k} points{points} out {} in {} limit {} adjustment {}",
-        money.contributions[k], money.returns[k], money.limits[k], money.adjustments[k]
-    )
-}
-
-/// The numbers in a row, a space before each.
-fn spaced(numbers: impl IntoIterator<Item = impl Display>) -> String {
-    numbers
-        .into_iter()
-        .map(|number| format!(" {number}"))
-        .collect()
+/// The numbers of a list that are not 0, each with its place.
+fn list(numbers: impl IntoIterator<Item = impl Display>) -> String {
+    let shown = |(place, number): (usize, String)| match number.as_str() {
+        "0" => String::new(),
+        _ => format!(" {place}:{number}"),
+    };
+    let numbers = numbers.into_iter().map(|number| number.to_string());
+    format!(" |{}", numbers.enumerate().map(shown).collect::<String>())
 }
 
 fn answer_words(answer: Answer) -> String {
@@ -267,17 +258,20 @@ mod tests {
     use super::*;
     use crate::case_m;
 
-    const FRESH: &str = "joined 0 marks 0 0 0 0 0 0 rates 0 0 indices 10000 10000 10000 10000";
+    const FRESH: &str = "0 0 0 | | 0:10000 1:10000 2:10000 3:10000 | |";
+    /// In place of the answer to a store: the book afterwards.
+    const STORED: &str = "stored";
 
     /// Gives the commands in order to one book and checks each answer.
     fn run(commands: &[(&str, &str)]) -> Book {
         let mut book = Book::fresh();
         for (command, expected) in commands {
-            assert_eq!(
-                answer(&mut book, command),
-                Ok(expected.to_string()),
-                "{command}"
-            );
+            let answer = answer(&mut book, command);
+            let expected = match *expected {
+                STORED => show(&book),
+                answer => answer.to_string(),
+            };
+            assert_eq!(answer, Ok(expected), "{command}");
         }
         book
     }
@@ -310,7 +304,7 @@ mod tests {
             ("amount 0 0 4 1 18446744073709551615", "refused 9"),
             ("amount 0 0 4 0 1", "refused 8"),
             ("amount 0 0 5 1 1", "refused 9"),
-            ("fresh", "fresh"),
+            ("fresh", FRESH),
             ("show", FRESH),
         ]);
     }
@@ -337,10 +331,8 @@ mod tests {
             ("index 3 4", "yes"),
             (
                 "show",
-                "joined 32772 marks 4 32772 32772 32772 32772 32768 rates 5000 10000 \
-                 indices 1 10000 10000 4 \
-                 | 2 7 8 9 11 0 0 0 0 0 0 12 13 0 0 0 0 0 0 0 0 0 0 0 0 0 0 14 \
-                 | 15 0 0 0 0 0 0 0 0 0 0 0 0 0 0 0 0 0 0 0 0 0 0 0 0 0 0 0",
+                "32772 5000 10000 | 0:4 1:32772 2:32772 3:32772 4:32772 5:32768 \
+                 | 0:1 1:10000 2:10000 3:4 | 6:7 7:8 8:9 | 48:11 55:12 56:13 71:14",
             ),
         ]);
     }
@@ -348,16 +340,16 @@ mod tests {
     #[test]
     fn stored_values() {
         let book = run(&[
-            ("store joined 3", "stored"),
-            ("store marks 4 65535", "stored"),
-            ("store cabins 1 18446744073709551615", "stored"),
-            ("store access 1 2", "stored"),
-            ("store income 1 3", "stored"),
-            ("store figure 1 2 7 4", "stored"),
-            ("store figure 14 0 0 5", "stored"),
-            ("store pot 4294967295", "stored"),
-            ("store cap 6", "stored"),
-            ("store index 2 0", "stored"),
+            ("store joined 3", STORED),
+            ("store marks 4 65535", STORED),
+            ("store cabins 1 18446744073709551615", STORED),
+            ("store access 1 2", STORED),
+            ("store income 1 3", STORED),
+            ("store figure 1 2 7 4", STORED),
+            ("store figure 14 0 0 5", STORED),
+            ("store pot 4294967295", STORED),
+            ("store cap 6", STORED),
+            ("store index 2 0", STORED),
             ("rates 0 0", "refused 5"),
             ("join 200", "refused 5"),
         ]);
@@ -379,18 +371,24 @@ mod tests {
     }
 
     #[test]
-    fn only_joined_operators_are_shown() {
-        let zeros = " 0".repeat(24);
-        let indices = "rates 0 0 indices 10000 10000 10000 10000";
-        let marked = format!("joined 0 marks 0 0 0 8 0 0 {indices}");
-        let one = format!("joined 2 marks 0 0 0 8 0 0 {indices} | 1 5 0 0{zeros}");
+    fn all_operators_are_shown() {
         run(&[
-            ("store cabins 1 5", "stored"),
-            ("show", FRESH),
-            ("store marks 3 8", "stored"),
-            ("show", &marked),
-            ("store joined 2", "stored"),
-            ("show", &one),
+            (
+                "store cabins 1 5",
+                "0 0 0 | | 0:10000 1:10000 2:10000 3:10000 | 3:5 |",
+            ),
+            (
+                "store marks 3 8",
+                "0 0 0 | 3:8 | 0:10000 1:10000 2:10000 3:10000 | 3:5 |",
+            ),
+            (
+                "store figure 15 2 7 6",
+                "0 0 0 | 3:8 | 0:10000 1:10000 2:10000 3:10000 | 3:5 | 383:6",
+            ),
+            (
+                "store joined 2",
+                "2 0 0 | 3:8 | 0:10000 1:10000 2:10000 3:10000 | 3:5 | 383:6",
+            ),
         ]);
     }
 
@@ -400,21 +398,19 @@ mod tests {
         let book = run(&commands);
         commands.push((
             "settle",
-            "pot 1500000 pools 46200 37800 19800 16200 6000 1500 \
-             | 0 points 23100 18900 9900 8100 4286 750 out 375000 in 386463 \
-             limit 1000000 adjustment 11463 \
-             | 1 points 23100 18900 9900 8100 1714 750 out 1125000 in 1113537 \
-             limit 2000000 adjustment -11463",
+            "yes 1500000 | 0:46200 1:37800 2:19800 3:16200 4:6000 5:1500 \
+             | 0:23100 1:23100 16:18900 17:18900 32:9900 33:9900 48:8100 49:8100 \
+             64:4286 65:1714 80:750 81:750 | 0:375000 1:1125000 | 0:386463 1:1113537 \
+             | 0:1000000 1:2000000 | 0:11463 1:-11463",
         ));
         assert_eq!(run(&commands), book);
         commands.push(("rates 5000 50", "yes"));
         commands.push((
             "settle",
-            "pot 1500000 pools 46200 37800 19800 16200 6000 1500 \
-             | 0 points 23100 18900 9900 8100 4286 750 out 375000 in 386463 \
-             limit 5000 adjustment 5000 \
-             | 1 points 23100 18900 9900 8100 1714 750 out 1125000 in 1113537 \
-             limit 10000 adjustment -5000",
+            "yes 1500000 | 0:46200 1:37800 2:19800 3:16200 4:6000 5:1500 \
+             | 0:23100 1:23100 16:18900 17:18900 32:9900 33:9900 48:8100 49:8100 \
+             64:4286 65:1714 80:750 81:750 | 0:375000 1:1125000 | 0:386463 1:1113537 \
+             | 0:5000 1:10000 | 0:5000 1:-5000",
         ));
         run(&commands);
     }
@@ -433,9 +429,7 @@ mod tests {
             ("mark 15 5 0", "yes"),
             (
                 "settle",
-                "pot 0 pools 46200 0 0 0 0 750 \
-                 | 2 points 23100 0 0 0 0 0 out 0 in 0 limit 0 adjustment 0 \
-                 | 15 points 23100 0 0 0 0 750 out 0 in 0 limit 0 adjustment 0",
+                "yes 0 | 0:46200 5:750 | 2:23100 15:23100 95:750 | | | |",
             ),
         ]);
     }
@@ -443,23 +437,19 @@ mod tests {
     #[test]
     fn refused_settlements() {
         let book = run(&[
-            ("settle", "refused 10"),
+            ("settle", "refused 10 0 | | | | | |"),
             ("join 3", "yes"),
-            ("settle", "refused 11"),
+            ("settle", "refused 11 0 | | | | | |"),
             ("setting 3 0 1", "yes"),
-            ("settle", "refused 11"),
+            ("settle", "refused 11 0 | | | | | |"),
             ("setting 3 1 1", "yes"),
-            ("settle", "refused 12"),
+            ("settle", "refused 12 0 | | | | | |"),
             ("mark 3 4 0", "yes"),
-            (
-                "settle",
-                "pot 0 pools 0 0 0 0 6000 0 \
-                 | 3 points 0 0 0 0 6000 0 out 0 in 0 limit 0 adjustment 0",
-            ),
+            ("settle", "yes 0 | 4:6000 | 67:6000 | | | |"),
             ("mark 3 4 1", "yes"),
-            ("settle", "refused 12"),
-            ("store index 0 0", "stored"),
-            ("settle", "refused 5"),
+            ("settle", "refused 12 0 | | | | | |"),
+            ("store index 0 0", STORED),
+            ("settle", "refused 5 0 | | | | | |"),
         ]);
         let mut expected = Book::fresh();
         expected.operators[3].joined = true;
@@ -473,18 +463,18 @@ mod tests {
     #[test]
     fn a_book_made_sound_again_is_taken() {
         run(&[
-            ("store pot 20001", "stored"),
+            ("store pot 20001", STORED),
             ("join 0", "refused 5"),
-            ("store pot 20000", "stored"),
+            ("store pot 20000", STORED),
             ("join 0", "yes"),
-            ("store joined 0", "stored"),
+            ("store joined 0", STORED),
             // The marks of the join are left.
             ("index 0 5", "refused 5"),
-            ("store joined 1", "stored"),
+            ("store joined 1", STORED),
             ("index 0 5", "yes"),
-            ("store cabins 1 1", "stored"),
+            ("store cabins 1 1", STORED),
             ("index 0 6", "refused 5"),
-            ("store joined 3", "stored"),
+            ("store joined 3", STORED),
             ("index 0 6", "yes"),
         ]);
     }

@@ -12,8 +12,8 @@ fn run(input: &str) -> (i32, String, String) {
 fn one_book_is_kept_over_the_commands() {
     let input = "# a filing\njoin 0\n\njoin 0\ninterruption 0 0 1 0 0 181 1\nshow\nfresh\njoin 0";
     let output = "yes\nrefused 6\ncounted 0\n\
-        joined 1 marks 1 1 1 1 1 1 rates 0 0 indices 10000 10000 10000 10000 \
-        | 0 0 0 0 0 0 1 181 0 0 0 0 0 0 0 0 0 0 0 0 0 0 0 0 0 0 0 0\nfresh\nyes\n";
+        1 0 0 | 0:1 1:1 2:1 3:1 4:1 5:1 | 0:10000 1:10000 2:10000 3:10000 | | 2:1 3:181\n\
+        0 0 0 | | 0:10000 1:10000 2:10000 3:10000 | |\nyes\n";
     assert_eq!(run(input), (0, output.to_string(), String::new()));
 }
 
@@ -21,10 +21,10 @@ fn one_book_is_kept_over_the_commands() {
 fn settling_leaves_the_book() {
     let input = "settle\njoin 7\nsetting 7 0 1\nsetting 7 1 1\nsettle\n\
         mark 7 0 0\nmark 7 5 0\nsettle\nsettle\njoin 7\n";
-    let settled = "pot 0 pools 46200 0 0 0 0 1500 \
-        | 7 points 46200 0 0 0 0 1500 out 0 in 0 limit 0 adjustment 0\n";
-    let output =
-        format!("refused 10\nyes\nyes\nyes\nrefused 12\nyes\nyes\n{settled}{settled}refused 6\n");
+    let none = "0 | | | | | |\n";
+    let settled = "yes 0 | 0:46200 5:1500 | 7:46200 87:1500 | | | |\n";
+    let refused = format!("refused 10 {none}yes\nyes\nyes\nrefused 12 {none}");
+    let output = format!("{refused}yes\nyes\n{settled}{settled}refused 6\n");
     assert_eq!(run(input), (0, output, String::new()));
 }
 
