@@ -15,6 +15,25 @@ abbrev pub bookWith : ℕ → List ℕ → List ℕ → List ℕ → ℕ → ℕ
 bookWith joined marks settings figures pot cap indices =
     record { joined = joined; marks = marks; settings = settings; figures = figures; «pot_rate» = pot; «cap_rate» = cap; indices = indices }
 
+-- a book with another part, all else as it was
+abbrev pub withJoined : Book → ℕ → Book
+withJoined b joined = bookWith joined (b .marks) (b .settings) (b .figures) (b .«pot_rate») (b .«cap_rate») (b .indices)
+
+abbrev pub withMarks : Book → List ℕ → Book
+withMarks b marks = bookWith (b .joined) marks (b .settings) (b .figures) (b .«pot_rate») (b .«cap_rate») (b .indices)
+
+abbrev pub withSettings : Book → List ℕ → Book
+withSettings b settings = bookWith (b .joined) (b .marks) settings (b .figures) (b .«pot_rate») (b .«cap_rate») (b .indices)
+
+abbrev pub withFigures : Book → List ℕ → Book
+withFigures b figures = bookWith (b .joined) (b .marks) (b .settings) figures (b .«pot_rate») (b .«cap_rate») (b .indices)
+
+abbrev pub withRates : Book → ℕ → ℕ → Book
+withRates b pot cap = bookWith (b .joined) (b .marks) (b .settings) (b .figures) pot cap (b .indices)
+
+abbrev pub withIndices : Book → List ℕ → Book
+withIndices b indices = bookWith (b .joined) (b .marks) (b .settings) (b .figures) (b .«pot_rate») (b .«cap_rate») indices
+
 -- "none joined, no marks, all figures and settings 0, and all four indices 10,000"
 unfoldable pub freshBook : Book
 freshBook =

@@ -10,7 +10,7 @@ use native.Mathlib.Nat.{le-trans}
 use lib.ListN.{length, getD, List·getD-eq-default}
 use Rattle.book.specs.declared.Book.{Book}
 use Rattle.calls.specs.Limits.{operators, years, figureCount, settingCount, indicatorCount, indexCount, settingLimit, figureLimit, rateLimit, indexMost}
-use Rattle.book.specs.Book.{bookWith, isJoined, settingOf, figureOf, indexOf, most, inRange}
+use Rattle.book.specs.Book.{withJoined, withMarks, withSettings, withFigures, withIndices, freshBook, isJoined, settingOf, figureOf, indexOf, most, inRange}
 use Rattle.book.proofs.Bounds.{bounded}
 use Rattle.values.specs.Bounds.{accessLimit, incomeLimit}
 use Rattle.values.specs.Operators.{settingsOf, figuresOf}
@@ -64,7 +64,7 @@ module _ (b : Book) (ranged : inRange b ≡ true) where
 -- a book that lent parts belong to, and one that holds settings, figures and indices alone
 module _ (joined : ℕ) (marks settings figures indices : List ℕ) where
   abbrev pub lending : Book
-  lending = bookWith joined marks settings figures 0 0 indices
+  lending = withIndices (withFigures (withSettings (withMarks (withJoined freshBook joined) marks) settings) figures) indices
 
   pub lending-marked : HasMarks lending joined marks
   lending-marked = record { joined-are = refl; marks-are = refl }

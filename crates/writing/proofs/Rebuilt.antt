@@ -17,7 +17,7 @@ use Rattle.calls.specs.declared.Call.the-variants.{Join, Setting, Amount, Mark,
 use Rattle.calls.specs.Limits.{operators, years, figureCount, settingCount, indicatorCount, indexCount, settingPlaces, operatorFigures, figurePlaces, settingLimit, figureLimit, freshIndex}
 use Rattle.calls.specs.Masks.{has}
 use Rattle.calls.specs.Answers.{yes-said}
-use Rattle.book.specs.Book.{bookWith, freshBook, isJoined, isMarked, settingOf, figureOf, indexOf, settingSlot, figureSlot, most, inRange}
+use Rattle.book.specs.Book.{withJoined, withMarks, withSettings, withFigures, withRates, withIndices, freshBook, isJoined, isMarked, settingOf, figureOf, indexOf, settingSlot, figureSlot, most, inRange}
 use Rattle.book.proofs.Bounds.{Bounds, bounded}
 use Rattle.book.proofs.SlotLaws.{setting-slot-lt, figure-slot-lt}
 use Rattle.history.proofs.Kept.{fresh-in-range}
@@ -45,7 +45,7 @@ freshIndices = replicate indexCount freshIndex
 
 -- a book after joins alone
 abbrev joinedBook : ℕ → Book
-joinedBook joined = bookWith joined (joinedMarks joined) noSettings noFigures 0 0 freshIndices
+joinedBook joined = withMarks (withJoined freshBook joined) (joinedMarks joined)
 
 -- a value above 0 is a joined operator's
 joined-if : (t : Bool) (limit value : ℕ) → value ≤ cond t limit 0 → (value ≡ 0 → ⊥) → (t ≡ true) × (value ≤ limit)
@@ -82,7 +82,7 @@ module _ (b : Book) (ranged : inRange b ≡ true) where
 
   -- settings, place by place
   settingStage : ℕ → Book
-  settingStage k = bookWith (b .joined) (joinedMarks (b .joined)) (mix k (b .settings) noSettings) noFigures 0 0 freshIndices
+  settingStage k = withSettings (joinedBook (b .joined)) (mix k (b .settings) noSettings)
 
   setting-step : (operator which : ℕ) → operator < operators → which < settingCount → inRange (settingStage (settingSlot operator which)) ≡ true
       → Leads (settingStage (settingSlot operator which))
@@ -116,9 +116,13 @@ module _ (b : Book) (ranged : inRange b ≡ true) where
   unfolding settingCalls settingSlot
   settings-lead in-range = leads-rows operators settingCount _ settingStage in-range (λ o w lo lw here. setting-step o w lo lw here)
 
+  -- a book after joins and settings
+  abbrev settingsBook : Book
+  settingsBook = withSettings (joinedBook (b .joined)) (b .settings)
+
   -- figures, place by place
   figureStage : ℕ → Book
-  figureStage k = bookWith (b .joined) (joinedMarks (b .joined)) (b .settings) (mix k (b .figures) noFigures) 0 0 freshIndices
+  figureStage k = withFigures settingsBook (mix k (b .figures) noFigures)
 
   figure-step : (operator year figure : ℕ) → operator < operators → year < years → figure < figureCount
       → inRange (figureStage (figureSlot operator year figure)) ≡ true
@@ -172,12 +176,16 @@ module _ (b : Book) (ranged : inRange b ≡ true) where
           let next : o * operatorFigures + suc (y * figureCount + f) ≡ suc ((o * years + y) * figureCount + f) = omega arith in
           rw (place, next) (figure-step o y f lo ly lf (rw place at there))))
 
+  -- and after amounts
+  abbrev figuresBook : Book
+  figuresBook = withFigures settingsBook (b .figures)
+
   -- marks, operator by operator, indicator by indicator: of the first operators as the book has them, of the others as their joins set them
   partMarks : ℕ → List ℕ
   partMarks o = map (λ (mask : ℕ). mixBits o mask (b .joined)) (b .marks)
 
   markStage : ℕ → ℕ → Book
-  markStage o i = bookWith (b .joined) (mix i (partMarks (suc o)) (partMarks o)) (b .settings) (b .figures) 0 0 freshIndices
+  markStage o i = withMarks figuresBook (mix i (partMarks (suc o)) (partMarks o))
 
   part-long : (o : ℕ) → length (partMarks o) ≡ indicatorCount
   unfolding partMarks
@@ -224,7 +232,7 @@ module _ (b : Book) (ranged : inRange b ≡ true) where
           ∙ rw (mix-at new old long i inside, part-at o i li, mix-cleared mask (b .joined) o joined marked, ← part-at (suc o) i li, mix-set new old long i inside) refl)
 
   marksBook : ℕ → Book
-  marksBook o = bookWith (b .joined) (partMarks o) (b .settings) (b .figures) 0 0 freshIndices
+  marksBook o = withMarks figuresBook (partMarks o)
 
   marks-lead : inRange (marksBook 0) ≡ true → Leads (marksBook 0) (markCalls b) (marksBook operators)
   unfolding markCalls marksBook markStage
@@ -252,7 +260,7 @@ module _ (b : Book) (ranged : inRange b ≡ true) where
 
   -- indices, place by place
   indexStage : ℕ → Book
-  indexStage k = bookWith (b .joined) (b .marks) (b .settings) (b .figures) 0 0 (mix k (b .indices) freshIndices)
+  indexStage k = withIndices (withMarks figuresBook (b .marks)) (mix k (b .indices) freshIndices)
 
   index-step : (k : ℕ) → k < indexCount → inRange (indexStage k) ≡ true
       → Leads (indexStage k) (unlessFresh (indexOf b k) freshIndex (Index k (indexOf b k))) (indexStage (suc k))
@@ -283,20 +291,20 @@ module _ (b : Book) (ranged : inRange b ≡ true) where
 
   -- rates, if either is not 0
   rates-lead : inRange (indexStage indexCount) ≡ true → Leads (indexStage indexCount) (rateCalls b) b
-  unfolding rateCalls indexStage
+  unfolding rateCalls indexStage freshBook
   rates-lead in-range = rw same (go (eqb (b .«pot_rate») 0 && eqb (b .«cap_rate») 0) refl)
     where
       same : mix indexCount (b .indices) freshIndices ≡ b .indices
       same = mix-all indexCount (b .indices) freshIndices (bounds .indices-long) refl
 
       before : Book
-      before = bookWith (b .joined) (b .marks) (b .settings) (b .figures) 0 0 (b .indices)
+      before = withRates b 0 0
 
       go : (t : Bool) → eqb (b .«pot_rate») 0 && eqb (b .«cap_rate») 0 ≡ t → Leads before (cond t [] (Rates (b .«pot_rate») (b .«cap_rate») ∷ [])) b
       go true e =
           let no-pot = eqb-true (b .«pot_rate») 0 (and-left (eqb (b .«pot_rate») 0) _ e) in
           let no-cap = eqb-true (b .«cap_rate») 0 (and-right (eqb (b .«pot_rate») 0) _ e) in
-          let is : before ≡ b = λ i. bookWith (b .joined) (b .marks) (b .settings) (b .figures) (sym no-pot i) (sym no-cap i) (b .indices) in
+          let is : before ≡ b = λ i. withRates b (sym no-pot i) (sym no-cap i) in
           subst (λ (x : Book). Leads x [] b) (sym is) (leads-none b ranged)
       go false e =
           leads-one before (Rates (b .«pot_rate») (b .«cap_rate»)) b yes-said (rw same at in-range)
@@ -304,7 +312,7 @@ module _ (b : Book) (ranged : inRange b ≡ true) where
 
   -- all of them
   pub written-leads : Leads freshBook (writtenCalls b) b
-  unfolding writtenCalls settingStage figureStage marksBook indexStage
+  unfolding writtenCalls settingStage figureStage marksBook indexStage freshBook
   written-leads =
       let settings-all = mix-all settingPlaces (b .settings) noSettings (bounds .settings-long) refl in
       let figures-all = mix-all figurePlaces (b .figures) noFigures (bounds .figures-long) refl in
