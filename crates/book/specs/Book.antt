@@ -89,17 +89,17 @@ every zero test = true
 every (suc n) test = every n test && test n
 
 -- the most that may stand at a place of an operator: a limit, or the fresh value 0 for one not joined
-unfoldable pub most : Book → ℕ → ℕ → ℕ
-most b operator limit = cond (isJoined b operator) limit 0
+unfoldable pub most : ℕ → ℕ → ℕ → ℕ
+most joined operator limit = cond (has joined operator) limit 0
 
 unfoldable pub settingsInRange : Book → Bool
 settingsInRange b =
-    every operators (λ (operator : ℕ). every settingCount (λ (which : ℕ). leb (settingOf b operator which) (most b operator (settingLimit which))))
+    every operators (λ (operator : ℕ). every settingCount (λ (which : ℕ). leb (settingOf b operator which) (most (b .joined) operator (settingLimit which))))
 
 unfoldable pub figuresInRange : Book → Bool
 figuresInRange b =
     every operators (λ (operator : ℕ). every years (λ (year : ℕ). every figureCount (λ (figure : ℕ).
-    leb (figureOf b operator year figure) (most b operator figureLimit))))
+    leb (figureOf b operator year figure) (most (b .joined) operator figureLimit))))
 
 unfoldable pub marksInRange : Book → Bool
 marksInRange b =
