@@ -30,7 +30,7 @@ module _ (b : Book) where
   settings-hold all =
       every-of-each operators _ (λ operator lo. every-of-each settingCount _ (λ which lw. one operator which lo lw))
     where
-      one : (operator which : ℕ) → operator < operators → which < settingCount → leb (settingOf b operator which) (most b operator (settingLimit which)) ≡ true
+      one : (operator which : ℕ) → operator < operators → which < settingCount → leb (settingOf b operator which) (most (b .joined) operator (settingLimit which)) ≡ true
       one operator which lo lw =
           let quotient : (operator * settingCount + which) / settingCount ≡ operator = omega arith in
           let rest : (operator * settingCount + which) % settingCount ≡ which = omega arith in
@@ -47,7 +47,7 @@ module _ (b : Book) where
   figures-hold all =
       every-of-each operators _ (λ operator lo. every-of-each years _ (λ year ly. every-of-each figureCount _ (λ figure lf. one operator year figure lo ly lf)))
     where
-      one : (operator year figure : ℕ) → operator < operators → year < years → figure < figureCount → leb (figureOf b operator year figure) (most b operator figureLimit) ≡ true
+      one : (operator year figure : ℕ) → operator < operators → year < years → figure < figureCount → leb (figureOf b operator year figure) (most (b .joined) operator figureLimit) ≡ true
       one operator year figure lo ly lf =
           let quotient : ((operator * years + year) * figureCount + figure) / operatorFigures ≡ operator = omega arith in
           rw quotient at (all ((operator * years + year) * figureCount + figure) (omega arith))

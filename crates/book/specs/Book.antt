@@ -15,6 +15,25 @@ abbrev pub bookWith : ℕ → List ℕ → List ℕ → List ℕ → ℕ → ℕ
 bookWith joined marks settings figures pot cap indices =
     record { joined = joined; marks = marks; settings = settings; figures = figures; «pot_rate» = pot; «cap_rate» = cap; indices = indices }
 
+-- a book with another part, all else as it was
+abbrev pub withJoined : Book → ℕ → Book
+withJoined b joined = bookWith joined (b .marks) (b .settings) (b .figures) (b .«pot_rate») (b .«cap_rate») (b .indices)
+
+abbrev pub withMarks : Book → List ℕ → Book
+withMarks b marks = bookWith (b .joined) marks (b .settings) (b .figures) (b .«pot_rate») (b .«cap_rate») (b .indices)
+
+abbrev pub withSettings : Book → List ℕ → Book
+withSettings b settings = bookWith (b .joined) (b .marks) settings (b .figures) (b .«pot_rate») (b .«cap_rate») (b .indices)
+
+abbrev pub withFigures : Book → List ℕ → Book
+withFigures b figures = bookWith (b .joined) (b .marks) (b .settings) figures (b .«pot_rate») (b .«cap_rate») (b .indices)
+
+abbrev pub withRates : Book → ℕ → ℕ → Book
+withRates b pot cap = bookWith (b .joined) (b .marks) (b .settings) (b .figures) pot cap (b .indices)
+
+abbrev pub withIndices : Book → List ℕ → Book
+withIndices b indices = bookWith (b .joined) (b .marks) (b .settings) (b .figures) (b .«pot_rate») (b .«cap_rate») indices
+
 -- "none joined, no marks, all figures and settings 0, and all four indices 10,000"
 unfoldable pub freshBook : Book
 freshBook =
@@ -70,17 +89,17 @@ every zero test = true
 every (suc n) test = every n test && test n
 
 -- the most that may stand at a place of an operator: a limit, or the fresh value 0 for one not joined
-unfoldable pub most : Book → ℕ → ℕ → ℕ
-most b operator limit = cond (isJoined b operator) limit 0
+unfoldable pub most : ℕ → ℕ → ℕ → ℕ
+most joined operator limit = cond (has joined operator) limit 0
 
 unfoldable pub settingsInRange : Book → Bool
 settingsInRange b =
-    every operators (λ (operator : ℕ). every settingCount (λ (which : ℕ). leb (settingOf b operator which) (most b operator (settingLimit which))))
+    every operators (λ (operator : ℕ). every settingCount (λ (which : ℕ). leb (settingOf b operator which) (most (b .joined) operator (settingLimit which))))
 
 unfoldable pub figuresInRange : Book → Bool
 figuresInRange b =
     every operators (λ (operator : ℕ). every years (λ (year : ℕ). every figureCount (λ (figure : ℕ).
-    leb (figureOf b operator year figure) (most b operator figureLimit))))
+    leb (figureOf b operator year figure) (most (b .joined) operator figureLimit))))
 
 unfoldable pub marksInRange : Book → Bool
 marksInRange b =

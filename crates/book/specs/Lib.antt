@@ -1,2 +1,3 @@
 -- The definitions of `book`.
 pub mod Book
+pub mod Steps

@@ -58,6 +58,11 @@ completed bytes turn =
     cond (turn .continues) (run (turn .reached .book) (turn .reached .applied) (fieldsFrom (length bytes) bytes (turn .reached .offset)))
     (turn .reached)
 
+-- a reading under way from a first one: ready for a step, and what it comes to in the end is the same
+pub record Continued (bytes : List ℕ) (first turn : Turned) : Type 0 where
+  pub ready : Ready (turn .reached)
+  pub same : completed bytes turn ≡ completed bytes first
+
 -- how much is left to read, more than nothing while it continues
 unfoldable pub remaining : List ℕ → Turned → ℕ
 remaining bytes turn = cond (turn .continues) (suc (length bytes - turn .reached .offset)) 0

@@ -5,7 +5,8 @@ ghost use mathlib.Core.Bool.{true};
 ghost use Prim.Native.Nat.{_<_};
 ghost use Rattle.calls.specs.Answers.{isRefused, said};
 ghost use Rattle.book.specs.declared.Book.{Book as Declared·Book};
-ghost use Rattle.book.specs.Book.{bookWith, inRange};
+ghost use Rattle.book.specs.Book.{inRange};
+ghost use Rattle.book.specs.Steps.{lentBook, BeforeAndAfter};
 ghost use Rattle.ledger.specs.Calls.{apply as Calls·apply};
 ghost use Rattle.fields.specs.Field.{fieldAt};
 ghost use Rattle.filing.specs.Reader.{reachedBy, told, readFrom};
@@ -105,8 +106,8 @@ fn step(
     reached: Progress,
     bytes: &[u8],
 ) -> Turn
-    requires { ⌜ Ready (reachedBy (bookWith (now joined) (now marks) (now settings) (now figures) (now «pot_rate») (now «cap_rate») (now indices)) reached) ⌝ }
-    ensures { λ r. ⌜ toldTurn (bookWith (now (joined .exit)) (now (marks .exit)) (now (settings .exit)) (now (figures .exit)) (now («pot_rate» .exit)) (now («cap_rate» .exit)) (now (indices .exit))) r ≡ stepped (reachedBy (bookWith (now (joined .entry)) (now (marks .entry)) (now (settings .entry)) (now (figures .entry)) (now («pot_rate» .entry)) (now («cap_rate» .entry)) (now (indices .entry))) reached) (fieldAt (now (bytes .entry)) (reached .offset)) ⌝ }
+    requires { ⌜ Ready (reachedBy (lentBook joined marks settings figures «pot_rate» «cap_rate» indices) reached) ⌝ }
+    ensures { λ r. ⌜ BeforeAndAfter joined marks settings figures «pot_rate» «cap_rate» indices (λ before after. toldTurn after r ≡ stepped (reachedBy before reached) (fieldAt (now (bytes .entry)) (reached .offset))) ⌝ }
 {
     match field_at(bytes, reached.offset) {
         Field::CallThen { filing_call, next } => advance(
@@ -139,8 +140,8 @@ fn advance(
     filing_call: Call,
     next: usize,
 ) -> Turn
-    requires { ⌜ (reached .applied < next) × (inRange (bookWith (now joined) (now marks) (now settings) (now figures) (now «pot_rate») (now «cap_rate») (now indices)) ≡ true) ⌝ }
-    ensures { λ r. ⌜ toldTurn (bookWith (now (joined .exit)) (now (marks .exit)) (now (settings .exit)) (now (figures .exit)) (now («pot_rate» .exit)) (now («cap_rate» .exit)) (now (indices .exit))) r ≡ advanced (reachedBy (bookWith (now (joined .entry)) (now (marks .entry)) (now (settings .entry)) (now (figures .entry)) (now («pot_rate» .entry)) (now («cap_rate» .entry)) (now (indices .entry))) reached) next (Calls·apply (bookWith (now (joined .entry)) (now (marks .entry)) (now (settings .entry)) (now (figures .entry)) (now («pot_rate» .entry)) (now («cap_rate» .entry)) (now (indices .entry))) «filing_call») ⌝ }
+    requires { ⌜ (reached .applied < next) × (inRange (lentBook joined marks settings figures «pot_rate» «cap_rate» indices) ≡ true) ⌝ }
+    ensures { λ r. ⌜ BeforeAndAfter joined marks settings figures «pot_rate» «cap_rate» indices (λ before after. toldTurn after r ≡ advanced (reachedBy before reached) next (Calls·apply before «filing_call»)) ⌝ }
 {
     let answer = apply_in(
         joined,

@@ -7,16 +7,16 @@ use mathlib.Core.Bool.{Bool, true, false, cond}
 use native.Mathlib.Omega.{arith}
 use native.Mathlib.Decide.{ℕ-discrete}
 use lib.Dec.{eqb}
-use lib.ListN.{getD, length-set}
+use lib.ListN.{getD, set, length-set}
 use Rattle.book.specs.declared.Book.{Book}
 use Rattle.calls.specs.declared.Call.the-variants.{Join, Setting, Mark, Rates, Index}
 use Rattle.calls.specs.Limits.{operators, settingCount, indicatorCount, settingLimit, figureLimit, rateLimit, indexLeast, indexMost}
 use Rattle.calls.specs.Masks.{has, including, excluding, remasked}
 use Rattle.calls.specs.Call.{Entry}
-use Rattle.book.specs.Book.{isJoined, isMarked, settingOf, figureOf, indexOf, settingSlot, figureSlot, most}
+use Rattle.book.specs.Book.{isJoined, figureOf, settingSlot, figureSlot, most}
 use Rattle.ledger.specs.Calls.{unattested, entered, changed}
 use Rattle.calls.proofs.MaskLaws.{including-has, including-other, including-lt, excluding-other, excluding-le}
-use Rattle.book.proofs.Bounds.{Bounds}
+use Rattle.book.proofs.Bounds.{Bounds, bounds-with-joined, bounds-with-marks, bounds-with-settings, bounds-with-figures, bounds-with-rates, bounds-with-indices}
 use Rattle.book.proofs.SlotLaws.{store-holds}
 use Rattle.ledger.proofs.UnattestedLaws.{unattested-long, unattested-at}
 use Rattle.history.proofs.TableLaws.{Enters}
@@ -54,163 +54,101 @@ included-both mask whole operator o inside held = rw (including-has whole operat
     go true e = refl
     go false e = inside e
 
--- an operator more lets no value out of its range
-allowed : (n limit : ℕ) (before now : Bool) → (before ≡ true → now ≡ true) → n ≤ cond before limit 0 → n ≤ cond now limit 0
-allowed n limit true now still le = rw (still refl) le
-allowed n limit false true still le = omega arith
-allowed n limit false false still le = le
-
 -- what a joined operator may hold
-most-joined : (b : Book) (operator limit n : ℕ) → isJoined b operator ≡ true → n ≤ limit → n ≤ most b operator limit
+most-joined : (joined operator limit n : ℕ) → has joined operator ≡ true → n ≤ limit → n ≤ most joined operator limit
 unfolding most
-most-joined b operator limit n joined le = rw joined le
+most-joined joined operator limit n there le = rw there le
 
 module _ (b : Book) (bounds : Bounds b) where
   pub join-bounds : (operator : ℕ) → operator < operators → Bounds (changed b (Join operator))
-  unfolding changed settingOf figureOf isMarked indexOf isJoined most
+  unfolding changed
   join-bounds operator lo =
-      record {
-        marks-long = unattested-long (b .marks) operator ∙ bounds .marks-long;
-        settings-long = bounds .settings-long;
-        figures-long = bounds .figures-long;
-        indices-long = bounds .indices-long;
-        joined-small = including-lt (b .joined) operator 16 (bounds .joined-small) lo;
-        marks-small = λ i li. rw (marks-at i li) (including-lt (getD (b .marks) i 0) operator 16 (bounds .marks-small i li) lo);
-        setting = λ o w lo′ lw. allowed _ _ (isJoined b o) _ (still-joined o) (bounds .setting o w lo′ lw);
-        figure = λ o y f lo′ ly lf. allowed _ _ (isJoined b o) _ (still-joined o) (bounds .figure o y f lo′ ly lf);
-        mark = λ o i lo′ li marked. included-both (getD (b .marks) i 0) (b .joined) operator o (bounds .mark o i lo′ li) (rw (marks-at i li) at marked);
-        pot-rate = bounds .pot-rate;
-        cap-rate = bounds .cap-rate;
-        index = bounds .index;
-      }
+      bounds-with-marks
+      (bounds-with-joined bounds (including (b .joined) operator) (including-lt (b .joined) operator 16 (bounds .joined) lo) (including-keeps (b .joined) operator))
+      (unattested (b .marks) operator)
+      (record {
+        long = unattested-long (b .marks) operator ∙ bounds .marks .long;
+        small = λ i li. rw (marks-at i li) (including-lt (getD (b .marks) i 0) operator 16 (bounds .marks .small i li) lo);
+        members = λ o i lo′ li marked. included-both (getD (b .marks) i 0) (b .joined) operator o (bounds .marks .members o i lo′ li) (rw (marks-at i li) at marked);
+      })
     where
       marks-at : (i : ℕ) → i < indicatorCount → getD (unattested (b .marks) operator) i 0 ≡ including (getD (b .marks) i 0) operator
-      marks-at i li = unattested-at (b .marks) operator i (rw (bounds .marks-long) li)
-
-      still-joined : (o : ℕ) → isJoined b o ≡ true → has (including (b .joined) operator) o ≡ true
-      still-joined o joined = including-keeps (b .joined) operator o joined
+      marks-at i li = unattested-at (b .marks) operator i (rw (bounds .marks .long) li)
 
   pub setting-bounds : (operator which value : ℕ) → isJoined b operator ≡ true → which < settingCount → value ≤ settingLimit which
       → Bounds (changed b (Setting operator which value))
-  unfolding changed settingOf figureOf isMarked indexOf isJoined most settingSlot
+  unfolding changed isJoined settingSlot
   setting-bounds operator which value joined lw le =
-      record {
-        marks-long = bounds .marks-long;
-        settings-long = length-set (b .settings) _ _ ∙ bounds .settings-long;
-        figures-long = bounds .figures-long;
-        indices-long = bounds .indices-long;
-        joined-small = bounds .joined-small;
-        marks-small = bounds .marks-small;
-        setting = λ o w lo lw′.
-            store-holds (λ n. n ≤ most b o (settingLimit w)) (b .settings) (settingSlot operator which) value (settingSlot o w)
+      bounds-with-settings bounds (set (b .settings) (settingSlot operator which) value)
+      (record {
+        long = length-set (b .settings) _ _ ∙ bounds .settings .long;
+        within = λ o w lo lw′.
+            store-holds (λ n. n ≤ most (b .joined) o (settingLimit w)) (b .settings) (settingSlot operator which) value (settingSlot o w)
             (λ same.
             let operator-is : o ≡ operator = omega (arith, same) in
             let which-is : w ≡ which = omega (arith, same) in
-            rw (operator-is, which-is) (most-joined b operator (settingLimit which) value joined le))
-            (bounds .setting o w lo lw′);
-        figure = bounds .figure;
-        mark = bounds .mark;
-        pot-rate = bounds .pot-rate;
-        cap-rate = bounds .cap-rate;
-        index = bounds .index;
-      }
+            rw (operator-is, which-is) (most-joined (b .joined) operator (settingLimit which) value joined le))
+            (bounds .settings .within o w lo lw′);
+      })
 
   pub mark-bounds : (operator indicator mark : ℕ) → operator < operators → isJoined b operator ≡ true → indicator < indicatorCount
       → Bounds (changed b (Mark operator indicator mark))
-  unfolding changed settingOf figureOf isMarked indexOf isJoined most
+  unfolding changed isJoined
   mark-bounds operator indicator mark lo joined li =
-      record {
-        marks-long = length-set (b .marks) _ _ ∙ bounds .marks-long;
-        settings-long = bounds .settings-long;
-        figures-long = bounds .figures-long;
-        indices-long = bounds .indices-long;
-        joined-small = bounds .joined-small;
-        marks-small = λ i li′.
-            store-holds (λ m. m < 2 ^ 16) (b .marks) indicator (remasked (getD (b .marks) indicator 0) operator mark) i
-            (λ same. remasked-lt (getD (b .marks) indicator 0) operator mark lo (bounds .marks-small indicator li))
-            (bounds .marks-small i li′);
-        setting = bounds .setting;
-        figure = bounds .figure;
-        mark = λ o i lo′ li′.
-            store-holds (λ m. has m o ≡ true → isJoined b o ≡ true) (b .marks) indicator (remasked (getD (b .marks) indicator 0) operator mark) i
-            (λ same. remarked o lo′ (ℕ-discrete o operator))
-            (bounds .mark o i lo′ li′);
-        pot-rate = bounds .pot-rate;
-        cap-rate = bounds .cap-rate;
-        index = bounds .index;
-      }
+      bounds-with-marks bounds (set (b .marks) indicator new)
+      (record {
+        long = length-set (b .marks) _ _ ∙ bounds .marks .long;
+        small = λ i li′.
+            store-holds (λ m. m < 2 ^ 16) (b .marks) indicator new i
+            (λ same. remasked-lt (getD (b .marks) indicator 0) operator mark lo (bounds .marks .small indicator li))
+            (bounds .marks .small i li′);
+        members = λ o i lo′ li′.
+            store-holds (λ m. has m o ≡ true → has (b .joined) o ≡ true) (b .marks) indicator new i (λ same. remarked o lo′ (ℕ-discrete o operator)) (bounds .marks .members o i lo′ li′);
+      })
     where
+      new : ℕ
+      new = remasked (getD (b .marks) indicator 0) operator mark
+
       -- the operator itself has joined, another's mark is as it was
-      remarked : (o : ℕ) → o < operators → Dec (o ≡ operator) → has (remasked (getD (b .marks) indicator 0) operator mark) o ≡ true → isJoined b o ≡ true
+      remarked : (o : ℕ) → o < operators → Dec (o ≡ operator) → has new o ≡ true → has (b .joined) o ≡ true
       remarked o lo′ (yes same) marked = rw same joined
-      remarked o lo′ (no other) marked = bounds .mark o indicator lo′ li (rw (remasked-other (getD (b .marks) indicator 0) operator mark o other) at marked)
+      remarked o lo′ (no other) marked = bounds .marks .members o indicator lo′ li (rw (remasked-other (getD (b .marks) indicator 0) operator mark o other) at marked)
 
   pub rates-bounds : (pot cap : ℕ) → pot ≤ rateLimit → cap ≤ rateLimit → Bounds (changed b (Rates pot cap))
-  unfolding changed settingOf figureOf isMarked indexOf isJoined most
-  rates-bounds pot cap pot-le cap-le =
-      record {
-        marks-long = bounds .marks-long;
-        settings-long = bounds .settings-long;
-        figures-long = bounds .figures-long;
-        indices-long = bounds .indices-long;
-        joined-small = bounds .joined-small;
-        marks-small = bounds .marks-small;
-        setting = bounds .setting;
-        figure = bounds .figure;
-        mark = bounds .mark;
-        pot-rate = pot-le;
-        cap-rate = cap-le;
-        index = bounds .index;
-      }
+  unfolding changed
+  rates-bounds pot cap pot-le cap-le = bounds-with-rates bounds pot cap (record { pot-rate = pot-le; cap-rate = cap-le })
 
   pub index-bounds : (number value : ℕ) → indexLeast ≤ value → value ≤ indexMost → Bounds (changed b (Index number value))
-  unfolding changed settingOf figureOf isMarked indexOf isJoined most
+  unfolding changed
   index-bounds number value least greatest =
-      record {
-        marks-long = bounds .marks-long;
-        settings-long = bounds .settings-long;
-        figures-long = bounds .figures-long;
-        indices-long = length-set (b .indices) _ _ ∙ bounds .indices-long;
-        joined-small = bounds .joined-small;
-        marks-small = bounds .marks-small;
-        setting = bounds .setting;
-        figure = bounds .figure;
-        mark = bounds .mark;
-        pot-rate = bounds .pot-rate;
-        cap-rate = bounds .cap-rate;
-        index = λ n lt. store-holds (λ v. (indexLeast ≤ v) × (v ≤ indexMost)) (b .indices) number value n (λ same. (least, greatest)) (bounds .index n lt);
-      }
+      bounds-with-indices bounds (set (b .indices) number value)
+      (record {
+        long = length-set (b .indices) _ _ ∙ bounds .indices .long;
+        within = λ n lt. store-holds (λ v. (indexLeast ≤ v) × (v ≤ indexMost)) (b .indices) number value n (λ same. (least, greatest)) (bounds .indices .within n lt);
+      })
 
   -- the figure that an entry makes
   moved-le : (entry : Entry) → Enters (isJoined b) (figureOf b) entry → (t : Bool) → eqb (entry .sign) 0 ≡ t
       → cond t
       (figureOf b (entry .operator) (entry .year) (entry .figure) + entry .value)
       (figureOf b (entry .operator) (entry .year) (entry .figure) - entry .value)
-      ≤ most b (entry .operator) figureLimit
-  moved-le entry enters true filed = most-joined b (entry .operator) figureLimit _ (enters .there) (enters .fits filed)
+      ≤ most (b .joined) (entry .operator) figureLimit
+  unfolding isJoined figureOf
+  moved-le entry enters true filed = most-joined (b .joined) (entry .operator) figureLimit _ (enters .there) (enters .fits filed)
   moved-le entry enters false filed =
       let w = enters .within in
-      omega (arith, bounds .figure (entry .operator) (entry .year) (entry .figure) (w .operator-lt) (w .year-lt) (w .figure-lt))
+      omega (arith, bounds .figures .within (entry .operator) (entry .year) (entry .figure) (w .operator-lt) (w .year-lt) (w .figure-lt))
 
   pub entry-bounds : (entry : Entry) → Enters (isJoined b) (figureOf b) entry → Bounds (entered b entry)
-  unfolding entered settingOf figureOf isMarked indexOf isJoined most figureSlot
+  unfolding entered figureOf figureSlot
   entry-bounds entry enters =
-      record {
-        marks-long = bounds .marks-long;
-        settings-long = bounds .settings-long;
-        figures-long = length-set (b .figures) _ _ ∙ bounds .figures-long;
-        indices-long = bounds .indices-long;
-        joined-small = bounds .joined-small;
-        marks-small = bounds .marks-small;
-        setting = bounds .setting;
-        figure = λ o y f lo ly lf.
-            store-holds (λ n. n ≤ most b o figureLimit) (b .figures) (figureSlot (entry .operator) (entry .year) (entry .figure)) _ (figureSlot o y f)
+      bounds-with-figures bounds (set (b .figures) (figureSlot (entry .operator) (entry .year) (entry .figure)) _)
+      (record {
+        long = length-set (b .figures) _ _ ∙ bounds .figures .long;
+        within = λ o y f lo ly lf.
+            store-holds (λ n. n ≤ most (b .joined) o figureLimit) (b .figures) (figureSlot (entry .operator) (entry .year) (entry .figure)) _ (figureSlot o y f)
             (λ same.
             let operator-is : o ≡ entry .operator = omega (arith, same, enters .within .year-lt, enters .within .figure-lt) in
             rw operator-is (moved-le entry enters (eqb (entry .sign) 0) refl))
-            (bounds .figure o y f lo ly lf);
-        mark = bounds .mark;
-        pot-rate = bounds .pot-rate;
-        cap-rate = bounds .cap-rate;
-        index = bounds .index;
-      }
+            (bounds .figures .within o y f lo ly lf);
+      })

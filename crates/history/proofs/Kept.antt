@@ -12,15 +12,14 @@ use Rattle.calls.specs.Limits.{freshIndex, indexCount, indicatorCount, settingP
 use Rattle.book.specs.declared.Book.{Book}
 use Rattle.calls.specs.declared.Call.{Call}
 use Rattle.calls.specs.Held.{Held, Same}
-use Rattle.calls.specs.Masks.{has}
 use Rattle.calls.specs.Answers.{Said, onAnswer, Acceptance}
-use Rattle.book.specs.Book.{every}
-use Rattle.book.specs.Book.{freshBook, isJoined, isMarked, settingOf, figureOf, indexOf, heldBy, settingSlot, figureSlot, most, isComplete, hasSixteenBits, settingsInRange, figuresInRange, marksInRange, indicesInRange, ratesInRange, inRange}
+use Rattle.book.specs.Book.{freshBook, isJoined, isMarked, settingOf, figureOf, indexOf, heldBy, settingSlot, figureSlot, inRange}
 use Rattle.ledger.specs.Calls.{changed, outcomeOf, apply, file, filedBook, filedAnswers}
 use Rattle.history.specs.History.{History, history, plain, total, heldIn, recorded, noteAnswer, noteHistory, notedHistory, notedAnswers}
 use Rattle.history.specs.Demand.{StaysInRange, bookOf, historyOf, Kept, EqualAsHistories}
 use Rattle.calls.proofs.MaskLaws.{has-zero}
 use Rattle.book.proofs.Bounds.{bounded, in-range}
+use Rattle.book.proofs.Opened.{book-opened}
 use Rattle.book.proofs.SameBooks.{same-books}
 use Rattle.book.proofs.SlotLaws.{setting-slot-lt, figure-slot-lt}
 use Rattle.history.proofs.TableLaws.{Decided, decided, same-answer}
@@ -121,7 +120,7 @@ kept-from (call ∷ rest) b h now =
 
 -- found by testing each of its values
 pub fresh-in-range : inRange freshBook ≡ true
-unfolding inRange isComplete hasSixteenBits settingsInRange figuresInRange marksInRange ratesInRange indicesInRange isJoined isMarked settingOf figureOf indexOf settingSlot figureSlot most freshBook every has
+unfolding book-opened
 fresh-in-range = refl
 
 fresh : Agrees freshBook plain

@@ -2,5 +2,6 @@
 pub mod EntryLaws
 pub mod TableLaws
 pub mod BoundsKept
+pub mod SameKept
 pub mod StepLaws
 pub mod Kept

@@ -16,10 +16,10 @@ use Rattle.calls.specs.Limits.{operators, years, figureCount, settingCount, ind
 use Rattle.calls.specs.Masks.{has, including, excluding, remasked}
 use Rattle.calls.specs.Held.{Same}
 use Rattle.calls.specs.Call.{Entry, factsOf}
-use Rattle.book.specs.Book.{isJoined, isMarked, settingOf, figureOf, indexOf, heldBy, settingSlot, figureSlot}
+use Rattle.book.specs.Book.{withJoined, isJoined, isMarked, settingOf, figureOf, indexOf, heldBy, settingSlot, figureSlot}
 use Rattle.ledger.specs.Table.{some, totalAt}
-use Rattle.ledger.specs.Calls.{entered, enterAll, changed}
-use Rattle.history.specs.History.{History, total, heldIn, at1, at2, summed, withEntry, withEntries, recorded}
+use Rattle.ledger.specs.Calls.{unattested, entered, enterAll, changed}
+use Rattle.history.specs.History.{History, total, heldIn, historyWithOperators, at1, at2, summed, withEntry, withEntries, recorded}
 use Rattle.calls.proofs.Flags.{and-left, and-right, and-true-right, and-false-right}
 use Rattle.calls.proofs.MaskLaws.{including-has, excluding-has}
 use Rattle.book.proofs.Bounds.{Bounds}
@@ -27,6 +27,7 @@ use Rattle.ledger.proofs.UnattestedLaws.{unattested-at}
 use Rattle.book.proofs.SlotLaws.{stored, setting-slot-lt, figure-slot-lt, same-setting-slot, same-figure-slot}
 use Rattle.history.proofs.EntryLaws.{All, Within, Distinct, known-lt, member-there, entries-distinct}
 use Rattle.history.proofs.TableLaws.{Passed, Enters, call-enters}
+use Rattle.history.proofs.SameKept.{same-with-operators, same-with-settings, same-with-marks, same-with-rates, same-with-indices, same-with-figures}
 use Rattle.history.proofs.BoundsKept.{join-bounds, setting-bounds, mark-bounds, rates-bounds, index-bounds, entry-bounds}
 
 abbrev pub AllCovered : History → Type 0
@@ -40,19 +41,15 @@ pub record Agrees (b : Book) (h : History) : Type 0 where
 
 module _ (b : Book) (h : History) (bounds : Bounds b) (held : Same (heldBy b) (heldIn h)) where
   join-holds : (operator : ℕ) → Same (heldBy (changed b (Join operator))) (heldIn (recorded h (Join operator)))
-  unfolding changed recorded isJoined isMarked settingOf figureOf indexOf total at1
+  unfolding changed recorded isJoined isMarked at1
   join-holds operator =
-      record {
-        joined = λ o lt. including-has (b .joined) operator o ∙ ap (cond (eqb o operator) true) (held .joined o lt);
-        setting = held .setting;
-        mark = λ o i lo li.
-            ap (λ (mask : ℕ). has mask o) (unattested-at (b .marks) operator i (rw (bounds .marks-long) li))
-            ∙ including-has (getD (b .marks) i 0) operator o ∙ go o i (eqb o operator) (held .mark o i lo li);
-        pot-rate = held .pot-rate;
-        cap-rate = held .cap-rate;
-        index = held .index;
-        total = held .total;
-      }
+      same-with-marks (withJoined b (including (b .joined) operator)) (historyWithOperators h (at1 operator true (h .joined)))
+      (same-with-operators b h held (including (b .joined) operator) (at1 operator true (h .joined))
+      (λ o lt. including-has (b .joined) operator o ∙ ap (cond (eqb o operator) true) (held .joined o lt)))
+      (unattested (b .marks) operator) (at1 operator (λ (indicator : ℕ). true) (h .mark))
+      (λ o i lo li.
+      ap (λ (mask : ℕ). has mask o) (unattested-at (b .marks) operator i (rw (bounds .marks .long) li))
+      ∙ including-has (getD (b .marks) i 0) operator o ∙ go o i (eqb o operator) (held .mark o i lo li))
     where
       go : (o i : ℕ) (t : Bool) → isMarked b o i ≡ h .mark o i → cond t true (isMarked b o i) ≡ cond t (λ (indicator : ℕ). true) (h .mark o) i
       go o i true e = refl
@@ -60,27 +57,19 @@ module _ (b : Book) (h : History) (bounds : Bounds b) (held : Same (heldBy b) (h
 
   setting-holds : (operator which value : ℕ) → operator < operators → which < settingCount
       → Same (heldBy (changed b (Setting operator which value))) (heldIn (recorded h (Setting operator which value)))
-  unfolding changed recorded isJoined isMarked settingOf figureOf indexOf total at2
+  unfolding changed recorded settingOf at2
   setting-holds operator which value lo lw =
-      record {
-        joined = held .joined;
-        setting =
-            λ o w lt lt′.
-            stored (b .settings) (settingSlot operator which) value (settingSlot o w) (rw (bounds .settings-long) (setting-slot-lt operator which lo lw))
-            ∙ rw (same-setting-slot o w operator which lt′ lw) (ap (cond (eqb o operator && eqb w which) value) (held .setting o w lt lt′));
-        mark = held .mark;
-        pot-rate = held .pot-rate;
-        cap-rate = held .cap-rate;
-        index = held .index;
-        total = held .total;
-      }
+      same-with-settings b h held (set (b .settings) (settingSlot operator which) value) (at2 operator which value (h .setting))
+      (λ o w lt lt′.
+      stored (b .settings) (settingSlot operator which) value (settingSlot o w) (rw (bounds .settings .long) (setting-slot-lt operator which lo lw))
+      ∙ rw (same-setting-slot o w operator which lt′ lw) (ap (cond (eqb o operator && eqb w which) value) (held .setting o w lt lt′)))
 
   -- the mask of an indicator, with an operator in or out
   remasked-has : (operator indicator mark : ℕ) → indicator < indicatorCount → (o i : ℕ)
       → has (getD (set (b .marks) indicator (remasked (getD (b .marks) indicator 0) operator mark)) i 0) o ≡ at2 operator indicator (eqb mark 1) (isMarked b) o i
   unfolding remasked isMarked at2
   remasked-has operator indicator mark li o i =
-      ap (λ (m : ℕ). has m o) (stored (b .marks) indicator _ i (rw (bounds .marks-long) li)) ∙ go (eqb i indicator) (eqb mark 1) refl
+      ap (λ (m : ℕ). has m o) (stored (b .marks) indicator _ i (rw (bounds .marks .long) li)) ∙ go (eqb i indicator) (eqb mark 1) refl
     where
       old : ℕ
       old = getD (b .marks) indicator 0
@@ -97,47 +86,20 @@ module _ (b : Book) (h : History) (bounds : Bounds b) (held : Same (heldBy b) (h
 
   mark-holds : (operator indicator mark : ℕ) → indicator < indicatorCount
       → Same (heldBy (changed b (Mark operator indicator mark))) (heldIn (recorded h (Mark operator indicator mark)))
-  unfolding changed recorded isJoined isMarked settingOf figureOf indexOf total at2
+  unfolding changed recorded at2
   mark-holds operator indicator mark li =
-      record {
-        joined = held .joined;
-        setting = held .setting;
-        mark =
-            λ o i lt lt′.
-            remasked-has operator indicator mark li o i ∙ ap (cond (eqb o operator && eqb i indicator) (eqb mark 1)) (held .mark o i lt lt′);
-        pot-rate = held .pot-rate;
-        cap-rate = held .cap-rate;
-        index = held .index;
-        total = held .total;
-      }
+      same-with-marks b h held (set (b .marks) indicator (remasked (getD (b .marks) indicator 0) operator mark)) (at2 operator indicator (eqb mark 1) (h .mark))
+      (λ o i lt lt′. remasked-has operator indicator mark li o i ∙ ap (cond (eqb o operator && eqb i indicator) (eqb mark 1)) (held .mark o i lt lt′))
 
   rates-holds : (pot cap : ℕ) → Same (heldBy (changed b (Rates pot cap))) (heldIn (recorded h (Rates pot cap)))
-  unfolding changed recorded isJoined isMarked settingOf figureOf indexOf total
-  rates-holds pot cap =
-      record {
-        joined = held .joined;
-        setting = held .setting;
-        mark = held .mark;
-        pot-rate = refl;
-        cap-rate = refl;
-        index = held .index;
-        total = held .total;
-      }
+  unfolding changed recorded
+  rates-holds pot cap = same-with-rates b h held pot cap
 
   index-holds : (number value : ℕ) → number < indexCount → Same (heldBy (changed b (Index number value))) (heldIn (recorded h (Index number value)))
-  unfolding changed recorded isJoined isMarked settingOf figureOf indexOf total at1
+  unfolding changed recorded indexOf at1
   index-holds number value ln =
-      record {
-        joined = held .joined;
-        setting = held .setting;
-        mark = held .mark;
-        pot-rate = held .pot-rate;
-        cap-rate = held .cap-rate;
-        index =
-            λ n lt.
-            stored (b .indices) number value n (rw (bounds .indices-long) ln) ∙ ap (cond (eqb n number) value) (held .index n lt);
-        total = held .total;
-      }
+      same-with-indices b h held (set (b .indices) number value) (at1 number value (h .index))
+      (λ n lt. stored (b .indices) number value n (rw (bounds .indices .long) ln) ∙ ap (cond (eqb n number) value) (held .index n lt))
 
 -- whether an entry is one of this place
 abbrev here : Entry → ℕ → ℕ → ℕ → Bool
@@ -211,22 +173,14 @@ module _ (b : Book) (h : History) (now : Agrees b h) (entry : Entry) (enters : E
   unfolding entered figureOf
   entered-figure o y f ly lf =
       stored (b .figures) (figureSlot (entry .operator) (entry .year) (entry .figure)) _ (figureSlot o y f)
-      (rw (now .bounds .figures-long) (figure-slot-lt (entry .operator) (entry .year) (entry .figure) (w .operator-lt) (w .year-lt) (w .figure-lt)))
+      (rw (now .bounds .figures .long) (figure-slot-lt (entry .operator) (entry .year) (entry .figure) (w .operator-lt) (w .year-lt) (w .figure-lt)))
       ∙ rw (same-figure-slot o y f (entry .operator) (entry .year) (entry .figure) ly lf (w .year-lt) (w .figure-lt)) refl
 
   entry-holds : Same (heldBy (entered b entry)) (heldIn (withEntry h entry))
-  unfolding entered withEntry isJoined isMarked settingOf indexOf
+  unfolding entered withEntry figureOf total
   entry-holds =
-      record {
-        joined = now .held .joined;
-        setting = now .held .setting;
-        mark = now .held .mark;
-        pot-rate = now .held .pot-rate;
-        cap-rate = now .held .cap-rate;
-        index = now .held .index;
-        total = λ o y f lo ly lf.
-            entered-figure o y f ly lf ∙ rw (figure-is, now .held .total o y f lo ly lf) (sym (summed-total o y f));
-      }
+      same-with-figures b h (now .held) _ _ _
+      (λ o y f lo ly lf. entered-figure o y f ly lf ∙ rw (figure-is, now .held .total o y f lo ly lf) (sym (summed-total o y f)))
 
   -- what is withdrawn has been filed
   entry-covered : AllCovered (withEntry h entry)

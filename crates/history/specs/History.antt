@@ -30,6 +30,25 @@ abbrev pub history : (ℕ → Bool) → (ℕ → ℕ → ℕ) → (ℕ → ℕ �
 history joined setting mark pot cap index filed withdrawn =
     record { joined = joined; setting = setting; mark = mark; pot-rate = pot; cap-rate = cap; index = index; filed = filed; withdrawn = withdrawn }
 
+-- a history with another part, all else as it was
+abbrev pub historyWithOperators : History → (ℕ → Bool) → History
+historyWithOperators h joined = history joined (h .setting) (h .mark) (h .pot-rate) (h .cap-rate) (h .index) (h .filed) (h .withdrawn)
+
+abbrev pub historyWithSettings : History → (ℕ → ℕ → ℕ) → History
+historyWithSettings h setting = history (h .joined) setting (h .mark) (h .pot-rate) (h .cap-rate) (h .index) (h .filed) (h .withdrawn)
+
+abbrev pub historyWithMarks : History → (ℕ → ℕ → Bool) → History
+historyWithMarks h mark = history (h .joined) (h .setting) mark (h .pot-rate) (h .cap-rate) (h .index) (h .filed) (h .withdrawn)
+
+abbrev pub historyWithRates : History → ℕ → ℕ → History
+historyWithRates h pot cap = history (h .joined) (h .setting) (h .mark) pot cap (h .index) (h .filed) (h .withdrawn)
+
+abbrev pub historyWithIndices : History → (ℕ → ℕ) → History
+historyWithIndices h index = history (h .joined) (h .setting) (h .mark) (h .pot-rate) (h .cap-rate) index (h .filed) (h .withdrawn)
+
+abbrev pub historyWithSums : History → (ℕ → ℕ → ℕ → ℕ) → (ℕ → ℕ → ℕ → ℕ) → History
+historyWithSums h filed withdrawn = history (h .joined) (h .setting) (h .mark) (h .pot-rate) (h .cap-rate) (h .index) filed withdrawn
+
 -- "no operator, every setting at its fresh value, and two sums of 0"
 unfoldable pub plain : History
 plain = history (λ o. false) (λ o which. 0) (λ o indicator. false) 0 0 (λ number. freshIndex) (λ o year figure. 0) (λ o year figure. 0)
@@ -56,7 +75,7 @@ summed entry old k y f = cond (eqb k (entry .operator) && eqb y (entry .year) &&
 -- an entry goes to the filed sum of its figure, "with sign 1 to the withdrawn one"
 unfoldable pub withEntry : History → Entry → History
 withEntry h entry =
-    history (h .joined) (h .setting) (h .mark) (h .pot-rate) (h .cap-rate) (h .index)
+    historyWithSums h
     (cond (eqb (entry .sign) 0) (summed entry (h .filed)) (h .filed))
     (cond (eqb (entry .sign) 0) (h .withdrawn) (summed entry (h .withdrawn)))
 
@@ -67,13 +86,13 @@ withEntries h (entry ∷ rest) = withEntries (withEntry h entry) rest
 -- "Join adds the operator", and sets every mark of it (02, point 1: "with a join counted as setting six marks"). "Setting, mark and
 -- index replace the value they name, rates both rates."
 unfoldable pub recorded : History → Call → History
-recorded h (Join operator) = history (at1 operator true (h .joined)) (h .setting) (at1 operator joinMarks (h .mark)) (h .pot-rate) (h .cap-rate) (h .index) (h .filed) (h .withdrawn)
-recorded h (Setting operator which value) = history (h .joined) (at2 operator which value (h .setting)) (h .mark) (h .pot-rate) (h .cap-rate) (h .index) (h .filed) (h .withdrawn)
+recorded h (Join operator) = historyWithMarks (historyWithOperators h (at1 operator true (h .joined))) (at1 operator joinMarks (h .mark))
+recorded h (Setting operator which value) = historyWithSettings h (at2 operator which value (h .setting))
 recorded h (Interruption operator sign level cause start end weight) = withEntries h (factsOf (Interruption operator sign level cause start end weight) .entries)
 recorded h (Amount operator year figure sign value) = withEntries h (factsOf (Amount operator year figure sign value) .entries)
-recorded h (Mark operator indicator mark) = history (h .joined) (h .setting) (at2 operator indicator (eqb mark 1) (h .mark)) (h .pot-rate) (h .cap-rate) (h .index) (h .filed) (h .withdrawn)
-recorded h (Rates pot cap) = history (h .joined) (h .setting) (h .mark) pot cap (h .index) (h .filed) (h .withdrawn)
-recorded h (Index number value) = history (h .joined) (h .setting) (h .mark) (h .pot-rate) (h .cap-rate) (at1 number value (h .index)) (h .filed) (h .withdrawn)
+recorded h (Mark operator indicator mark) = historyWithMarks h (at2 operator indicator (eqb mark 1) (h .mark))
+recorded h (Rates pot cap) = historyWithRates h pot cap
+recorded h (Index number value) = historyWithIndices h (at1 number value (h .index))
 
 -- "The table of answers .. is looked up with what the history itself holds"
 unfoldable pub noteAnswer : History → Call → Said Acceptance

@@ -70,7 +70,7 @@ module _ (b : Book) (indicator : Indicator) where
         and-has _ _ operator ∙ ap (λ (t : Bool). has (b .joined) operator && t) (complement 16 _ operator (mark-set-small b ranged (indicator .number)) lt)
 
     small : b .joined < 2 ^ 16
-    small = bounded b ranged .joined-small
+    small = bounded b ranged .joined
 
     pub joined-counted : ones (b .joined) ≡ count 16 (isJoined b)
     unfolding isJoined

@@ -15,13 +15,13 @@ use Rattle.calls.specs.declared.Moved.{Moved}
 use Rattle.calls.specs.declared.Moved.the-variants.{To, Above, Below}
 use Rattle.calls.specs.Limits.{figureLimit}
 use Rattle.calls.specs.Answers.{refused-by, accepted, onAnswer, firstOf, Acceptance}
-use Rattle.book.specs.Book.{figureSlot, figureOf}
+use Rattle.book.specs.Book.{withFigures, figureSlot, figureOf}
 use Rattle.calls.specs.Call.{Entry}
 use Rattle.calls.specs.Figures.{movedSaid, movedBy}
 use Rattle.calls.proofs.Flags.{and-left}
 use Rattle.calls.proofs.SaidLaws.{movedSaying, moved-back}
 use Rattle.ledger.specs.Table.{some, passesLimit, fallsBelow}
-use Rattle.ledger.specs.Calls.{Outcome, withFigures, entered, enterAll, outcomeOf}
+use Rattle.ledger.specs.Calls.{Outcome, entered, enterAll, outcomeOf}
 use Rattle.ledger.specs.Steps.{entering}
 use Rattle.ledger.proofs.AdmissionLaws.{refusedCall, acceptedCall}
 
@@ -118,7 +118,7 @@ module _ (b : Book) where
 
   pub moved-two : (entry other : Entry) (new newer : ℕ) → placed other ≢ placed entry → MovesAt entry new → MovesAt other newer
       → enterAll b (entry ∷ other ∷ []) ≡ withFigures b (set (set (b .figures) (placed entry) new) (placed other) newer)
-  unfolding enterAll entered figureOf withFigures
+  unfolding enterAll entered figureOf
   moved-two entry other new newer apart moves moves-too =
       rw (moves .reaches, getD-set-other (b .figures) (placed entry) (placed other) new 0 apart, moves-too .reaches) refl
 

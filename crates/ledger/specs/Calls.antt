@@ -11,12 +11,8 @@ use Rattle.calls.specs.declared.Call.the-variants.{Join, Setting, Interruption,
 use Rattle.calls.specs.Answers.{Said, refused-by, onAnswer, Acceptance}
 use Rattle.calls.specs.Masks.{including, remasked}
 use Rattle.calls.specs.Call.{joinMarks, Entry, factsOf}
-use Rattle.book.specs.Book.{bookWith, settingSlot, figureSlot, isJoined, figureOf, inRange}
+use Rattle.book.specs.Book.{withJoined, withMarks, withSettings, withFigures, withRates, withIndices, settingSlot, figureSlot, isJoined, figureOf, inRange}
 use Rattle.ledger.specs.Table.{answerTo}
-
--- a book with other figures
-abbrev pub withFigures : Book → List ℕ → Book
-withFigures b figures = bookWith (b .joined) (b .marks) (b .settings) figures (b .«pot_rate») (b .«cap_rate») (b .indices)
 
 -- an entry "added or subtracted"
 unfoldable pub entered : Book → Entry → Book
@@ -40,19 +36,15 @@ unattested marks operator = unattestedFrom 0 marks operator
 
 -- the book after a call that nothing refuses
 unfoldable pub changed : Book → Call → Book
-changed b (Join operator) =
-    bookWith (including (b .joined) operator) (unattested (b .marks) operator) (b .settings) (b .figures) (b .«pot_rate») (b .«cap_rate») (b .indices)
-changed b (Setting operator which value) =
-    bookWith (b .joined) (b .marks) (set (b .settings) (settingSlot operator which) value) (b .figures) (b .«pot_rate») (b .«cap_rate») (b .indices)
+changed b (Join operator) = withMarks (withJoined b (including (b .joined) operator)) (unattested (b .marks) operator)
+changed b (Setting operator which value) = withSettings b (set (b .settings) (settingSlot operator which) value)
 changed b (Interruption operator sign level cause start end weight) =
     enterAll b (factsOf (Interruption operator sign level cause start end weight) .entries)
 changed b (Amount operator year figure sign value) = enterAll b (factsOf (Amount operator year figure sign value) .entries)
 changed b (Mark operator indicator mark) =
-    let marks : List ℕ = set (b .marks) indicator (remasked (getD (b .marks) indicator 0) operator mark) in
-    bookWith (b .joined) marks (b .settings) (b .figures) (b .«pot_rate») (b .«cap_rate») (b .indices)
-changed b (Rates pot cap) = bookWith (b .joined) (b .marks) (b .settings) (b .figures) pot cap (b .indices)
-changed b (Index number value) =
-    bookWith (b .joined) (b .marks) (b .settings) (b .figures) (b .«pot_rate») (b .«cap_rate») (set (b .indices) number value)
+    withMarks b (set (b .marks) indicator (remasked (getD (b .marks) indicator 0) operator mark))
+changed b (Rates pot cap) = withRates b pot cap
+changed b (Index number value) = withIndices b (set (b .indices) number value)
 
 -- what a call gives: the book afterwards, and what it answers
 pub record Outcome : Type 0 where

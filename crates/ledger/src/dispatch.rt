@@ -1,7 +1,8 @@
 // The calls on a book that is in range: which one a value names, on the parts of a book lent to it, and on a book by value.
 ghost use mathlib.Core.Path.{_≡_};
 ghost use mathlib.Core.Bool.{true};
-ghost use Rattle.book.specs.Book.{bookWith, inRange};
+ghost use Rattle.book.specs.Book.{inRange};
+ghost use Rattle.book.specs.Steps.{lentBook, BeforeAndAfter};
 ghost use Rattle.ledger.specs.Steps.{Leaves};
 use crate::Answered;
 use crate::in_place;
@@ -25,8 +26,8 @@ pub fn apply_in(
     indices: &mut [u32; INDICES],
     filing_call: Call,
 ) -> Answer
-    requires { ⌜ inRange (bookWith (now joined) (now marks) (now settings) (now figures) (now «pot_rate») (now «cap_rate») (now indices)) ≡ true ⌝ }
-    ensures { λ r. ⌜ Leaves (bookWith (now (joined .entry)) (now (marks .entry)) (now (settings .entry)) (now (figures .entry)) (now («pot_rate» .entry)) (now («cap_rate» .entry)) (now (indices .entry))) «filing_call» r (bookWith (now (joined .exit)) (now (marks .exit)) (now (settings .exit)) (now (figures .exit)) (now («pot_rate» .exit)) (now («cap_rate» .exit)) (now (indices .exit))) ⌝ }
+    requires { ⌜ inRange (lentBook joined marks settings figures «pot_rate» «cap_rate» indices) ≡ true ⌝ }
+    ensures { λ r. ⌜ BeforeAndAfter joined marks settings figures «pot_rate» «cap_rate» indices (λ before after. Leaves before «filing_call» r after) ⌝ }
 {
     match filing_call {
         Call::Join { operator } => in_place::join(joined, marks, operator),

@@ -1,14 +1,13 @@
 // The seven filing calls on the parts of a book that each changes, lent and altered in place; a refused call leaves them. Each refuses in
 // the order of the table: 4, 5, 6 or 7, then 8 and 9.
 ghost use mathlib.Core.Path.{_≡_};
-ghost use mathlib.Core.List.{List, [], _∷_};
-ghost use Prim.Native.Nat.{ℕ, _<_};
+ghost use mathlib.Core.List.{[], _∷_};
+ghost use Prim.Native.Nat.{_<_};
 ghost use Rattle.calls.specs.Limits.{operators};
-ghost use Rattle.book.specs.Book.{bookWith};
 ghost use Rattle.calls.specs.Answers.{firstOf, yes-said, counted-in};
 ghost use Rattle.calls.specs.Call.{entry, interruptionEntries};
 ghost use Rattle.ledger.specs.Calls.{unattested};
-ghost use Rattle.ledger.specs.Steps.{Leaves, Enters, AmountInRange, CountedInRange, memberLines, admissionSaid};
+ghost use Rattle.ledger.specs.Steps.{OnMarks, OnSettings, OnFigures, OnRates, OnIndices, Enters, AmountInRange, CountedInRange, memberLines, admissionSaid};
 use crate::Admission;
 use book::figure_slot;
 use book::setting_slot;
@@ -37,7 +36,7 @@ use calls::setting_in_range;
 use calls::year_of;
 
 pub(crate) fn join(joined: &mut u16, marks: &mut [u16; INDICATORS], operator: u8) -> Answer
-    ensures { λ r. ⌜ ((settings figures indices : List ℕ) (pot cap : ℕ) → Leaves (bookWith (now (joined .entry)) (now (marks .entry)) settings figures pot cap indices) (Call.Join operator) r (bookWith (now (joined .exit)) (now (marks .exit)) settings figures pot cap indices)) ⌝ }
+    ensures { λ r. ⌜ OnMarks (now (joined .entry)) (now (marks .entry)) (Call.Join operator) r (now (joined .exit)) (now (marks .exit)) ⌝ }
 {
     if LAST_OPERATOR < operator {
         return Answer::Refused(Refusal::UnknownOperator);
@@ -88,7 +87,7 @@ pub(crate) fn setting(
     which: u8,
     value: u64,
 ) -> Answer
-    ensures { λ r. ⌜ ((marks figures indices : List ℕ) (pot cap : ℕ) → Leaves (bookWith joined marks (now (settings .entry)) figures pot cap indices) (Call.Setting operator which value) r (bookWith joined marks (now (settings .exit)) figures pot cap indices)) ⌝ }
+    ensures { λ r. ⌜ OnSettings joined (now (settings .entry)) (Call.Setting operator which value) r (now (settings .exit)) ⌝ }
 {
     if let Admission::Refused(refusal) = admit(joined, operator, setting_in_range(which, value)) {
         return Answer::Refused(refusal);
@@ -110,7 +109,7 @@ pub(crate) fn interruption(
     end: i64,
     weight: u32,
 ) -> Answer
-    ensures { λ r. ⌜ ((marks settings indices : List ℕ) (pot cap : ℕ) → Leaves (bookWith joined marks settings (now (figures .entry)) pot cap indices) (Call.Interruption operator sign level cause start end weight) r (bookWith joined marks settings (now (figures .exit)) pot cap indices)) ⌝ }
+    ensures { λ r. ⌜ OnFigures joined (now (figures .entry)) (Call.Interruption operator sign level cause start end weight) r (now (figures .exit)) ⌝ }
 {
     let valid = interruption_in_range(sign, level, cause, start, end, weight);
     if let Admission::Refused(refusal) = admit(joined, operator, valid) {
@@ -137,7 +136,7 @@ fn enter_counted(
     seconds: u64,
 ) -> Answer
     requires { ⌜ CountedInRange operator sign level year weight seconds ⌝ }
-    ensures { λ r. ⌜ ((joined pot cap : ℕ) (marks settings indices : List ℕ) → Enters (bookWith joined marks settings (now (figures .entry)) pot cap indices) (interruptionEntries operator sign level weight seconds (counted-in year)) (counted-in year) r (bookWith joined marks settings (now (figures .exit)) pot cap indices)) ⌝ }
+    ensures { λ r. ⌜ Enters (now (figures .entry)) (interruptionEntries operator sign level weight seconds (counted-in year)) (counted-in year) r (now (figures .exit)) ⌝ }
 {
     let weight_at = figure_slot(operator, year, 2 * level);
     let seconds_at = figure_slot(operator, year, 2 * level + 1);
@@ -166,7 +165,7 @@ pub(crate) fn amount(
     sign: u8,
     value: u64,
 ) -> Answer
-    ensures { λ r. ⌜ ((marks settings indices : List ℕ) (pot cap : ℕ) → Leaves (bookWith joined marks settings (now (figures .entry)) pot cap indices) (Call.Amount operator year figure sign value) r (bookWith joined marks settings (now (figures .exit)) pot cap indices)) ⌝ }
+    ensures { λ r. ⌜ OnFigures joined (now (figures .entry)) (Call.Amount operator year figure sign value) r (now (figures .exit)) ⌝ }
 {
     if let Admission::Refused(refusal) = admit(
         joined,
@@ -188,7 +187,7 @@ fn enter_amount(
     value: u64,
 ) -> Answer
     requires { ⌜ AmountInRange operator year figure sign ⌝ }
-    ensures { λ r. ⌜ ((joined pot cap : ℕ) (marks settings indices : List ℕ) → Enters (bookWith joined marks settings (now (figures .entry)) pot cap indices) (entry operator year figure sign value ∷ []) yes-said r (bookWith joined marks settings (now (figures .exit)) pot cap indices)) ⌝ }
+    ensures { λ r. ⌜ Enters (now (figures .entry)) (entry operator year figure sign value ∷ []) yes-said r (now (figures .exit)) ⌝ }
 {
     let at = figure_slot(operator, year, figure);
     match move_figure(sign, value, figures[at]) {
@@ -209,7 +208,7 @@ pub(crate) fn mark_indicator(
     indicator: u8,
     mark: u8,
 ) -> Answer
-    ensures { λ r. ⌜ ((settings figures indices : List ℕ) (pot cap : ℕ) → Leaves (bookWith joined (now (marks .entry)) settings figures pot cap indices) (Call.Mark operator indicator mark) r (bookWith joined (now (marks .exit)) settings figures pot cap indices)) ⌝ }
+    ensures { λ r. ⌜ OnMarks joined (now (marks .entry)) (Call.Mark operator indicator mark) r joined (now (marks .exit)) ⌝ }
 {
     if let Admission::Refused(refusal) = admit(joined, operator, mark_in_range(indicator, mark)) {
         return Answer::Refused(refusal);
@@ -220,7 +219,7 @@ pub(crate) fn mark_indicator(
 }
 
 pub(crate) fn rates(pot_rate: &mut u32, cap_rate: &mut u32, pot: u32, cap: u32) -> Answer
-    ensures { λ r. ⌜ ((joined : ℕ) (marks settings figures indices : List ℕ) → Leaves (bookWith joined marks settings figures (now («pot_rate» .entry)) (now («cap_rate» .entry)) indices) (Call.Rates pot cap) r (bookWith joined marks settings figures (now («pot_rate» .exit)) (now («cap_rate» .exit)) indices)) ⌝ }
+    ensures { λ r. ⌜ OnRates (now («pot_rate» .entry)) (now («cap_rate» .entry)) (Call.Rates pot cap) r (now («pot_rate» .exit)) (now («cap_rate» .exit)) ⌝ }
 {
     if !rates_in_range(pot, cap) {
         return Answer::Refused(Refusal::OutOfRange);
@@ -232,7 +231,7 @@ pub(crate) fn rates(pot_rate: &mut u32, cap_rate: &mut u32, pot: u32, cap: u32) 
 
 // Number: 0 to 2 the June before each year, 3 June 2013.
 pub(crate) fn index(indices: &mut [u32; INDICES], number: u8, value: u32) -> Answer
-    ensures { λ r. ⌜ ((joined pot cap : ℕ) (marks settings figures : List ℕ) → Leaves (bookWith joined marks settings figures pot cap (now (indices .entry))) (Call.Index number value) r (bookWith joined marks settings figures pot cap (now (indices .exit)))) ⌝ }
+    ensures { λ r. ⌜ OnIndices (now (indices .entry)) (Call.Index number value) r (now (indices .exit)) ⌝ }
 {
     if !index_in_range(number, value) {
         return Answer::Refused(Refusal::OutOfRange);

@@ -114,7 +114,7 @@ shared-whole T f k lt above = shared T (each f) .whole (omega (arith, above, eac
 contributions-whole : (b : Book) → inRange b ≡ true → eqb (b .joined) 0 ≡ false → networkMissing b ≡ false → sum (contributions b) ≡ pot b
 unfolding contributions isJoined
 contributions-whole b ranged somebody network =
-    let found = some-one 16 (b .joined) (bounded b ranged .joined-small) (omega (arith, eqb-false (b .joined) 0 somebody)) in
+    let found = some-one 16 (b .joined) (bounded b ranged .joined) (omega (arith, eqb-false (b .joined) 0 somebody)) in
     shared-whole (pot b) _ (found .0) (found .1) (joined-access b network (found .0) (found .1) (found .2))
 
 returns-whole : (b : Book) (indicators : List Indicator) → inRange b ≡ true → Worth indicators → networkMissing b ≡ false

@@ -34,9 +34,9 @@ no-size (negsuc n) none = absurd (omega arith)
 
 module _ (b : Book) (ranged : inRange b ≡ true) (operator : ℕ) (lt : operator < 16) (apart : isJoined b operator ≡ false) where
   setting-none : (which : ℕ) → which < settingCount → settingOf b operator which ≡ 0
-  unfolding most
+  unfolding most settingOf isJoined
   setting-none which small =
-      let none : settingOf b operator which ≤ 0 = rw apart at (bounded b ranged .setting operator which lt small) in
+      let none : settingOf b operator which ≤ 0 = rw apart at (bounded b ranged .settings .within operator which lt small) in
       omega (arith, none)
 
   pub points-unjoined : (indicator : Indicator) → getD (points b indicator) operator 0 ≡ 0

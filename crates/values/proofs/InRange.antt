@@ -2,7 +2,7 @@
 -- Assumes nothing.
 use Prim.Native.Nat.{ℕ, zero, suc, _^_, _≤_, _<_}
 use mathlib.Core.Path.{_≡_, refl}
-use mathlib.Core.Bool.{Bool, true, false, cond}
+use mathlib.Core.Bool.{true}
 use mathlib.Core.List.{List, []}
 use native.Mathlib.Omega.{arith}
 use native.Mathlib.Decide.{decLt}
@@ -10,25 +10,17 @@ use native.Mathlib.Nat.{le-trans}
 use lib.ListN.{length, getD, List·getD-eq-default}
 use Rattle.book.specs.declared.Book.{Book}
 use Rattle.calls.specs.Limits.{operators, years, figureCount, settingCount, indicatorCount, indexCount, settingLimit, figureLimit, rateLimit, indexMost}
-use Rattle.book.specs.Book.{bookWith, isJoined, settingOf, figureOf, indexOf, most, inRange}
-use Rattle.book.proofs.Bounds.{bounded}
+use Rattle.book.specs.Book.{withJoined, withMarks, withSettings, withFigures, withIndices, freshBook, settingOf, figureOf, indexOf, inRange}
+use Rattle.book.proofs.Bounds.{most-le, bounded}
 use Rattle.values.specs.Bounds.{accessLimit, incomeLimit}
 use Rattle.values.specs.Operators.{settingsOf, figuresOf}
 use Rattle.values.specs.Parts.{HasMarks, HasMeasures, SettingsWithin, FiguresWithin, IndicesWithin, Within}
 use Rattle.values.proofs.Tables.{each-le}
 
--- at most the limit, joined or not
-most-le : (b : Book) (operator limit : ℕ) → most b operator limit ≤ limit
-unfolding most
-most-le b operator limit = go (isJoined b operator)
-  where
-    go : (t : Bool) → cond t limit 0 ≤ limit
-    go true = omega arith
-    go false = omega arith
-
 module _ (b : Book) (ranged : inRange b ≡ true) where
   setting-le : (operator which : ℕ) → operator < operators → which < settingCount → settingOf b operator which ≤ settingLimit which
-  setting-le operator which lo lw = le-trans (bounded b ranged .setting operator which lo lw) (most-le b operator (settingLimit which))
+  unfolding settingOf
+  setting-le operator which lo lw = le-trans (bounded b ranged .settings .within operator which lo lw) (most-le (b .joined) operator (settingLimit which))
 
   pub access-le : (operator : ℕ) → operator < operators → settingOf b operator 1 ≤ accessLimit
   access-le operator lo = setting-le operator 1 lo (omega arith)
@@ -41,8 +33,8 @@ module _ (b : Book) (ranged : inRange b ≡ true) where
   within =
       record {
         settings-within = setting-le;
-        figures-within = λ operator year figure lo ly lf. le-trans (bounded b ranged .figure operator year figure lo ly lf) (most-le b operator figureLimit);
-        indices-within = λ number lt. bounded b ranged .index number lt .1;
+        figures-within = λ operator year figure lo ly lf. le-trans (bounded b ranged .figures .within operator year figure lo ly lf) (most-le (b .joined) operator figureLimit);
+        indices-within = λ number lt. bounded b ranged .indices .within number lt .1;
       }
 
   -- the marks of any indicator number, there or not, are sixteen bits
@@ -50,21 +42,21 @@ module _ (b : Book) (ranged : inRange b ≡ true) where
   mark-set-small indicator = go (decLt indicator indicatorCount)
     where
       go : Dec (indicator < indicatorCount) → getD (b .marks) indicator 0 < 2 ^ 16
-      go (yes inside) = bounded b ranged .marks-small indicator inside
+      go (yes inside) = bounded b ranged .marks .small indicator inside
       go (no outside) =
-          let past : length (b .marks) ≤ indicator = omega (arith, bounded b ranged .marks-long, outside) in
+          let past : length (b .marks) ≤ indicator = omega (arith, bounded b ranged .marks .long, outside) in
           rw (List·getD-eq-default (b .marks) 0 past) (omega arith)
 
   pub pot-rate-le : b .«pot_rate» ≤ rateLimit
-  pot-rate-le = bounded b ranged .pot-rate
+  pot-rate-le = bounded b ranged .rates .pot-rate
 
   pub cap-rate-le : b .«cap_rate» ≤ rateLimit
-  cap-rate-le = bounded b ranged .cap-rate
+  cap-rate-le = bounded b ranged .rates .cap-rate
 
 -- a book that lent parts belong to, and one that holds settings, figures and indices alone
 module _ (joined : ℕ) (marks settings figures indices : List ℕ) where
   abbrev pub lending : Book
-  lending = bookWith joined marks settings figures 0 0 indices
+  lending = withIndices (withFigures (withSettings (withMarks (withJoined freshBook joined) marks) settings) figures) indices
 
   pub lending-marked : HasMarks lending joined marks
   lending-marked = record { joined-are = refl; marks-are = refl }

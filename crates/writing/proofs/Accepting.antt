@@ -12,9 +12,9 @@ use Rattle.calls.specs.Limits.{operators, years, figureCount, settingCount, ind
 use Rattle.calls.specs.Masks.{has, including, excluding, remasked}
 use Rattle.calls.specs.Answers.{yes-said}
 use Rattle.calls.specs.Call.{entry, factsOf}
-use Rattle.book.specs.Book.{bookWith, isJoined, figureOf, settingSlot, figureSlot}
+use Rattle.book.specs.Book.{withJoined, withMarks, withSettings, withFigures, withRates, withIndices, isJoined, figureOf, settingSlot, figureSlot}
 use Rattle.ledger.specs.Table.{some}
-use Rattle.ledger.specs.Calls.{unattested, changed, withFigures, apply}
+use Rattle.ledger.specs.Calls.{unattested, changed, apply}
 use Rattle.ledger.specs.Steps.{entering}
 use Rattle.ledger.proofs.AdmissionLaws.{acceptedCall, admitted, done}
 use Rattle.ledger.proofs.MoveLaws.{one-moved}
@@ -22,7 +22,7 @@ use Rattle.ledger.proofs.MoveLaws.{one-moved}
 module _ (c : Book) where
   pub join-accepted : (operator : ℕ) → operator < operators → has (c .joined) operator ≡ false
       → apply c (Join operator)
-      ≡ acceptedCall (bookWith (including (c .joined) operator) (unattested (c .marks) operator) (c .settings) (c .figures) (c .«pot_rate») (c .«cap_rate») (c .indices)) yes-said
+      ≡ acceptedCall (withMarks (withJoined c (including (c .joined) operator)) (unattested (c .marks) operator)) yes-said
   unfolding factsOf some changed isJoined
   join-accepted operator lo free =
       done c (Join operator) (rw (lt-leb operators operator lo) refl) refl (rw free refl) refl refl
@@ -30,7 +30,7 @@ module _ (c : Book) where
   pub setting-accepted : (operator which value : ℕ) → operator < operators → which < settingCount → value ≤ settingLimit which
       → has (c .joined) operator ≡ true
       → apply c (Setting operator which value)
-      ≡ acceptedCall (bookWith (c .joined) (c .marks) (set (c .settings) (settingSlot operator which) value) (c .figures) (c .«pot_rate») (c .«cap_rate») (c .indices)) yes-said
+      ≡ acceptedCall (withSettings c (set (c .settings) (settingSlot operator which) value)) yes-said
   unfolding factsOf some changed isJoined
   setting-accepted operator which value lo lw le joined =
       done c (Setting operator which value) (rw (lt-leb operators operator lo) refl) (rw (lt-ltb which settingCount lw, le-leb value (settingLimit which) le) refl) refl
@@ -55,20 +55,20 @@ module _ (c : Book) where
   -- a mark that is cleared
   pub mark-accepted : (operator indicator : ℕ) → operator < operators → indicator < indicatorCount → has (c .joined) operator ≡ true
       → apply c (Mark operator indicator 0)
-      ≡ acceptedCall (bookWith (c .joined) (set (c .marks) indicator (excluding (getD (c .marks) indicator 0) operator)) (c .settings) (c .figures) (c .«pot_rate») (c .«cap_rate») (c .indices)) yes-said
+      ≡ acceptedCall (withMarks c (set (c .marks) indicator (excluding (getD (c .marks) indicator 0) operator))) yes-said
   unfolding factsOf some changed isJoined remasked
   mark-accepted operator indicator lo li joined =
       done c (Mark operator indicator 0) (rw (lt-leb operators operator lo) refl) (rw (lt-ltb indicator indicatorCount li) refl) refl (rw joined refl) refl
 
   pub index-accepted : (number value : ℕ) → number < indexCount → indexLeast ≤ value → value ≤ indexMost
       → apply c (Index number value)
-      ≡ acceptedCall (bookWith (c .joined) (c .marks) (c .settings) (c .figures) (c .«pot_rate») (c .«cap_rate») (set (c .indices) number value)) yes-said
+      ≡ acceptedCall (withIndices c (set (c .indices) number value)) yes-said
   unfolding factsOf some changed
   index-accepted number value ln least most =
       done c (Index number value) refl (rw (lt-ltb number indexCount ln, le-leb indexLeast value least, le-leb value indexMost most) refl) refl refl refl
 
   pub rates-accepted : (pot cap : ℕ) → pot ≤ rateLimit → cap ≤ rateLimit
-      → apply c (Rates pot cap) ≡ acceptedCall (bookWith (c .joined) (c .marks) (c .settings) (c .figures) pot cap (c .indices)) yes-said
+      → apply c (Rates pot cap) ≡ acceptedCall (withRates c pot cap) yes-said
   unfolding factsOf some changed
   rates-accepted pot cap pot-le cap-le =
       done c (Rates pot cap) refl (rw (le-leb pot rateLimit pot-le, le-leb cap rateLimit cap-le) refl) refl refl refl

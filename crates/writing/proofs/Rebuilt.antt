@@ -17,7 +17,7 @@ use Rattle.calls.specs.declared.Call.the-variants.{Join, Setting, Amount, Mark,
 use Rattle.calls.specs.Limits.{operators, years, figureCount, settingCount, indicatorCount, indexCount, settingPlaces, operatorFigures, figurePlaces, settingLimit, figureLimit, freshIndex}
 use Rattle.calls.specs.Masks.{has}
 use Rattle.calls.specs.Answers.{yes-said}
-use Rattle.book.specs.Book.{bookWith, freshBook, isJoined, isMarked, settingOf, figureOf, indexOf, settingSlot, figureSlot, most, inRange}
+use Rattle.book.specs.Book.{withJoined, withMarks, withSettings, withFigures, withRates, withIndices, freshBook, isJoined, isMarked, settingOf, figureOf, indexOf, settingSlot, figureSlot, most, inRange}
 use Rattle.book.proofs.Bounds.{Bounds, bounded}
 use Rattle.book.proofs.SlotLaws.{setting-slot-lt, figure-slot-lt}
 use Rattle.history.proofs.Kept.{fresh-in-range}
@@ -45,7 +45,7 @@ freshIndices = replicate indexCount freshIndex
 
 -- a book after joins alone
 abbrev joinedBook : ℕ → Book
-joinedBook joined = bookWith joined (joinedMarks joined) noSettings noFigures 0 0 freshIndices
+joinedBook joined = withMarks (withJoined freshBook joined) (joinedMarks joined)
 
 -- a value above 0 is a joined operator's
 joined-if : (t : Bool) (limit value : ℕ) → value ≤ cond t limit 0 → (value ≡ 0 → ⊥) → (t ≡ true) × (value ≤ limit)
@@ -76,13 +76,13 @@ module _ (b : Book) (ranged : inRange b ≡ true) where
   joins-lead : Leads freshBook (joinCalls b) (joinedBook (b .joined))
   unfolding joinCalls freshBook joinStage
   joins-lead =
-      let whole = mix-all-bits operators (b .joined) 0 (bounds .joined-small) (omega arith) in
+      let whole = mix-all-bits operators (b .joined) 0 (bounds .joined) (omega arith) in
       let none = mix-no-bits (b .joined) 0 in
       rw (whole, none) at (leads-turns operators _ joinStage (rw none fresh-in-range) join-step)
 
   -- settings, place by place
   settingStage : ℕ → Book
-  settingStage k = bookWith (b .joined) (joinedMarks (b .joined)) (mix k (b .settings) noSettings) noFigures 0 0 freshIndices
+  settingStage k = withSettings (joinedBook (b .joined)) (mix k (b .settings) noSettings)
 
   setting-step : (operator which : ℕ) → operator < operators → which < settingCount → inRange (settingStage (settingSlot operator which)) ≡ true
       → Leads (settingStage (settingSlot operator which))
@@ -98,17 +98,17 @@ module _ (b : Book) (ranged : inRange b ≡ true) where
       value = getD (b .settings) k 0
 
       inside : k < length (b .settings)
-      inside = rw (bounds .settings-long) (setting-slot-lt operator which lo lw)
+      inside = rw (bounds .settings .long) (setting-slot-lt operator which lo lw)
 
       long : length noSettings ≡ length (b .settings)
-      long = sym (bounds .settings-long)
+      long = sym (bounds .settings .long)
 
       go : (t : Bool) → eqb value 0 ≡ t → Leads (settingStage k) (cond t [] (Setting operator which value ∷ [])) (settingStage (suc k))
       go true e =
           let same = mix-same (b .settings) noSettings long k inside (eqb-true value 0 e ∙ sym (getD-replicate {A = ℕ} settingPlaces k 0 0 (setting-slot-lt operator which lo lw))) in
           rw same (leads-none (settingStage (suc k)) (rw (← same) in-range))
       go false e =
-          let may = joined-if (has (b .joined) operator) (settingLimit which) value (bounds .setting operator which lo lw) (eqb-false value 0 e) in
+          let may = joined-if (has (b .joined) operator) (settingLimit which) value (bounds .settings .within operator which lo lw) (eqb-false value 0 e) in
           leads-one (settingStage k) (Setting operator which value) (settingStage (suc k)) yes-said in-range
           (setting-accepted (settingStage k) operator which value lo lw (may .1) (may .0) ∙ rw (mix-set (b .settings) noSettings long k inside) refl)
 
@@ -116,9 +116,13 @@ module _ (b : Book) (ranged : inRange b ≡ true) where
   unfolding settingCalls settingSlot
   settings-lead in-range = leads-rows operators settingCount _ settingStage in-range (λ o w lo lw here. setting-step o w lo lw here)
 
+  -- a book after joins and settings
+  abbrev settingsBook : Book
+  settingsBook = withSettings (joinedBook (b .joined)) (b .settings)
+
   -- figures, place by place
   figureStage : ℕ → Book
-  figureStage k = bookWith (b .joined) (joinedMarks (b .joined)) (b .settings) (mix k (b .figures) noFigures) 0 0 freshIndices
+  figureStage k = withFigures settingsBook (mix k (b .figures) noFigures)
 
   figure-step : (operator year figure : ℕ) → operator < operators → year < years → figure < figureCount
       → inRange (figureStage (figureSlot operator year figure)) ≡ true
@@ -135,10 +139,10 @@ module _ (b : Book) (ranged : inRange b ≡ true) where
       value = getD (b .figures) k 0
 
       inside : k < length (b .figures)
-      inside = rw (bounds .figures-long) (figure-slot-lt operator year figure lo ly lf)
+      inside = rw (bounds .figures .long) (figure-slot-lt operator year figure lo ly lf)
 
       long : length noFigures ≡ length (b .figures)
-      long = sym (bounds .figures-long)
+      long = sym (bounds .figures .long)
 
       fresh : getD noFigures k 0 ≡ 0
       fresh = getD-replicate {A = ℕ} figurePlaces k 0 0 (figure-slot-lt operator year figure lo ly lf)
@@ -148,7 +152,7 @@ module _ (b : Book) (ranged : inRange b ≡ true) where
           let same = mix-same (b .figures) noFigures long k inside (eqb-true value 0 e ∙ sym fresh) in
           rw same (leads-none (figureStage (suc k)) (rw (← same) in-range))
       go false e =
-          let may = joined-if (has (b .joined) operator) figureLimit value (bounds .figure operator year figure lo ly lf) (eqb-false value 0 e) in
+          let may = joined-if (has (b .joined) operator) figureLimit value (bounds .figures .within operator year figure lo ly lf) (eqb-false value 0 e) in
           leads-one (figureStage k) (Amount operator year figure 0 value) (figureStage (suc k)) yes-said in-range
           (amount-accepted (figureStage k) operator year figure value lo ly lf (may .1) (may .0) (mix-at (b .figures) noFigures long k inside ∙ fresh)
           ∙ rw (mix-set (b .figures) noFigures long k inside) refl)
@@ -172,20 +176,24 @@ module _ (b : Book) (ranged : inRange b ≡ true) where
           let next : o * operatorFigures + suc (y * figureCount + f) ≡ suc ((o * years + y) * figureCount + f) = omega arith in
           rw (place, next) (figure-step o y f lo ly lf (rw place at there))))
 
+  -- and after amounts
+  abbrev figuresBook : Book
+  figuresBook = withFigures settingsBook (b .figures)
+
   -- marks, operator by operator, indicator by indicator: of the first operators as the book has them, of the others as their joins set them
   partMarks : ℕ → List ℕ
   partMarks o = map (λ (mask : ℕ). mixBits o mask (b .joined)) (b .marks)
 
   markStage : ℕ → ℕ → Book
-  markStage o i = bookWith (b .joined) (mix i (partMarks (suc o)) (partMarks o)) (b .settings) (b .figures) 0 0 freshIndices
+  markStage o i = withMarks figuresBook (mix i (partMarks (suc o)) (partMarks o))
 
   part-long : (o : ℕ) → length (partMarks o) ≡ indicatorCount
   unfolding partMarks
-  part-long o = length-map (b .marks) (λ (mask : ℕ). mixBits o mask (b .joined)) ∙ bounds .marks-long
+  part-long o = length-map (b .marks) (λ (mask : ℕ). mixBits o mask (b .joined)) ∙ bounds .marks .long
 
   part-at : (o i : ℕ) → i < indicatorCount → getD (partMarks o) i 0 ≡ mixBits o (getD (b .marks) i 0) (b .joined)
   unfolding partMarks
-  part-at o i li = map-at (λ (mask : ℕ). mixBits o mask (b .joined)) (b .marks) i (rw (bounds .marks-long) li)
+  part-at o i li = map-at (λ (mask : ℕ). mixBits o mask (b .joined)) (b .marks) i (rw (bounds .marks .long) li)
 
   mark-step : (o i : ℕ) → o < operators → i < indicatorCount → inRange (markStage o i) ≡ true
       → Leads (markStage o i) (cond (isJoined b o && not (isMarked b o i)) (Mark o i 0 ∷ []) []) (markStage o (suc i))
@@ -217,14 +225,14 @@ module _ (b : Book) (ranged : inRange b ≡ true) where
           → Leads (markStage o i) (cond (s && not t) (Mark o i 0 ∷ []) []) (markStage o (suc i))
       go true true joined marked = stays (marked ∙ sym joined)
       go false false joined marked = stays (marked ∙ sym joined)
-      go false true joined marked = absurd (false≢true (sym joined ∙ bounds .mark o i lo li marked))
+      go false true joined marked = absurd (false≢true (sym joined ∙ bounds .marks .members o i lo li marked))
       go true false joined marked =
           leads-one (markStage o i) (Mark o i 0) (markStage o (suc i)) yes-said in-range
           (mark-accepted (markStage o i) o i lo li joined
           ∙ rw (mix-at new old long i inside, part-at o i li, mix-cleared mask (b .joined) o joined marked, ← part-at (suc o) i li, mix-set new old long i inside) refl)
 
   marksBook : ℕ → Book
-  marksBook o = bookWith (b .joined) (partMarks o) (b .settings) (b .figures) 0 0 freshIndices
+  marksBook o = withMarks figuresBook (partMarks o)
 
   marks-lead : inRange (marksBook 0) ≡ true → Leads (marksBook 0) (markCalls b) (marksBook operators)
   unfolding markCalls marksBook markStage
@@ -245,14 +253,14 @@ module _ (b : Book) (ranged : inRange b ≡ true) where
 
   part-all : partMarks operators ≡ b .marks
   part-all =
-      ext-getD 0 (partMarks operators) (b .marks) (part-long operators ∙ sym (bounds .marks-long))
+      ext-getD 0 (partMarks operators) (b .marks) (part-long operators ∙ sym (bounds .marks .long))
       (λ i lt.
       let li : i < indicatorCount = rw (part-long operators) at lt in
-      part-at operators i li ∙ mix-all-bits operators (getD (b .marks) i 0) (b .joined) (bounds .marks-small i li) (bounds .joined-small))
+      part-at operators i li ∙ mix-all-bits operators (getD (b .marks) i 0) (b .joined) (bounds .marks .small i li) (bounds .joined))
 
   -- indices, place by place
   indexStage : ℕ → Book
-  indexStage k = bookWith (b .joined) (b .marks) (b .settings) (b .figures) 0 0 (mix k (b .indices) freshIndices)
+  indexStage k = withIndices (withMarks figuresBook (b .marks)) (mix k (b .indices) freshIndices)
 
   index-step : (k : ℕ) → k < indexCount → inRange (indexStage k) ≡ true
       → Leads (indexStage k) (unlessFresh (indexOf b k) freshIndex (Index k (indexOf b k))) (indexStage (suc k))
@@ -263,10 +271,10 @@ module _ (b : Book) (ranged : inRange b ≡ true) where
       value = getD (b .indices) k 0
 
       inside : k < length (b .indices)
-      inside = rw (bounds .indices-long) lt
+      inside = rw (bounds .indices .long) lt
 
       long : length freshIndices ≡ length (b .indices)
-      long = sym (bounds .indices-long)
+      long = sym (bounds .indices .long)
 
       go : (t : Bool) → eqb value freshIndex ≡ t → Leads (indexStage k) (cond t [] (Index k value ∷ [])) (indexStage (suc k))
       go true e =
@@ -274,7 +282,7 @@ module _ (b : Book) (ranged : inRange b ≡ true) where
           rw same (leads-none (indexStage (suc k)) (rw (← same) in-range))
       go false e =
           leads-one (indexStage k) (Index k value) (indexStage (suc k)) yes-said in-range
-          (index-accepted (indexStage k) k value lt (bounds .index k lt .0) (bounds .index k lt .1)
+          (index-accepted (indexStage k) k value lt (bounds .indices .within k lt .0) (bounds .indices .within k lt .1)
           ∙ rw (mix-set (b .indices) freshIndices long k inside) refl)
 
   indices-lead : inRange (indexStage 0) ≡ true → Leads (indexStage 0) (indexCalls b) (indexStage indexCount)
@@ -283,31 +291,31 @@ module _ (b : Book) (ranged : inRange b ≡ true) where
 
   -- rates, if either is not 0
   rates-lead : inRange (indexStage indexCount) ≡ true → Leads (indexStage indexCount) (rateCalls b) b
-  unfolding rateCalls indexStage
+  unfolding rateCalls indexStage freshBook
   rates-lead in-range = rw same (go (eqb (b .«pot_rate») 0 && eqb (b .«cap_rate») 0) refl)
     where
       same : mix indexCount (b .indices) freshIndices ≡ b .indices
-      same = mix-all indexCount (b .indices) freshIndices (bounds .indices-long) refl
+      same = mix-all indexCount (b .indices) freshIndices (bounds .indices .long) refl
 
       before : Book
-      before = bookWith (b .joined) (b .marks) (b .settings) (b .figures) 0 0 (b .indices)
+      before = withRates b 0 0
 
       go : (t : Bool) → eqb (b .«pot_rate») 0 && eqb (b .«cap_rate») 0 ≡ t → Leads before (cond t [] (Rates (b .«pot_rate») (b .«cap_rate») ∷ [])) b
       go true e =
           let no-pot = eqb-true (b .«pot_rate») 0 (and-left (eqb (b .«pot_rate») 0) _ e) in
           let no-cap = eqb-true (b .«cap_rate») 0 (and-right (eqb (b .«pot_rate») 0) _ e) in
-          let is : before ≡ b = λ i. bookWith (b .joined) (b .marks) (b .settings) (b .figures) (sym no-pot i) (sym no-cap i) (b .indices) in
+          let is : before ≡ b = λ i. withRates b (sym no-pot i) (sym no-cap i) in
           subst (λ (x : Book). Leads x [] b) (sym is) (leads-none b ranged)
       go false e =
           leads-one before (Rates (b .«pot_rate») (b .«cap_rate»)) b yes-said (rw same at in-range)
-          (rates-accepted before (b .«pot_rate») (b .«cap_rate») (bounds .pot-rate) (bounds .cap-rate))
+          (rates-accepted before (b .«pot_rate») (b .«cap_rate») (bounds .rates .pot-rate) (bounds .rates .cap-rate))
 
   -- all of them
   pub written-leads : Leads freshBook (writtenCalls b) b
-  unfolding writtenCalls settingStage figureStage marksBook indexStage
+  unfolding writtenCalls settingStage figureStage marksBook indexStage freshBook
   written-leads =
-      let settings-all = mix-all settingPlaces (b .settings) noSettings (bounds .settings-long) refl in
-      let figures-all = mix-all figurePlaces (b .figures) noFigures (bounds .figures-long) refl in
+      let settings-all = mix-all settingPlaces (b .settings) noSettings (bounds .settings .long) refl in
+      let figures-all = mix-all figurePlaces (b .figures) noFigures (bounds .figures .long) refl in
       let joins = joins-lead in
       let settings = rw settings-all at (settings-lead (stays-ranged joins)) in
       let figures = rw figures-all at (figures-lead (stays-ranged settings)) in

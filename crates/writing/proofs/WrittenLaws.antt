@@ -6,8 +6,8 @@ use mathlib.Core.List.{List}
 use mathlib.Core.Bool.{true}
 use Rattle.book.specs.declared.Book.{Book}
 use Rattle.calls.specs.Answers.{accepted, yes-said}
-use Rattle.book.specs.Book.{every, freshBook, isJoined, isMarked, settingOf, figureOf, indexOf, settingSlot, figureSlot, most, isComplete, hasSixteenBits, settingsInRange, figuresInRange, marksInRange, indicesInRange, ratesInRange, inRange}
-use Rattle.calls.specs.Masks.{has}
+use Rattle.book.specs.Book.{freshBook, inRange}
+use Rattle.book.proofs.Opened.{book-opened}
 use Rattle.fields.specs.Encoding.{inBytes, fieldOf, encoded}
 use lib.ListN.{length}
 use Rattle.filing.specs.Reader.{Reached, reading, read}
@@ -44,5 +44,5 @@ written-out b ranged =
 
 -- found by writing it
 pub fullest-exact : Fullest
-unfolding inRange isComplete hasSixteenBits settingsInRange figuresInRange marksInRange ratesInRange indicesInRange isJoined isMarked settingOf figureOf indexOf settingSlot figureSlot most every has inTurn joinCalls settingCalls amountCalls markCalls indexCalls rateCalls writtenCalls filingOf written encoded fieldOf inBytes
+unfolding book-opened inTurn joinCalls settingCalls amountCalls markCalls indexCalls rateCalls writtenCalls filingOf written encoded fieldOf inBytes
 fullest-exact = record { ranged = refl; exact = refl }

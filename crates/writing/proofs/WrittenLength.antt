@@ -12,8 +12,8 @@ use Rattle.book.specs.declared.Book.{Book}
 use Rattle.calls.specs.declared.Call.{Call}
 use Rattle.calls.specs.declared.Call.the-variants.{Join, Setting, Amount, Mark, Rates, Index}
 use Rattle.calls.specs.Limits.{operators, years, figureCount, settingCount, indicatorCount, indexCount, settingLimit, figureLimit, freshIndex}
-use Rattle.book.specs.Book.{isJoined, isMarked, settingOf, figureOf, indexOf, most, inRange}
-use Rattle.book.proofs.Bounds.{Bounds, bounded}
+use Rattle.book.specs.Book.{isJoined, isMarked, settingOf, figureOf, indexOf, inRange}
+use Rattle.book.proofs.Bounds.{Bounds, most-le, bounded}
 use Rattle.fields.specs.Encoding.{inBytes, fieldOf, encoded, FitsBytes}
 use Rattle.writing.specs.Written.{inTurn, joinCalls, settingCalls, amountCalls, markCalls, indexCalls, rateCalls, writtenCalls, filingOf}
 use Rattle.writing.specs.Laws.{writtenMost}
@@ -64,11 +64,6 @@ small-turns (suc n) f bytes each =
     let more : n * bytes + bytes ≡ suc n * bytes = rw suc-mul (omega arith) in
     rw more at (small-then (small-turns n f bytes (λ k lt. each k (omega arith))) (each n (omega arith)))
 
--- a value within its limit, joined or not
-within : (t : Bool) (limit value : ℕ) → value ≤ cond t limit 0 → value ≤ limit
-within true limit value le = le
-within false limit value le = omega arith
-
 setting-most : (which : ℕ) → settingLimit which ≤ 100000000000
 setting-most zero = omega arith
 setting-most (suc zero) = omega arith
@@ -83,21 +78,21 @@ module _ (b : Book) (ranged : inRange b ≡ true) where
   joins-small = small-turns operators _ 4 (λ o lo. small-if (isJoined b o) (Join o) 4 tt (omega arith))
 
   settings-small : Small (settingCalls b) (operators * (settingCount * 13))
-  unfolding settingCalls encoded fieldOf inBytes most
+  unfolding settingCalls encoded fieldOf inBytes settingOf
   settings-small =
       small-turns operators _ (settingCount * 13)
       (λ o lo. small-turns settingCount _ 13
       (λ w lw. small-unless (eqb (settingOf b o w) 0) (Setting o w (settingOf b o w)) 13
-      (omega (arith, within (isJoined b o) (settingLimit w) (settingOf b o w) (bounds .setting o w lo lw), setting-most w)) (omega arith)))
+      (omega (arith, bounds .settings .within o w lo lw, most-le (b .joined) o (settingLimit w), setting-most w)) (omega arith)))
 
   amounts-small : Small (amountCalls b) (operators * (years * (figureCount * 15)))
-  unfolding amountCalls encoded fieldOf inBytes most
+  unfolding amountCalls encoded fieldOf inBytes figureOf
   amounts-small =
       small-turns operators _ (years * (figureCount * 15))
       (λ o lo. small-turns years _ (figureCount * 15)
       (λ y ly. small-turns figureCount _ 15
       (λ f lf. small-unless (eqb (figureOf b o y f) 0) (Amount o y f 0 (figureOf b o y f)) 15
-      (omega (arith, within (isJoined b o) figureLimit (figureOf b o y f) (bounds .figure o y f lo ly lf))) (omega arith))))
+      (omega (arith, bounds .figures .within o y f lo ly lf, most-le (b .joined) o figureLimit)) (omega arith))))
 
   marks-small : Small (markCalls b) (operators * (indicatorCount * 6))
   unfolding markCalls encoded fieldOf inBytes
@@ -105,16 +100,16 @@ module _ (b : Book) (ranged : inRange b ≡ true) where
       small-turns operators _ (indicatorCount * 6) (λ o lo. small-turns indicatorCount _ 6 (λ i li. small-if (isJoined b o && not (isMarked b o i)) (Mark o i 0) 6 tt (omega arith)))
 
   indices-small : Small (indexCalls b) (indexCount * 8)
-  unfolding indexCalls encoded fieldOf inBytes
+  unfolding indexCalls encoded fieldOf inBytes indexOf
   indices-small =
       small-turns indexCount _ 8
-      (λ n ln. small-unless (eqb (indexOf b n) freshIndex) (Index n (indexOf b n)) 8 (omega (arith, bounds .index n ln .1)) (omega arith))
+      (λ n ln. small-unless (eqb (indexOf b n) freshIndex) (Index n (indexOf b n)) 8 (omega (arith, bounds .indices .within n ln .1)) (omega arith))
 
   rates-small : Small (rateCalls b) 11
   unfolding rateCalls encoded fieldOf inBytes
   rates-small =
       small-unless (eqb (b .«pot_rate») 0 && eqb (b .«cap_rate») 0) (Rates (b .«pot_rate») (b .«cap_rate»)) 11
-      (omega (arith, bounds .pot-rate), omega (arith, bounds .cap-rate)) (omega arith)
+      (omega (arith, bounds .rates .pot-rate), omega (arith, bounds .rates .cap-rate)) (omega arith)
 
   pub written-small : Small (writtenCalls b) writtenMost
   unfolding writtenCalls

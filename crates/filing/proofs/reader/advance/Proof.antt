@@ -4,7 +4,7 @@ use mathlib.Core.Path.{_≡_, refl, sym, ap, _∙_}
 use mathlib.Core.Bool.{true, false}
 use Rattle.book.specs.declared.Book.{Book}
 use Rattle.calls.specs.Answers.{isRefused}
-use Rattle.book.specs.Book.{bookWith}
+use Rattle.book.specs.Steps.{lentBook}
 use Rattle.ledger.specs.Calls.{apply}
 use Rattle.filing.specs.Reader.{reachedBy}
 use Rattle.filing.specs.Steps.{stopped, advanced}
@@ -12,6 +12,10 @@ use Rattle.filing.proofs.WalkLaws.{refused-leaves}
 use borrow.Author.Needs.{needs}
 use Rattle.filing.proofs.reader.advance.Statement.{statement}
 use Rattle.filing.proofs.reader.advance.Tie as tie
+
+-- the book of the lent parts
+abbrev before : tie.Start → Book
+before start = lentBook (start .args .joined) (start .args .marks) (start .args .settings) (start .args .figures) (start .args .pot-rate) (start .args .cap-rate) (start .args .indices)
 
 apply-in-requires : tie.Need-apply-in-requires
 apply-in-requires c κs = search needs
@@ -27,7 +31,7 @@ returns : tie.Need-returns
 unfolding advanced
 returns c =
     let start = c .before .before .before .before .before .before .before .before .before .before .before in
-    let old : Book = bookWith (start .args .joined .now) (start .args .marks .now) (start .args .settings .now) (start .args .figures .now) (start .args .pot-rate .now) (start .args .cap-rate .now) (start .args .indices .now) in
+    let old = before start in
     let gives = c .before .before .before .apply-in .ensures in
     let stops : isRefused (apply old (start .args .filing-call) .said) ≡ true =
     ap isRefused (sym (gives .0)) ∙ sym (c .before .before .is-refused .ensures) ∙ c .before .if1 .taken in
@@ -42,7 +46,7 @@ returns-2 : tie.Need-returns-2
 unfolding advanced
 returns-2 c =
     let start = c .before .before .before .before .before .before .before .before .before .before .before in
-    let old : Book = bookWith (start .args .joined .now) (start .args .marks .now) (start .args .settings .now) (start .args .figures .now) (start .args .pot-rate .now) (start .args .cap-rate .now) (start .args .indices .now) in
+    let old = before start in
     let gives = c .before .before .before .apply-in .ensures in
     let goes : isRefused (apply old (start .args .filing-call) .said) ≡ false =
     ap isRefused (sym (gives .0)) ∙ sym (c .before .before .is-refused .ensures) ∙ c .before .if1 .left in

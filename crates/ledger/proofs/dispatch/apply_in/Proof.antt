@@ -3,9 +3,15 @@
 use mir.Syntax.{w64}
 use mir.Val.{SFits}
 use Rattle.calls.proofs.Times.{back}
+use Rattle.book.specs.declared.Book.{Book}
+use Rattle.book.specs.Steps.{lentBook}
 use borrow.Author.Needs.{needs}
 use Rattle.ledger.proofs.dispatch.apply_in.Statement.{statement}
 use Rattle.ledger.proofs.dispatch.apply_in.Tie as tie
+
+-- the book of the lent parts
+abbrev before : tie.Start → Book
+before start = lentBook (start .args .joined) (start .args .marks) (start .args .settings) (start .args .figures) (start .args .pot-rate) (start .args .cap-rate) (start .args .indices)
 
 enum-known-filing-call : tie.Need-enum-known-filing-call
 enum-known-filing-call c = search needs
@@ -53,13 +59,13 @@ index-requires c κs = search needs
 returns : tie.Need-returns
 returns c =
     let start = c .before .before .before .before .before .before in
-    rw (c .before .before .before .before .filing-call .given .1) (c .join .ensures (start .args .settings .now) (start .args .figures .now) (start .args .indices .now) (start .args .pot-rate .now) (start .args .cap-rate .now))
+    rw (c .before .before .before .before .filing-call .given .1) (c .join .ensures (before start))
 
 -- setting
 returns-2 : tie.Need-returns-2
 returns-2 c =
     let start = c .before .before .before .before .before .before in
-    rw (c .before .before .before .before .filing-call2 .given .1) (c .setting .ensures (start .args .marks .now) (start .args .figures .now) (start .args .indices .now) (start .args .pot-rate .now) (start .args .cap-rate .now))
+    rw (c .before .before .before .before .filing-call2 .given .1) (c .setting .ensures (before start))
 
 -- interruption
 returns-3 : tie.Need-returns-3
@@ -69,31 +75,31 @@ returns-3 c =
     let known = c .before .before .before .known-told3 .given .1 .1 .1 .1 in
     let begun : SFits w64 (given .0 .1 .1 .1 .1 .0) = record { sfits = known .0 .1 } in
     let ended : SFits w64 (given .0 .1 .1 .1 .1 .1 .0) = record { sfits = known .1 .0 .1 } in
-    rw (given .1) (rw (back begun, back ended) at (c .interruption .ensures (start .args .marks .now) (start .args .settings .now) (start .args .indices .now) (start .args .pot-rate .now) (start .args .cap-rate .now)))
+    rw (given .1) (rw (back begun, back ended) at (c .interruption .ensures (before start)))
 
 -- amount
 returns-4 : tie.Need-returns-4
 returns-4 c =
     let start = c .before .before .before .before .before .before in
-    rw (c .before .before .before .before .filing-call4 .given .1) (c .amount .ensures (start .args .marks .now) (start .args .settings .now) (start .args .indices .now) (start .args .pot-rate .now) (start .args .cap-rate .now))
+    rw (c .before .before .before .before .filing-call4 .given .1) (c .amount .ensures (before start))
 
 -- mark
 returns-5 : tie.Need-returns-5
 returns-5 c =
     let start = c .before .before .before .before .before .before in
-    rw (c .before .before .before .before .filing-call5 .given .1) (c .mark-indicator .ensures (start .args .settings .now) (start .args .figures .now) (start .args .indices .now) (start .args .pot-rate .now) (start .args .cap-rate .now))
+    rw (c .before .before .before .before .filing-call5 .given .1) (c .mark-indicator .ensures (before start))
 
 -- rates
 returns-6 : tie.Need-returns-6
 returns-6 c =
     let start = c .before .before .before .before .before .before in
-    rw (c .before .before .before .before .filing-call6 .given .1) (c .rates .ensures (start .args .joined .now) (start .args .marks .now) (start .args .settings .now) (start .args .figures .now) (start .args .indices .now))
+    rw (c .before .before .before .before .filing-call6 .given .1) (c .rates .ensures (before start))
 
 -- index
 returns-7 : tie.Need-returns-7
 returns-7 c =
     let start = c .before .before .before .before .before in
-    rw (c .before .before .before .filing-call7 .given .1) (c .index .ensures (start .args .joined .now) (start .args .pot-rate .now) (start .args .cap-rate .now) (start .args .marks .now) (start .args .settings .now) (start .args .figures .now))
+    rw (c .before .before .before .filing-call7 .given .1) (c .index .ensures (before start))
 
 pub apply-in-spec : {M : Type 1} → statement M
 apply-in-spec =

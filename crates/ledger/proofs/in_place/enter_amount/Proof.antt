@@ -3,7 +3,7 @@
 use mathlib.Core.Path.{refl}
 use Rattle.calls.specs.Answers.{yes-said}
 use Rattle.calls.specs.Call.{entry}
-use Rattle.book.specs.Book.{bookWith, figureOf}
+use Rattle.book.specs.Book.{withFigures, figureOf}
 use Rattle.ledger.proofs.MoveLaws.{moved-as, one-moved, one-above, one-below}
 use borrow.Author.Needs.{needs}
 use Rattle.ledger.proofs.in_place.enter_amount.Statement.{statement}
@@ -39,29 +39,29 @@ enum-told-2 c = search needs
 -- the figure moves
 returns : tie.Need-returns
 unfolding figureOf
-returns c = λ joined pot cap marks settings indices.
+returns c = λ b.
     let start = c .before .before .before .before .before .before in
     let slot = c .before .before .before .before .before .figure-slot .ensures .0 in
     let moved = moved-as (start .args .sign) (start .args .value) _ (start .pre .sign-most) (c .before .moved .given .1) (rw slot at (c .before .before .before .move-figure .ensures)) in
-    rw (slot, one-moved (bookWith joined marks settings (start .args .figures .now) pot cap indices) (entry (start .args .operator) (start .args .year) (start .args .figure) (start .args .sign) (start .args .value)) yes-said _ moved) (refl, refl)
+    rw (slot, one-moved (withFigures b (start .args .figures .now)) (entry (start .args .operator) (start .args .year) (start .args .figure) (start .args .sign) (start .args .value)) yes-said _ moved) (refl, refl)
 
 -- 8
 returns-2 : tie.Need-returns-2
 unfolding figureOf
-returns-2 c = λ joined pot cap marks settings indices.
+returns-2 c = λ b.
     let start = c .before .before .before .before .before in
     let slot = c .before .before .before .before .figure-slot .ensures .0 in
     let moved = moved-as (start .args .sign) (start .args .value) _ (start .pre .sign-most) (c .enum-told .given .1) (rw slot at (c .before .before .move-figure .ensures)) in
-    rw (one-above (bookWith joined marks settings (start .args .figures .now) pot cap indices) (entry (start .args .operator) (start .args .year) (start .args .figure) (start .args .sign) (start .args .value)) yes-said moved) (refl, refl)
+    rw (one-above (withFigures b (start .args .figures .now)) (entry (start .args .operator) (start .args .year) (start .args .figure) (start .args .sign) (start .args .value)) yes-said moved) (refl, refl)
 
 -- 9
 returns-3 : tie.Need-returns-3
 unfolding figureOf
-returns-3 c = λ joined pot cap marks settings indices.
+returns-3 c = λ b.
     let start = c .before .before .before .before .before in
     let slot = c .before .before .before .before .figure-slot .ensures .0 in
     let moved = moved-as (start .args .sign) (start .args .value) _ (start .pre .sign-most) (c .enum-told2 .given .1) (rw slot at (c .before .before .move-figure .ensures)) in
-    rw (one-below (bookWith joined marks settings (start .args .figures .now) pot cap indices) (entry (start .args .operator) (start .args .year) (start .args .figure) (start .args .sign) (start .args .value)) yes-said moved) (refl, refl)
+    rw (one-below (withFigures b (start .args .figures .now)) (entry (start .args .operator) (start .args .year) (start .args .figure) (start .args .sign) (start .args .value)) yes-said moved) (refl, refl)
 
 pub enter-amount-spec : {M : Type 1} → statement M
 enter-amount-spec =

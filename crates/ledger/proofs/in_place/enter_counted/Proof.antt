@@ -4,7 +4,7 @@ use Prim.Native.Nat.{_+_, _*_}
 use mathlib.Core.Path.{refl}
 use native.Mathlib.Omega.{arith}
 use native.Mathlib.Nat.{mul-le-mul}
-use Rattle.book.specs.Book.{bookWith, figureOf}
+use Rattle.book.specs.Book.{withFigures, figureOf}
 use Rattle.calls.specs.Answers.{counted-in}
 use Rattle.calls.specs.Call.{entry, interruptionEntries}
 use Rattle.ledger.proofs.MoveLaws.{moved-as, both-moved, first-above, first-below, second-above, second-below, slots-apart}
@@ -84,55 +84,55 @@ enum-told-4 c = search needs
 -- both figures move
 returns : tie.Need-returns
 unfolding interruptionEntries figureOf
-returns c = λ joined pot cap marks settings indices.
+returns c = λ b.
     let start = c .before .before .before .before .before .before .before .before .before .before .before .before in
     let weight-slot = c .before .before .before .before .before .before .before .before .before .before .before .figure-slot .ensures .0 in
     let seconds-slot = c .before .before .before .before .before .before .before .before .before .before .figure-slot2 .ensures .0 in
     let weight = moved-as (start .args .sign) (start .args .weight) _ (start .pre .sign-most) (c .before .before .before .before .before .before .moved .given .1) (rw weight-slot at (c .before .before .before .before .before .before .before .before .move-figure .ensures)) in
     let seconds = moved-as (start .args .sign) (start .args .weight * start .args .seconds) _ (start .pre .sign-most) (c .before .moved-seconds .given .1) (rw seconds-slot at (c .before .before .before .move-figure2 .ensures)) in
-    rw (weight-slot, seconds-slot, both-moved (bookWith joined marks settings (start .args .figures .now) pot cap indices) (entry (start .args .operator) (start .args .year) (2 * start .args .level) (start .args .sign) (start .args .weight)) (counted-in (start .args .year)) (entry (start .args .operator) (start .args .year) (2 * start .args .level + 1) (start .args .sign) (start .args .weight * start .args .seconds)) _ weight _ (slots-apart (start .args .operator) (start .args .year) (2 * start .args .level)) seconds) (refl, refl)
+    rw (weight-slot, seconds-slot, both-moved (withFigures b (start .args .figures .now)) (entry (start .args .operator) (start .args .year) (2 * start .args .level) (start .args .sign) (start .args .weight)) (counted-in (start .args .year)) (entry (start .args .operator) (start .args .year) (2 * start .args .level + 1) (start .args .sign) (start .args .weight * start .args .seconds)) _ weight _ (slots-apart (start .args .operator) (start .args .year) (2 * start .args .level)) seconds) (refl, refl)
 
 -- 8, by the seconds
 returns-2 : tie.Need-returns-2
 unfolding interruptionEntries figureOf
-returns-2 c = λ joined pot cap marks settings indices.
+returns-2 c = λ b.
     let start = c .before .before .before .before .before .before .before .before .before .before .before in
     let weight-slot = c .before .before .before .before .before .before .before .before .before .before .figure-slot .ensures .0 in
     let seconds-slot = c .before .before .before .before .before .before .before .before .before .figure-slot2 .ensures .0 in
     let weight = moved-as (start .args .sign) (start .args .weight) _ (start .pre .sign-most) (c .before .before .before .before .before .moved .given .1) (rw weight-slot at (c .before .before .before .before .before .before .before .move-figure .ensures)) in
     let seconds = moved-as (start .args .sign) (start .args .weight * start .args .seconds) _ (start .pre .sign-most) (c .enum-told .given .1) (rw seconds-slot at (c .before .before .move-figure2 .ensures)) in
-    rw (second-above (bookWith joined marks settings (start .args .figures .now) pot cap indices) (entry (start .args .operator) (start .args .year) (2 * start .args .level) (start .args .sign) (start .args .weight)) (counted-in (start .args .year)) (entry (start .args .operator) (start .args .year) (2 * start .args .level + 1) (start .args .sign) (start .args .weight * start .args .seconds)) _ weight seconds) (refl, refl)
+    rw (second-above (withFigures b (start .args .figures .now)) (entry (start .args .operator) (start .args .year) (2 * start .args .level) (start .args .sign) (start .args .weight)) (counted-in (start .args .year)) (entry (start .args .operator) (start .args .year) (2 * start .args .level + 1) (start .args .sign) (start .args .weight * start .args .seconds)) _ weight seconds) (refl, refl)
 
 -- 9, by the seconds
 returns-3 : tie.Need-returns-3
 unfolding interruptionEntries figureOf
-returns-3 c = λ joined pot cap marks settings indices.
+returns-3 c = λ b.
     let start = c .before .before .before .before .before .before .before .before .before .before .before in
     let weight-slot = c .before .before .before .before .before .before .before .before .before .before .figure-slot .ensures .0 in
     let seconds-slot = c .before .before .before .before .before .before .before .before .before .figure-slot2 .ensures .0 in
     let weight = moved-as (start .args .sign) (start .args .weight) _ (start .pre .sign-most) (c .before .before .before .before .before .moved .given .1) (rw weight-slot at (c .before .before .before .before .before .before .before .move-figure .ensures)) in
     let seconds = moved-as (start .args .sign) (start .args .weight * start .args .seconds) _ (start .pre .sign-most) (c .enum-told2 .given .1) (rw seconds-slot at (c .before .before .move-figure2 .ensures)) in
-    rw (second-below (bookWith joined marks settings (start .args .figures .now) pot cap indices) (entry (start .args .operator) (start .args .year) (2 * start .args .level) (start .args .sign) (start .args .weight)) (counted-in (start .args .year)) (entry (start .args .operator) (start .args .year) (2 * start .args .level + 1) (start .args .sign) (start .args .weight * start .args .seconds)) _ weight seconds) (refl, refl)
+    rw (second-below (withFigures b (start .args .figures .now)) (entry (start .args .operator) (start .args .year) (2 * start .args .level) (start .args .sign) (start .args .weight)) (counted-in (start .args .year)) (entry (start .args .operator) (start .args .year) (2 * start .args .level + 1) (start .args .sign) (start .args .weight * start .args .seconds)) _ weight seconds) (refl, refl)
 
 -- 8, by the weight
 returns-4 : tie.Need-returns-4
 unfolding interruptionEntries figureOf
-returns-4 c = λ joined pot cap marks settings indices.
+returns-4 c = λ b.
     let start = c .before .before .before .before .before .before in
     let weight-slot = c .before .before .before .before .before .figure-slot .ensures .0 in
     let seconds-slot = c .before .before .before .before .figure-slot2 .ensures .0 in
     let weight = moved-as (start .args .sign) (start .args .weight) _ (start .pre .sign-most) (c .enum-told3 .given .1) (rw weight-slot at (c .before .before .move-figure .ensures)) in
-    rw (first-above (bookWith joined marks settings (start .args .figures .now) pot cap indices) (entry (start .args .operator) (start .args .year) (2 * start .args .level) (start .args .sign) (start .args .weight)) (counted-in (start .args .year)) (entry (start .args .operator) (start .args .year) (2 * start .args .level + 1) (start .args .sign) (start .args .weight * start .args .seconds)) weight) (refl, refl)
+    rw (first-above (withFigures b (start .args .figures .now)) (entry (start .args .operator) (start .args .year) (2 * start .args .level) (start .args .sign) (start .args .weight)) (counted-in (start .args .year)) (entry (start .args .operator) (start .args .year) (2 * start .args .level + 1) (start .args .sign) (start .args .weight * start .args .seconds)) weight) (refl, refl)
 
 -- 9, by the weight
 returns-5 : tie.Need-returns-5
 unfolding interruptionEntries figureOf
-returns-5 c = λ joined pot cap marks settings indices.
+returns-5 c = λ b.
     let start = c .before .before .before .before .before .before in
     let weight-slot = c .before .before .before .before .before .figure-slot .ensures .0 in
     let seconds-slot = c .before .before .before .before .figure-slot2 .ensures .0 in
     let weight = moved-as (start .args .sign) (start .args .weight) _ (start .pre .sign-most) (c .enum-told4 .given .1) (rw weight-slot at (c .before .before .move-figure .ensures)) in
-    rw (first-below (bookWith joined marks settings (start .args .figures .now) pot cap indices) (entry (start .args .operator) (start .args .year) (2 * start .args .level) (start .args .sign) (start .args .weight)) (counted-in (start .args .year)) (entry (start .args .operator) (start .args .year) (2 * start .args .level + 1) (start .args .sign) (start .args .weight * start .args .seconds)) refl weight) (refl, refl)
+    rw (first-below (withFigures b (start .args .figures .now)) (entry (start .args .operator) (start .args .year) (2 * start .args .level) (start .args .sign) (start .args .weight)) (counted-in (start .args .year)) (entry (start .args .operator) (start .args .year) (2 * start .args .level + 1) (start .args .sign) (start .args .weight * start .args .seconds)) refl weight) (refl, refl)
 
 pub enter-counted-spec : {M : Type 1} → statement M
 enter-counted-spec =

@@ -3,7 +3,7 @@
 use mathlib.Core.Path.{refl}
 use Rattle.calls.specs.declared.Call.the-variants.{Index}
 use Rattle.calls.specs.Call.{factsOf}
-use Rattle.book.specs.Book.{bookWith}
+use Rattle.book.specs.Book.{withIndices}
 use Rattle.ledger.specs.Table.{some}
 use Rattle.ledger.specs.Calls.{changed}
 use Rattle.calls.proofs.Flags.{denied, granted}
@@ -19,9 +19,9 @@ index-in-range-requires c κs = search needs
 -- 5
 returns : tie.Need-returns
 unfolding factsOf some
-returns c = λ joined pot cap marks settings figures.
+returns c = λ b.
     let start = c .before .before in
-    rw (out-of-range (bookWith joined marks settings figures pot cap (start .args .indices .now)) (Index (start .args .number) (start .args .value)) refl (denied (c .before .index-in-range .ensures) (c .if1 .taken))) (refl, refl)
+    rw (out-of-range (withIndices b (start .args .indices .now)) (Index (start .args .number) (start .args .value)) refl (denied (c .before .index-in-range .ensures) (c .if1 .taken))) (refl, refl)
 
 mul-indices : tie.Need-mul-indices
 mul-indices c = search needs
@@ -33,9 +33,9 @@ element-write-indices c =
 
 returns-2 : tie.Need-returns-2
 unfolding factsOf some changed
-returns-2 c = λ joined pot cap marks settings figures.
+returns-2 c = λ b.
     let start = c .before .before in
-    rw (done (bookWith joined marks settings figures pot cap (start .args .indices .now)) (Index (start .args .number) (start .args .value)) refl (granted (c .before .index-in-range .ensures) (c .if1 .left)) refl refl refl) (refl, refl)
+    rw (done (withIndices b (start .args .indices .now)) (Index (start .args .number) (start .args .value)) refl (granted (c .before .index-in-range .ensures) (c .if1 .left)) refl refl refl) (refl, refl)
 
 pub index-spec : {M : Type 1} → statement M
 index-spec =

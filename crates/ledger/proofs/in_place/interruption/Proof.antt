@@ -1,12 +1,11 @@
 -- `ledger::in_place::interruption` meets its contract.
 -- Assumes nothing.
 use mathlib.Core.Path.{_≡_, refl, sym, ap, _∙_}
-use mathlib.Core.List.{[]}
 use Prim.Native.Nat.{ℕ}
 use Rattle.calls.specs.declared.Call.the-variants.{Interruption}
 use Rattle.calls.specs.Call.{detailsInRange, timesInRange, secondsOf, yearOf, factsOf}
 use Rattle.calls.specs.Steps.{JudgedAs}
-use Rattle.book.specs.Book.{bookWith}
+use Rattle.book.specs.Book.{withJoined, withFigures, freshBook}
 use Rattle.ledger.specs.Calls.{changed}
 use Rattle.ledger.specs.Steps.{admissionSaid}
 use Rattle.calls.proofs.Flags.{and-left, and-right}
@@ -30,10 +29,10 @@ enum-known-refusal c = search needs
 -- 4, 5 or 7
 returns : tie.Need-returns
 unfolding factsOf
-returns c = λ marks settings indices pot cap.
+returns c = λ b.
     let start = c .before .before .before .before .before in
     let ranged = sym (rw (back (start .fits .start), back (start .fits .end)) at (c .before .before .before .before .interruption-in-range .ensures)) in
-    rw (member-decided (bookWith (start .args .joined) marks settings (start .args .figures .now) pot cap indices) (Interruption (start .args .operator) (start .args .sign) (start .args .level) (start .args .cause) (start .args .start) (start .args .end) (start .args .weight)) (start .args .operator) _ refl refl ranged _ (sym (c .before .before .before .admit .ensures) ∙ ap admissionSaid (c .before .refusal .given .1))) (refl, refl)
+    rw (member-decided (withFigures (withJoined b (start .args .joined)) (start .args .figures .now)) (Interruption (start .args .operator) (start .args .sign) (start .args .level) (start .args .cause) (start .args .start) (start .args .end) (start .args .weight)) (start .args .operator) _ refl refl ranged _ (sym (c .before .before .before .admit .ensures) ∙ ap admissionSaid (c .before .refusal .given .1))) (refl, refl)
 
 enum-told : tie.Need-enum-told
 enum-told c = search needs
@@ -43,7 +42,7 @@ unfolding factsOf
 seconds-of-requires c κs =
     let start = c .before .before .before .before in
     let ranged = sym (rw (back (start .fits .start), back (start .fits .end)) at (c .before .before .before .interruption-in-range .ensures)) in
-    let passed = member-decided (bookWith (start .args .joined) [] [] [] 0 0 []) (Interruption (start .args .operator) (start .args .sign) (start .args .level) (start .args .cause) (start .args .start) (start .args .end) (start .args .weight)) (start .args .operator) _ refl refl ranged _ (sym (c .before .before .admit .ensures) ∙ ap admissionSaid (c .enum-told .given .1)) in
+    let passed = member-decided (withJoined freshBook (start .args .joined)) (Interruption (start .args .operator) (start .args .sign) (start .args .level) (start .args .cause) (start .args .start) (start .args .end) (start .args .weight)) (start .args .operator) _ refl refl ranged _ (sym (c .before .before .admit .ensures) ∙ ap admissionSaid (c .enum-told .given .1)) in
     rw (back (start .fits .start), back (start .fits .end)) (and-right (detailsInRange (start .args .sign) (start .args .level) (start .args .cause) (start .args .weight)) _ (ranged ∙ passed .in-range))
 
 judge-requires : tie.Need-judge-requires
@@ -57,7 +56,7 @@ unfolding factsOf
 year-of-requires c κs =
     let start = c .before .before .before .before .before .before .before .before in
     let ranged = sym (rw (back (start .fits .start), back (start .fits .end)) at (c .before .before .before .before .before .before .before .interruption-in-range .ensures)) in
-    let passed = member-decided (bookWith (start .args .joined) [] [] [] 0 0 []) (Interruption (start .args .operator) (start .args .sign) (start .args .level) (start .args .cause) (start .args .start) (start .args .end) (start .args .weight)) (start .args .operator) _ refl refl ranged _ (sym (c .before .before .before .before .before .before .admit .ensures) ∙ ap admissionSaid (c .before .before .before .before .enum-told .given .1)) in
+    let passed = member-decided (withJoined freshBook (start .args .joined)) (Interruption (start .args .operator) (start .args .sign) (start .args .level) (start .args .cause) (start .args .start) (start .args .end) (start .args .weight)) (start .args .operator) _ refl refl ranged _ (sym (c .before .before .before .before .before .before .admit .ensures) ∙ ap admissionSaid (c .before .before .before .before .enum-told .given .1)) in
     rw (back (start .fits .start), back (start .fits .end)) (and-right (detailsInRange (start .args .sign) (start .args .level) (start .args .cause) (start .args .weight)) _ (ranged ∙ passed .in-range))
 
 enter-counted-requires : tie.Need-enter-counted-requires
@@ -65,7 +64,7 @@ unfolding factsOf
 enter-counted-requires c κs =
     let start = c .before .before .before .before .before .before .before .before .before .before in
     let ranged = sym (rw (back (start .fits .start), back (start .fits .end)) at (c .before .before .before .before .before .before .before .before .before .interruption-in-range .ensures)) in
-    let passed = member-decided (bookWith (start .args .joined) [] [] [] 0 0 []) (Interruption (start .args .operator) (start .args .sign) (start .args .level) (start .args .cause) (start .args .start) (start .args .end) (start .args .weight)) (start .args .operator) _ refl refl ranged _ (sym (c .before .before .before .before .before .before .before .before .admit .ensures) ∙ ap admissionSaid (c .before .before .before .before .before .before .enum-told .given .1)) in
+    let passed = member-decided (withJoined freshBook (start .args .joined)) (Interruption (start .args .operator) (start .args .sign) (start .args .level) (start .args .cause) (start .args .start) (start .args .end) (start .args .weight)) (start .args .operator) _ refl refl ranged _ (sym (c .before .before .before .before .before .before .before .before .admit .ensures) ∙ ap admissionSaid (c .before .before .before .before .before .before .enum-told .given .1)) in
     let valid = ranged ∙ passed .in-range in
     let in-range = details (start .args .sign) (start .args .level) (start .args .cause) (start .args .weight) (and-left _ (timesInRange (start .args .start) (start .args .end)) valid) in
     let times = timed (start .args .start) (start .args .end) (and-right (detailsInRange (start .args .sign) (start .args .level) (start .args .cause) (start .args .weight)) _ (ranged ∙ passed .in-range)) in
@@ -86,23 +85,23 @@ enum-known-reason c = search needs
 -- counted
 returns-2 : tie.Need-returns-2
 unfolding factsOf changed
-returns-2 c = λ marks settings indices pot cap.
+returns-2 c = λ b.
     let start = c .before .before .before .before .before .before .before .before .before .before .before in
     let ranged = sym (rw (back (start .fits .start), back (start .fits .end)) at (c .before .before .before .before .before .before .before .before .before .before .interruption-in-range .ensures)) in
-    let passed = member-decided (bookWith (start .args .joined) marks settings (start .args .figures .now) pot cap indices) (Interruption (start .args .operator) (start .args .sign) (start .args .level) (start .args .cause) (start .args .start) (start .args .end) (start .args .weight)) (start .args .operator) _ refl refl ranged _ (sym (c .before .before .before .before .before .before .before .before .before .admit .ensures) ∙ ap admissionSaid (c .before .before .before .before .before .before .before .enum-told .given .1)) in
+    let passed = member-decided (withFigures (withJoined b (start .args .joined)) (start .args .figures .now)) (Interruption (start .args .operator) (start .args .sign) (start .args .level) (start .args .cause) (start .args .start) (start .args .end) (start .args .weight)) (start .args .operator) _ refl refl ranged _ (sym (c .before .before .before .before .before .before .before .before .before .admit .ensures) ∙ ap admissionSaid (c .before .before .before .before .before .before .before .enum-told .given .1)) in
     let year = rw (back (start .fits .end)) at (c .before .before .year-of .ensures) in
     let seconds = rw (back (start .fits .start), back (start .fits .end)) at (c .before .before .before .before .before .before .seconds-of .ensures) in
     let judged : JudgedAs (start .args .cause) (secondsOf (start .args .start) (start .args .end)) (c .before .before .before .before .before .judge .result) = rw seconds at (c .before .before .before .before .before .judge .ensures) in
     rw (passed .entered refl, ← judged (yearOf (start .args .end)), c .before .before .before .enum-told2 .given .1)
-    (rw (year, seconds) at (c .enter-counted .ensures (start .args .joined) pot cap marks settings indices))
+    (rw (year, seconds) at (c .enter-counted .ensures (withJoined b (start .args .joined))))
 
 -- left out: nothing is entered
 returns-3 : tie.Need-returns-3
 unfolding factsOf changed
-returns-3 c = λ marks settings indices pot cap.
+returns-3 c = λ b.
     let start = c .before .before .before .before .before .before .before .before .before in
     let ranged = sym (rw (back (start .fits .start), back (start .fits .end)) at (c .before .before .before .before .before .before .before .before .interruption-in-range .ensures)) in
-    let passed = member-decided (bookWith (start .args .joined) marks settings (start .args .figures .now) pot cap indices) (Interruption (start .args .operator) (start .args .sign) (start .args .level) (start .args .cause) (start .args .start) (start .args .end) (start .args .weight)) (start .args .operator) _ refl refl ranged _ (sym (c .before .before .before .before .before .before .before .admit .ensures) ∙ ap admissionSaid (c .before .before .before .before .before .enum-told .given .1)) in
+    let passed = member-decided (withFigures (withJoined b (start .args .joined)) (start .args .figures .now)) (Interruption (start .args .operator) (start .args .sign) (start .args .level) (start .args .cause) (start .args .start) (start .args .end) (start .args .weight)) (start .args .operator) _ refl refl ranged _ (sym (c .before .before .before .before .before .before .before .admit .ensures) ∙ ap admissionSaid (c .before .before .before .before .before .enum-told .given .1)) in
     let seconds = rw (back (start .fits .start), back (start .fits .end)) at (c .before .before .before .before .seconds-of .ensures) in
     let judged : JudgedAs (start .args .cause) (secondsOf (start .args .start) (start .args .end)) (c .before .before .before .judge .result) = rw seconds at (c .before .before .before .judge .ensures) in
     rw (passed .entered refl, ← judged (yearOf (start .args .end)), c .before .reason .given .1, left-out-none, nothing-entered) (refl, refl)

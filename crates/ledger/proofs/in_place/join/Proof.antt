@@ -6,7 +6,7 @@ use native.Mathlib.Omega.{arith}
 use borrow.Author.Tests.{lt-leb, le-leb}
 use Rattle.calls.specs.declared.Call.the-variants.{Join}
 use Rattle.calls.specs.Masks.{has}
-use Rattle.book.specs.Book.{bookWith, isJoined}
+use Rattle.book.specs.Book.{withJoined, withMarks, isJoined}
 use Rattle.calls.specs.Call.{factsOf}
 use Rattle.ledger.specs.Table.{some}
 use Rattle.ledger.specs.Calls.{changed}
@@ -18,9 +18,9 @@ use Rattle.ledger.proofs.in_place.join.Tie as tie
 -- 4
 returns : tie.Need-returns
 unfolding factsOf some
-returns c = λ settings figures indices pot cap.
+returns c = λ b.
     let start = c .before in
-    rw (unknown-operator (bookWith (start .args .joined .now) (start .args .marks .now) settings figures pot cap indices) (Join (start .args .operator)) (rw (le-leb 16 (start .args .operator) (c .if1 .taken)) refl)) (refl, refl)
+    rw (unknown-operator (withMarks (withJoined b (start .args .joined .now)) (start .args .marks .now)) (Join (start .args .operator)) (rw (le-leb 16 (start .args .operator) (c .if1 .taken)) refl)) (refl, refl)
 
 has-bit-requires : tie.Need-has-bit-requires
 has-bit-requires c κs = search needs
@@ -28,9 +28,9 @@ has-bit-requires c κs = search needs
 -- 6
 returns-2 : tie.Need-returns-2
 unfolding factsOf some isJoined
-returns-2 c = λ settings figures indices pot cap.
+returns-2 c = λ b.
     let start = c .before .before .before .before in
-    rw (already-joined (bookWith (start .args .joined .now) (start .args .marks .now) settings figures pot cap indices) (Join (start .args .operator)) (rw (lt-leb 16 (start .args .operator) (omega arith)) refl) refl (rw (sym (c .before .has-bit .ensures) ∙ c .if2 .taken) refl)) (refl, refl)
+    rw (already-joined (withMarks (withJoined b (start .args .joined .now)) (start .args .marks .now)) (Join (start .args .operator)) (rw (lt-leb 16 (start .args .operator) (omega arith)) refl) refl (rw (sym (c .before .has-bit .ensures) ∙ c .if2 .taken) refl)) (refl, refl)
 
 include-bit-requires : tie.Need-include-bit-requires
 include-bit-requires c κs = search needs
@@ -41,10 +41,10 @@ mark-unattested-requires c κs = search needs
 -- joined
 returns-3 : tie.Need-returns-3
 unfolding factsOf some isJoined changed
-returns-3 c = λ settings figures indices pot cap.
+returns-3 c = λ b.
     let start = c .before .before .before .before .before .before .before in
     let free : has (start .args .joined .now) (start .args .operator) ≡ false = sym (c .before .before .before .before .has-bit .ensures) ∙ c .before .before .before .if2 .left in
-    rw (done (bookWith (start .args .joined .now) (start .args .marks .now) settings figures pot cap indices) (Join (start .args .operator)) (rw (lt-leb 16 (start .args .operator) (omega arith)) refl) refl (rw free refl) refl refl, ← c .before .before .include-bit .ensures, ← c .mark-unattested .ensures) (refl, refl)
+    rw (done (withMarks (withJoined b (start .args .joined .now)) (start .args .marks .now)) (Join (start .args .operator)) (rw (lt-leb 16 (start .args .operator) (omega arith)) refl) refl (rw free refl) refl refl, ← c .before .before .include-bit .ensures, ← c .mark-unattested .ensures) (refl, refl)
 
 pub join-spec : {M : Type 1} → statement M
 join-spec =

@@ -1,11 +1,10 @@
 -- `ledger::in_place::setting` meets its contract.
 -- Assumes nothing.
 use mathlib.Core.Path.{refl, sym, ap, _∙_}
-use mathlib.Core.List.{[]}
 use native.Mathlib.Omega.{arith}
 use Rattle.calls.specs.declared.Call.the-variants.{Setting}
 use Rattle.calls.specs.Call.{factsOf}
-use Rattle.book.specs.Book.{bookWith}
+use Rattle.book.specs.Book.{withJoined, withSettings, freshBook}
 use Rattle.ledger.specs.Steps.{admissionSaid}
 use Rattle.ledger.specs.Calls.{changed}
 use Rattle.calls.proofs.RangeLaws.{ranges}
@@ -26,9 +25,9 @@ enum-known-refusal c = search needs
 -- 4, 5 or 7
 returns : tie.Need-returns
 unfolding factsOf
-returns c = λ marks figures indices pot cap.
+returns c = λ b.
     let start = c .before .before .before .before .before in
-    rw (member-decided (bookWith (start .args .joined) marks (start .args .settings .now) figures pot cap indices) (Setting (start .args .operator) (start .args .which) (start .args .value)) (start .args .operator) _ refl refl (sym (c .before .before .before .before .setting-in-range .ensures)) _ (sym (c .before .before .before .admit .ensures) ∙ ap admissionSaid (c .before .refusal .given .1))) (refl, refl)
+    rw (member-decided (withSettings (withJoined b (start .args .joined)) (start .args .settings .now)) (Setting (start .args .operator) (start .args .which) (start .args .value)) (start .args .operator) _ refl refl (sym (c .before .before .before .before .setting-in-range .ensures)) _ (sym (c .before .before .before .admit .ensures) ∙ ap admissionSaid (c .before .refusal .given .1))) (refl, refl)
 
 enum-told : tie.Need-enum-told
 enum-told c = search needs
@@ -37,7 +36,7 @@ setting-slot-requires : tie.Need-setting-slot-requires
 unfolding factsOf
 setting-slot-requires c κs =
     let start = c .before .before .before .before in
-    let passed = member-decided (bookWith (start .args .joined) [] [] [] 0 0 []) (Setting (start .args .operator) (start .args .which) (start .args .value)) (start .args .operator) _ refl refl (sym (c .before .before .before .setting-in-range .ensures)) _ (sym (c .before .before .admit .ensures) ∙ ap admissionSaid (c .enum-told .given .1)) in
+    let passed = member-decided (withJoined freshBook (start .args .joined)) (Setting (start .args .operator) (start .args .which) (start .args .value)) (start .args .operator) _ refl refl (sym (c .before .before .before .setting-in-range .ensures)) _ (sym (c .before .before .admit .ensures) ∙ ap admissionSaid (c .enum-told .given .1)) in
     let in-range = ranges (Setting (start .args .operator) (start .args .which) (start .args .value)) (sym (c .before .before .before .setting-in-range .ensures) ∙ passed .in-range) in
     (omega (arith, passed .small, in-range .0), in-range .0)
 
@@ -50,9 +49,9 @@ element-write-settings c = search needs
 -- stored
 returns-2 : tie.Need-returns-2
 unfolding factsOf changed
-returns-2 c = λ marks figures indices pot cap.
+returns-2 c = λ b.
     let start = c .before .before .before .before .before in
-    let passed = member-decided (bookWith (start .args .joined) marks (start .args .settings .now) figures pot cap indices) (Setting (start .args .operator) (start .args .which) (start .args .value)) (start .args .operator) _ refl refl (sym (c .before .before .before .before .setting-in-range .ensures)) _ (sym (c .before .before .before .admit .ensures) ∙ ap admissionSaid (c .before .enum-told .given .1)) in
+    let passed = member-decided (withSettings (withJoined b (start .args .joined)) (start .args .settings .now)) (Setting (start .args .operator) (start .args .which) (start .args .value)) (start .args .operator) _ refl refl (sym (c .before .before .before .before .setting-in-range .ensures)) _ (sym (c .before .before .before .admit .ensures) ∙ ap admissionSaid (c .before .enum-told .given .1)) in
     rw (passed .done refl, c .setting-slot .ensures .0) (refl, refl)
 
 pub setting-spec : {M : Type 1} → statement M
