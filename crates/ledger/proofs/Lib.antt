@@ -2,6 +2,7 @@
 pub mod AdmissionLaws
 pub mod UnattestedLaws
 pub mod MoveLaws
+pub mod LastEntry
 pub mod LowestOfCalls
 pub mod TurnLaws
 pub mod Opened

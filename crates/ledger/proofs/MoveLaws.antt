@@ -8,7 +8,6 @@ use Prim.Native.Nat.{ℕ, _+_, _-_, _≤_}
 use native.Mathlib.Omega.{arith}
 use lib.Dec.{ltb, eqb}
 use lib.ListN.{set}
-use lib.Seq.{getD-set-other}
 use borrow.Author.Tests.{eqb-true, eqb-false, eq-eqb, ne-eqb}
 use Rattle.book.specs.declared.Book.{Book}
 use Rattle.calls.specs.declared.Moved.{Moved}
@@ -85,6 +84,20 @@ module _ (test : Entry → Bool) (entry : Entry) (rest : List Entry) where
   unfolding some
   some-rest e later = rw e later
 
+-- all of a list's entries have one sign
+abbrev pub Signed : List Entry → ℕ → Type 0
+Signed [] sign = Unit {0}
+Signed (entry ∷ rest) sign = (entry .sign ≡ sign) × Signed rest sign
+
+-- nothing that is withdrawn passes a limit
+pub none-passes : (total : ℕ → ℕ → ℕ → ℕ) (list : List Entry) (sign value old : ℕ) → falls sign value old ≡ true → Signed list sign
+    → some (passesLimit total) list ≡ false
+unfolding some passesLimit
+none-passes total [] sign value old below signs = refl
+none-passes total (entry ∷ rest) sign value old below signs =
+    rw (signs .0, no-limit sign value old (entry .value) (total (entry .operator) (entry .year) (entry .figure)) below)
+    (none-passes total rest sign value old below (signs .1))
+
 -- what entering gives
 module _ (b : Book) (list : List Entry) (value : Acceptance) where
   pub refused-above : some (passesLimit (figureOf b)) list ≡ true → entering b list value ≡ refusedCall b 8
@@ -100,7 +113,7 @@ module _ (b : Book) (list : List Entry) (value : Acceptance) where
   unfolding entering firstOf outcomeOf onAnswer
   entered-all p f = rw (p, f) refl
 
--- one figure moved, and two
+-- one figure moved
 module _ (b : Book) where
   abbrev pub placed : Entry → ℕ
   placed entry = figureSlot (entry .operator) (entry .year) (entry .figure)
@@ -116,13 +129,7 @@ module _ (b : Book) where
   unfolding enterAll entered figureOf
   moved-one entry new moves = rw (moves .reaches) refl
 
-  pub moved-two : (entry other : Entry) (new newer : ℕ) → placed other ≢ placed entry → MovesAt entry new → MovesAt other newer
-      → enterAll b (entry ∷ other ∷ []) ≡ withFigures b (set (set (b .figures) (placed entry) new) (placed other) newer)
-  unfolding enterAll entered figureOf
-  moved-two entry other new newer apart moves moves-too =
-      rw (moves .reaches, getD-set-other (b .figures) (placed entry) (placed other) new 0 apart, moves-too .reaches) refl
-
-  -- the entries of an amount, and of a counted interruption, by what became of their figures
+  -- one entry, and the first of several, by what became of its figure
   module _ (entry : Entry) (value : Acceptance) where
     pub one-above : passes (entry .sign) (entry .value) (figureAt entry) ≡ true → entering b (entry ∷ []) value ≡ refusedCall b 8
     unfolding passesLimit
@@ -141,43 +148,18 @@ module _ (b : Book) where
         rw (← moved-one entry new moves)
         (entered-all b (entry ∷ []) value (some-rest _ _ _ (moves .below-limit) (some-none _)) (some-rest _ _ _ (moves .above-zero) (some-none _)))
 
-    module _ (other : Entry) where
-      pub first-above : passes (entry .sign) (entry .value) (figureAt entry) ≡ true → entering b (entry ∷ other ∷ []) value ≡ refusedCall b 8
+    module _ (rest : List Entry) where
+      pub first-above : passes (entry .sign) (entry .value) (figureAt entry) ≡ true → entering b (entry ∷ rest) value ≡ refusedCall b 8
       unfolding passesLimit
-      first-above e = refused-above b (entry ∷ other ∷ []) value (some-here _ _ _ e)
+      first-above e = refused-above b (entry ∷ rest) value (some-here _ _ _ e)
 
-      pub first-below : other .sign ≡ entry .sign → falls (entry .sign) (entry .value) (figureAt entry) ≡ true
-          → entering b (entry ∷ other ∷ []) value ≡ refusedCall b 9
+      pub first-below : Signed rest (entry .sign) → falls (entry .sign) (entry .value) (figureAt entry) ≡ true → entering b (entry ∷ rest) value ≡ refusedCall b 9
       unfolding passesLimit fallsBelow
-      first-below same e =
-          let none : passes (other .sign) (other .value) (figureAt other) ≡ false =
-          rw same (no-limit (entry .sign) (entry .value) (figureAt entry) (other .value) (figureAt other) e) in
-          refused-below b (entry ∷ other ∷ []) value
-          (some-rest _ _ _ (no-limit (entry .sign) (entry .value) (figureAt entry) (entry .value) (figureAt entry) e) (some-rest _ _ _ none (some-none _)))
+      first-below signs e =
+          refused-below b (entry ∷ rest) value
+          (some-rest _ _ _ (no-limit (entry .sign) (entry .value) (figureAt entry) (entry .value) (figureAt entry) e)
+          (none-passes (figureOf b) rest (entry .sign) (entry .value) (figureAt entry) e signs))
           (some-here _ _ _ e)
-
-      module _ (new : ℕ) (moves : MovesAt entry new) where
-        pub second-above : passes (other .sign) (other .value) (figureAt other) ≡ true → entering b (entry ∷ other ∷ []) value ≡ refusedCall b 8
-        unfolding passesLimit
-        second-above e = refused-above b (entry ∷ other ∷ []) value (some-rest _ _ _ (moves .below-limit) (some-here _ _ _ e))
-
-        pub second-below : falls (other .sign) (other .value) (figureAt other) ≡ true → entering b (entry ∷ other ∷ []) value ≡ refusedCall b 9
-        unfolding passesLimit fallsBelow
-        second-below e =
-            refused-below b (entry ∷ other ∷ []) value
-            (some-rest _ _ _ (moves .below-limit)
-            (some-rest _ _ _ (no-limit (other .sign) (other .value) (figureAt other) (other .value) (figureAt other) e) (some-none _)))
-            (some-rest _ _ _ (moves .above-zero) (some-here _ _ _ e))
-
-        pub both-moved : (newer : ℕ) → placed other ≢ placed entry → MovesAt other newer
-            → entering b (entry ∷ other ∷ []) value
-            ≡ acceptedCall (withFigures b (set (set (b .figures) (placed entry) new) (placed other) newer)) value
-        unfolding passesLimit fallsBelow
-        both-moved newer apart moves-too =
-            rw (← moved-two entry other new newer apart moves moves-too)
-            (entered-all b (entry ∷ other ∷ []) value
-            (some-rest _ _ _ (moves .below-limit) (some-rest _ _ _ (moves-too .below-limit) (some-none _)))
-            (some-rest _ _ _ (moves .above-zero) (some-rest _ _ _ (moves-too .above-zero) (some-none _))))
 
 -- nothing entered, the book stays
 pub nothing-entered : (b : Book) (value : Acceptance) → entering b [] value ≡ acceptedCall b value
@@ -185,6 +167,6 @@ unfolding enterAll
 nothing-entered b value = entered-all b [] value (some-none _) (some-none _)
 
 -- a figure and the next one stand apart
-pub slots-apart : (operator year figure : ℕ) → figureSlot operator year (figure + 1) ≢ figureSlot operator year figure
+pub slots-apart : (operator year figure : ℕ) → figureSlot operator year figure ≢ figureSlot operator year (figure + 1)
 unfolding figureSlot
 slots-apart operator year figure same = omega (arith, same)

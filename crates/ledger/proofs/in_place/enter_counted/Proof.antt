@@ -2,12 +2,14 @@
 -- Assumes nothing.
 use Prim.Native.Nat.{_+_, _*_}
 use mathlib.Core.Path.{refl}
+use mathlib.Core.List.{[], _∷_}
 use native.Mathlib.Omega.{arith}
 use native.Mathlib.Nat.{mul-le-mul}
 use Rattle.book.specs.Book.{withFigures, figureOf}
 use Rattle.calls.specs.Answers.{counted-in}
 use Rattle.calls.specs.Call.{entry, interruptionEntries}
-use Rattle.ledger.proofs.MoveLaws.{moved-as, both-moved, first-above, first-below, second-above, second-below, slots-apart}
+use Rattle.ledger.proofs.MoveLaws.{moved-as, one-moved, first-above, first-below, slots-apart}
+use Rattle.ledger.proofs.LastEntry.{last-above, last-below, last-moved}
 use borrow.Author.Needs.{needs}
 use Rattle.ledger.proofs.in_place.enter_counted.Statement.{statement}
 use Rattle.ledger.proofs.in_place.enter_counted.Tie as tie
@@ -90,7 +92,7 @@ returns c = λ b.
     let seconds-slot = c .before .before .before .before .before .before .before .before .before .before .figure-slot2 .ensures .0 in
     let weight = moved-as (start .args .sign) (start .args .weight) _ (start .pre .sign-most) (c .before .before .before .before .before .before .moved .given .1) (rw weight-slot at (c .before .before .before .before .before .before .before .before .move-figure .ensures)) in
     let seconds = moved-as (start .args .sign) (start .args .weight * start .args .seconds) _ (start .pre .sign-most) (c .before .moved-seconds .given .1) (rw seconds-slot at (c .before .before .before .move-figure2 .ensures)) in
-    rw (weight-slot, seconds-slot, both-moved (withFigures b (start .args .figures .now)) (entry (start .args .operator) (start .args .year) (2 * start .args .level) (start .args .sign) (start .args .weight)) (counted-in (start .args .year)) (entry (start .args .operator) (start .args .year) (2 * start .args .level + 1) (start .args .sign) (start .args .weight * start .args .seconds)) _ weight _ (slots-apart (start .args .operator) (start .args .year) (2 * start .args .level)) seconds) (refl, refl)
+    rw (weight-slot, seconds-slot, last-moved (withFigures b (start .args .figures .now)) ((entry (start .args .operator) (start .args .year) (2 * start .args .level) (start .args .sign) (start .args .weight)) ∷ []) (entry (start .args .operator) (start .args .year) (2 * start .args .level + 1) (start .args .sign) (start .args .weight * start .args .seconds)) (counted-in (start .args .year)) _ seconds _ (slots-apart (start .args .operator) (start .args .year) (2 * start .args .level), tt) (one-moved (withFigures b (start .args .figures .now)) (entry (start .args .operator) (start .args .year) (2 * start .args .level) (start .args .sign) (start .args .weight)) (counted-in (start .args .year)) _ weight)) (refl, refl)
 
 -- 8, by the seconds
 returns-2 : tie.Need-returns-2
@@ -101,7 +103,7 @@ returns-2 c = λ b.
     let seconds-slot = c .before .before .before .before .before .before .before .before .before .figure-slot2 .ensures .0 in
     let weight = moved-as (start .args .sign) (start .args .weight) _ (start .pre .sign-most) (c .before .before .before .before .before .moved .given .1) (rw weight-slot at (c .before .before .before .before .before .before .before .move-figure .ensures)) in
     let seconds = moved-as (start .args .sign) (start .args .weight * start .args .seconds) _ (start .pre .sign-most) (c .enum-told .given .1) (rw seconds-slot at (c .before .before .move-figure2 .ensures)) in
-    rw (second-above (withFigures b (start .args .figures .now)) (entry (start .args .operator) (start .args .year) (2 * start .args .level) (start .args .sign) (start .args .weight)) (counted-in (start .args .year)) (entry (start .args .operator) (start .args .year) (2 * start .args .level + 1) (start .args .sign) (start .args .weight * start .args .seconds)) _ weight seconds) (refl, refl)
+    rw (last-above (withFigures b (start .args .figures .now)) ((entry (start .args .operator) (start .args .year) (2 * start .args .level) (start .args .sign) (start .args .weight)) ∷ []) (entry (start .args .operator) (start .args .year) (2 * start .args .level + 1) (start .args .sign) (start .args .weight * start .args .seconds)) (counted-in (start .args .year)) seconds) (refl, refl)
 
 -- 9, by the seconds
 returns-3 : tie.Need-returns-3
@@ -112,7 +114,7 @@ returns-3 c = λ b.
     let seconds-slot = c .before .before .before .before .before .before .before .before .before .figure-slot2 .ensures .0 in
     let weight = moved-as (start .args .sign) (start .args .weight) _ (start .pre .sign-most) (c .before .before .before .before .before .moved .given .1) (rw weight-slot at (c .before .before .before .before .before .before .before .move-figure .ensures)) in
     let seconds = moved-as (start .args .sign) (start .args .weight * start .args .seconds) _ (start .pre .sign-most) (c .enum-told2 .given .1) (rw seconds-slot at (c .before .before .move-figure2 .ensures)) in
-    rw (second-below (withFigures b (start .args .figures .now)) (entry (start .args .operator) (start .args .year) (2 * start .args .level) (start .args .sign) (start .args .weight)) (counted-in (start .args .year)) (entry (start .args .operator) (start .args .year) (2 * start .args .level + 1) (start .args .sign) (start .args .weight * start .args .seconds)) _ weight seconds) (refl, refl)
+    rw (last-below (withFigures b (start .args .figures .now)) ((entry (start .args .operator) (start .args .year) (2 * start .args .level) (start .args .sign) (start .args .weight)) ∷ []) (entry (start .args .operator) (start .args .year) (2 * start .args .level + 1) (start .args .sign) (start .args .weight * start .args .seconds)) (counted-in (start .args .year)) (refl, tt) seconds) (refl, refl)
 
 -- 8, by the weight
 returns-4 : tie.Need-returns-4
@@ -122,7 +124,7 @@ returns-4 c = λ b.
     let weight-slot = c .before .before .before .before .before .figure-slot .ensures .0 in
     let seconds-slot = c .before .before .before .before .figure-slot2 .ensures .0 in
     let weight = moved-as (start .args .sign) (start .args .weight) _ (start .pre .sign-most) (c .enum-told3 .given .1) (rw weight-slot at (c .before .before .move-figure .ensures)) in
-    rw (first-above (withFigures b (start .args .figures .now)) (entry (start .args .operator) (start .args .year) (2 * start .args .level) (start .args .sign) (start .args .weight)) (counted-in (start .args .year)) (entry (start .args .operator) (start .args .year) (2 * start .args .level + 1) (start .args .sign) (start .args .weight * start .args .seconds)) weight) (refl, refl)
+    rw (first-above (withFigures b (start .args .figures .now)) (entry (start .args .operator) (start .args .year) (2 * start .args .level) (start .args .sign) (start .args .weight)) (counted-in (start .args .year)) ((entry (start .args .operator) (start .args .year) (2 * start .args .level + 1) (start .args .sign) (start .args .weight * start .args .seconds)) ∷ []) weight) (refl, refl)
 
 -- 9, by the weight
 returns-5 : tie.Need-returns-5
@@ -132,7 +134,7 @@ returns-5 c = λ b.
     let weight-slot = c .before .before .before .before .before .figure-slot .ensures .0 in
     let seconds-slot = c .before .before .before .before .figure-slot2 .ensures .0 in
     let weight = moved-as (start .args .sign) (start .args .weight) _ (start .pre .sign-most) (c .enum-told4 .given .1) (rw weight-slot at (c .before .before .move-figure .ensures)) in
-    rw (first-below (withFigures b (start .args .figures .now)) (entry (start .args .operator) (start .args .year) (2 * start .args .level) (start .args .sign) (start .args .weight)) (counted-in (start .args .year)) (entry (start .args .operator) (start .args .year) (2 * start .args .level + 1) (start .args .sign) (start .args .weight * start .args .seconds)) refl weight) (refl, refl)
+    rw (first-below (withFigures b (start .args .figures .now)) (entry (start .args .operator) (start .args .year) (2 * start .args .level) (start .args .sign) (start .args .weight)) (counted-in (start .args .year)) ((entry (start .args .operator) (start .args .year) (2 * start .args .level + 1) (start .args .sign) (start .args .weight * start .args .seconds)) ∷ []) (refl, tt) weight) (refl, refl)
 
 pub enter-counted-spec : {M : Type 1} → statement M
 enter-counted-spec =
