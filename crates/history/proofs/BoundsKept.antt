@@ -65,7 +65,7 @@ module _ (b : Book) (bounds : Bounds b) where
   join-bounds operator lo =
       bounds-with-marks
       (bounds-with-joined bounds (including (b .joined) operator) (including-lt (b .joined) operator 16 (bounds .joined) lo) (including-keeps (b .joined) operator))
-      (unattested (b .marks) operator)
+      _
       (record {
         long = unattested-long (b .marks) operator ∙ bounds .marks .long;
         small = λ i li. rw (marks-at i li) (including-lt (getD (b .marks) i 0) operator 16 (bounds .marks .small i li) lo);
@@ -79,7 +79,7 @@ module _ (b : Book) (bounds : Bounds b) where
       → Bounds (changed b (Setting operator which value))
   unfolding changed isJoined settingSlot
   setting-bounds operator which value joined lw le =
-      bounds-with-settings bounds (set (b .settings) (settingSlot operator which) value)
+      bounds-with-settings bounds _
       (record {
         long = length-set (b .settings) _ _ ∙ bounds .settings .long;
         within = λ o w lo lw′.
@@ -95,7 +95,7 @@ module _ (b : Book) (bounds : Bounds b) where
       → Bounds (changed b (Mark operator indicator mark))
   unfolding changed isJoined
   mark-bounds operator indicator mark lo joined li =
-      bounds-with-marks bounds (set (b .marks) indicator new)
+      bounds-with-marks bounds _
       (record {
         long = length-set (b .marks) _ _ ∙ bounds .marks .long;
         small = λ i li′.
@@ -121,7 +121,7 @@ module _ (b : Book) (bounds : Bounds b) where
   pub index-bounds : (number value : ℕ) → indexLeast ≤ value → value ≤ indexMost → Bounds (changed b (Index number value))
   unfolding changed
   index-bounds number value least greatest =
-      bounds-with-indices bounds (set (b .indices) number value)
+      bounds-with-indices bounds _
       (record {
         long = length-set (b .indices) _ _ ∙ bounds .indices .long;
         within = λ n lt. store-holds (λ v. (indexLeast ≤ v) × (v ≤ indexMost)) (b .indices) number value n (λ same. (least, greatest)) (bounds .indices .within n lt);
@@ -142,7 +142,7 @@ module _ (b : Book) (bounds : Bounds b) where
   pub entry-bounds : (entry : Entry) → Enters (isJoined b) (figureOf b) entry → Bounds (entered b entry)
   unfolding entered figureOf figureSlot
   entry-bounds entry enters =
-      bounds-with-figures bounds (set (b .figures) (figureSlot (entry .operator) (entry .year) (entry .figure)) _)
+      bounds-with-figures bounds _
       (record {
         long = length-set (b .figures) _ _ ∙ bounds .figures .long;
         within = λ o y f lo ly lf.

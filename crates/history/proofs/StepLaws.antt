@@ -18,7 +18,7 @@ use Rattle.calls.specs.Held.{Same}
 use Rattle.calls.specs.Call.{Entry, factsOf}
 use Rattle.book.specs.Book.{withJoined, isJoined, isMarked, settingOf, figureOf, indexOf, heldBy, settingSlot, figureSlot}
 use Rattle.ledger.specs.Table.{some, totalAt}
-use Rattle.ledger.specs.Calls.{unattested, entered, enterAll, changed}
+use Rattle.ledger.specs.Calls.{entered, enterAll, changed}
 use Rattle.history.specs.History.{History, total, heldIn, historyWithOperators, at1, at2, summed, withEntry, withEntries, recorded}
 use Rattle.calls.proofs.Flags.{and-left, and-right, and-true-right, and-false-right}
 use Rattle.calls.proofs.MaskLaws.{including-has, excluding-has}
@@ -44,9 +44,8 @@ module _ (b : Book) (h : History) (bounds : Bounds b) (held : Same (heldBy b) (h
   unfolding changed recorded isJoined isMarked at1
   join-holds operator =
       same-with-marks (withJoined b (including (b .joined) operator)) (historyWithOperators h (at1 operator true (h .joined)))
-      (same-with-operators b h held (including (b .joined) operator) (at1 operator true (h .joined))
-      (λ o lt. including-has (b .joined) operator o ∙ ap (cond (eqb o operator) true) (held .joined o lt)))
-      (unattested (b .marks) operator) (at1 operator (λ (indicator : ℕ). true) (h .mark))
+      (same-with-operators b h held _ _ (λ o lt. including-has (b .joined) operator o ∙ ap (cond (eqb o operator) true) (held .joined o lt)))
+      (changed b (Join operator) .marks) (recorded h (Join operator) .mark)
       (λ o i lo li.
       ap (λ (mask : ℕ). has mask o) (unattested-at (b .marks) operator i (rw (bounds .marks .long) li))
       ∙ including-has (getD (b .marks) i 0) operator o ∙ go o i (eqb o operator) (held .mark o i lo li))
@@ -59,7 +58,7 @@ module _ (b : Book) (h : History) (bounds : Bounds b) (held : Same (heldBy b) (h
       → Same (heldBy (changed b (Setting operator which value))) (heldIn (recorded h (Setting operator which value)))
   unfolding changed recorded settingOf at2
   setting-holds operator which value lo lw =
-      same-with-settings b h held (set (b .settings) (settingSlot operator which) value) (at2 operator which value (h .setting))
+      same-with-settings b h held (changed b (Setting operator which value) .settings) (recorded h (Setting operator which value) .setting)
       (λ o w lt lt′.
       stored (b .settings) (settingSlot operator which) value (settingSlot o w) (rw (bounds .settings .long) (setting-slot-lt operator which lo lw))
       ∙ rw (same-setting-slot o w operator which lt′ lw) (ap (cond (eqb o operator && eqb w which) value) (held .setting o w lt lt′)))
@@ -88,7 +87,7 @@ module _ (b : Book) (h : History) (bounds : Bounds b) (held : Same (heldBy b) (h
       → Same (heldBy (changed b (Mark operator indicator mark))) (heldIn (recorded h (Mark operator indicator mark)))
   unfolding changed recorded at2
   mark-holds operator indicator mark li =
-      same-with-marks b h held (set (b .marks) indicator (remasked (getD (b .marks) indicator 0) operator mark)) (at2 operator indicator (eqb mark 1) (h .mark))
+      same-with-marks b h held (changed b (Mark operator indicator mark) .marks) (recorded h (Mark operator indicator mark) .mark)
       (λ o i lt lt′. remasked-has operator indicator mark li o i ∙ ap (cond (eqb o operator && eqb i indicator) (eqb mark 1)) (held .mark o i lt lt′))
 
   rates-holds : (pot cap : ℕ) → Same (heldBy (changed b (Rates pot cap))) (heldIn (recorded h (Rates pot cap)))
@@ -98,7 +97,7 @@ module _ (b : Book) (h : History) (bounds : Bounds b) (held : Same (heldBy b) (h
   index-holds : (number value : ℕ) → number < indexCount → Same (heldBy (changed b (Index number value))) (heldIn (recorded h (Index number value)))
   unfolding changed recorded indexOf at1
   index-holds number value ln =
-      same-with-indices b h held (set (b .indices) number value) (at1 number value (h .index))
+      same-with-indices b h held (changed b (Index number value) .indices) (recorded h (Index number value) .index)
       (λ n lt. stored (b .indices) number value n (rw (bounds .indices .long) ln) ∙ ap (cond (eqb n number) value) (held .index n lt))
 
 -- whether an entry is one of this place
@@ -179,7 +178,7 @@ module _ (b : Book) (h : History) (now : Agrees b h) (entry : Entry) (enters : E
   entry-holds : Same (heldBy (entered b entry)) (heldIn (withEntry h entry))
   unfolding entered withEntry figureOf total
   entry-holds =
-      same-with-figures b h (now .held) _ _ _
+      same-with-figures b h (now .held) (entered b entry .figures) (withEntry h entry .filed) (withEntry h entry .withdrawn)
       (λ o y f lo ly lf. entered-figure o y f ly lf ∙ rw (figure-is, now .held .total o y f lo ly lf) (sym (summed-total o y f)))
 
   -- what is withdrawn has been filed

@@ -17,6 +17,10 @@ use Rattle.filing.proofs.reader.advance.Tie as tie
 abbrev before : tie.Start → Book
 before start = lentBook (start .args .joined) (start .args .marks) (start .args .settings) (start .args .figures) (start .args .pot-rate) (start .args .cap-rate) (start .args .indices)
 
+-- where the call's parts were lent
+abbrev begun : tie.After-apply-in → tie.Start
+begun c = c .before .before .before .before .before .before .before .before
+
 apply-in-requires : tie.Need-apply-in-requires
 apply-in-requires c κs = search needs
 
@@ -30,7 +34,7 @@ stop-requires c κs = search needs
 returns : tie.Need-returns
 unfolding advanced
 returns c =
-    let start = c .before .before .before .before .before .before .before .before .before .before .before in
+    let start = begun (c .before .before .before) in
     let old = before start in
     let gives = c .before .before .before .apply-in .ensures in
     let stops : isRefused (apply old (start .args .filing-call) .said) ≡ true =
@@ -45,7 +49,7 @@ add-t21 c = search needs
 returns-2 : tie.Need-returns-2
 unfolding advanced
 returns-2 c =
-    let start = c .before .before .before .before .before .before .before .before .before .before .before in
+    let start = begun (c .before .before .before) in
     let old = before start in
     let gives = c .before .before .before .apply-in .ensures in
     let goes : isRefused (apply old (start .args .filing-call) .said) ≡ false =

@@ -22,26 +22,36 @@ abbrev μ-loop : tie.MeasureT-loop
 abbrev reached : tie.At-loop Inv-loop μ-loop → Turned
 reached c = toldTurn (bookWith (c .loop .joined) (c .loop .marks) (c .loop .settings) (c .loop .figures) (c .loop .pot-rate) (c .loop .cap-rate) (c .loop .indices)) (c .loop .turn)
 
+-- where the reading began
+abbrev begun : tie.At-loop Inv-loop μ-loop → tie.Start Inv-loop μ-loop
+begun c = c .before .before .before .before .before .before
+
+-- in a turn, before the parts are lent
+abbrev in-turn : tie.After-indices2 Inv-loop μ-loop → tie.In-loop Inv-loop μ-loop
+in-turn c = c .before .before .before .before .before .before .before .before
+
 loop-holds : tie.Need-loop-holds Inv-loop μ-loop
 loop-holds c = record { ready = record { counted = search needs; ranged = c .before .before .before .before .before .pre }; same = refl }
 
 step-requires : tie.Need-step-requires Inv-loop μ-loop
-step-requires c κs = c .before .before .before .before .before .before .before .before .before .loop .inv .ready
+step-requires c κs = in-turn c .before .loop .inv .ready
 
 loop-less : tie.Need-loop-less Inv-loop μ-loop
 loop-less c =
-    let at-loop = c .before .before .before .before .before .before .before .before .before .before in
-    let bytes = c .before .before .before .before .before .before .before .before .before .before .before .before .before .before .before .before .args .bytes .now in
+    let turn = in-turn (c .before) in
+    let at-loop = turn .before in
+    let bytes = begun at-loop .args .bytes .now in
     subst (λ (t : Turned). remaining bytes t < remaining bytes (reached at-loop)) (sym (c .step .ensures))
-    (rw (remaining-more bytes (reached at-loop) (c .before .before .before .before .before .before .before .before .before .loop-test .taken)) (step-follows bytes (reached at-loop .reached) (at-loop .loop .inv .ready) .less))
+    (rw (remaining-more bytes (reached at-loop) (turn .loop-test .taken)) (step-follows bytes (reached at-loop .reached) (at-loop .loop .inv .ready) .less))
 
 loop-again : tie.Need-loop-again Inv-loop μ-loop
 loop-again c =
-    let at-loop = c .before .before .before .before .before .before .before .before .before .before in
-    let bytes = c .before .before .before .before .before .before .before .before .before .before .before .before .before .before .before .before .args .bytes .now in
+    let turn = in-turn (c .before) in
+    let at-loop = turn .before in
+    let bytes = begun at-loop .args .bytes .now in
     record {
       ready = subst (λ (t : Turned). Ready (t .reached)) (sym (c .step .ensures)) (step-follows bytes (reached at-loop .reached) (at-loop .loop .inv .ready) .ready);
-      same = ap (completed bytes) (c .step .ensures) ∙ step-completed bytes (reached at-loop .reached) ∙ sym (completed-more bytes (reached at-loop) (c .before .before .before .before .before .before .before .before .before .loop-test .taken)) ∙ at-loop .loop .inv .same;
+      same = ap (completed bytes) (c .step .ensures) ∙ step-completed bytes (reached at-loop .reached) ∙ sym (completed-more bytes (reached at-loop) (turn .loop-test .taken)) ∙ at-loop .loop .inv .same;
     }
 
 -- read to its end or to a refusal
@@ -49,8 +59,8 @@ returns : tie.Need-returns Inv-loop μ-loop
 unfolding readFrom
 returns c =
     let at-loop = c .before .before in
-    let bytes = c .before .before .before .before .before .before .before .before .args .bytes .now in
-    rw (c .before .before .before .before .before .before .before .before .pre)
+    let bytes = begun at-loop .args .bytes .now in
+    rw (begun at-loop .pre)
     (sym (completed-stopped bytes (reached at-loop) (c .before .loop-test .left)) ∙ at-loop .loop .inv .same ∙ completed-more bytes _ refl)
 
 pub read-fields-spec : {M : Type 1} → statement M

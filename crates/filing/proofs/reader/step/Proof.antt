@@ -10,6 +10,10 @@ use borrow.Author.Needs.{needs}
 use Rattle.filing.proofs.reader.step.Statement.{statement}
 use Rattle.filing.proofs.reader.step.Tie as tie
 
+-- where the field was found to be a call, before the parts are lent to it
+abbrev found : tie.After-advance-arg7 → tie.After-filing-call
+found c = c .before .before .before .before .before .before .before .before
+
 field-at-requires : tie.Need-field-at-requires
 field-at-requires c κs = search needs
 
@@ -18,9 +22,9 @@ enum-known-filing-call c = search needs
 
 advance-requires : tie.Need-advance-requires
 advance-requires c κs =
-    let read = c .before .before .before .before .before .before .before .before .before .before in
-    let start = c .before .before .before .before .before .before .before .before .before .before .before .before in
-    let filing = sym (read .field-at .ensures) ∙ ap fieldSaid (c .before .before .before .before .before .before .before .before .filing-call .given .1) in
+    let read = found c .before .before in
+    let start = read .before .before in
+    let filing = sym (read .field-at .ensures) ∙ ap fieldSaid (found c .filing-call .given .1) in
     let placed = rw filing at (stands (start .args .bytes .now) (start .args .reached .offset)) in
     (omega (arith, placed .0, start .pre .counted), start .pre .ranged)
 
@@ -39,7 +43,7 @@ stop-requires-2 c κs = search needs
 -- a call
 returns : tie.Need-returns
 unfolding stepped steppedOn onAnswer
-returns c = rw (sym (c .before .before .before .before .before .before .before .before .before .before .before .field-at .ensures) ∙ ap fieldSaid (c .before .before .before .before .before .before .before .before .before .filing-call .given .1)) (c .advance .ensures)
+returns c = rw (sym (found (c .before) .before .before .field-at .ensures) ∙ ap fieldSaid (found (c .before) .filing-call .given .1)) (c .advance .ensures)
 
 -- the end
 returns-2 : tie.Need-returns-2
