@@ -52,6 +52,7 @@ pub(crate) fn stored(b: Book, field: Field) -> Book {
 }
 
 fn print_store(kind: u8, first: u8, second: u8, third: u8) {
+    // A kind that there is not has some other word.
     label(words::JOINED + kind % 64);
     match kind {
         JOINED | POT | CAP => {}
