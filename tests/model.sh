@@ -32,12 +32,18 @@ hold calls crates/replay/stdout
 cmp <("$model" table) crates/exponent_test/stdout
 echo "model: $(wc -l <crates/exponent_test/stdout) weights of crates/exponent_test/stdout agree"
 
-# The comparison can fail: one changed digit is noticed.
+# The comparison can fail: one changed digit is noticed, of the calls also in the last one with the book lent.
 wrong=$(mktemp)
 trap 'rm -f "$wrong"' EXIT
-sed '1s/4 3 3/3 4 3/' crates/apportion_test/stdout >"$wrong"
-if cmp --silent "$wrong" crates/apportion_test/stdout || agrees share "$wrong"; then
-    echo "tests/model.sh: a wrong answer was not noticed" >&2
-    exit 1
-fi
-echo "model: a wrong answer is noticed"
+notices() { # SUBCOMMAND FILE CHANGE
+    sed "$3" "$2" >"$wrong"
+    if cmp --silent "$wrong" "$2" || agrees "$1" "$wrong"; then
+        echo "tests/model.sh: $3 in $2 was not noticed" >&2
+        exit 1
+    fi
+}
+
+notices share crates/apportion_test/stdout '1s/4 3 3/3 4 3/'
+notices calls crates/replay/stdout '0,/= counted 0/s//= counted 1/'
+notices calls crates/replay/stdout '$s/.$/&0/'
+echo "model: wrong answers are noticed"
