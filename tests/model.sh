@@ -6,6 +6,8 @@ cd "$(dirname "$0")/.."
 
 (cd model && cargo test --quiet --offline && cargo build --quiet --release --offline)
 model=model/target/release/model
+work=$(mktemp -d)
+trap 'rm -rf "$work"' EXIT
 
 # The inputs of a stored output, answered by the model, in the layout of the stored output.
 answered() { # SUBCOMMAND FILE
@@ -13,13 +15,14 @@ answered() { # SUBCOMMAND FILE
 }
 
 agrees() { # SUBCOMMAND FILE
-    cmp --silent <(answered "$1" "$2") "$2"
+    answered "$1" "$2" >"$work/answered"
+    cmp --silent "$work/answered" "$2"
 }
 
 hold() { # SUBCOMMAND FILE
     if ! agrees "$1" "$2"; then
         echo "tests/model.sh: $2 is not what the model gives; the first lines that differ:" >&2
-        diff <(answered "$1" "$2") "$2" | head -n 6 >&2
+        diff "$work/answered" "$2" | head -n 6 >&2
         exit 1
     fi
     echo "model: $(wc -l <"$2") cases of $2 agree"
@@ -32,12 +35,16 @@ hold calls crates/replay/stdout
 cmp <("$model" table) crates/exponent_test/stdout
 echo "model: $(wc -l <crates/exponent_test/stdout) weights of crates/exponent_test/stdout agree"
 
-# The comparison can fail: one changed digit is noticed.
-wrong=$(mktemp)
-trap 'rm -f "$wrong"' EXIT
-sed '1s/4 3 3/3 4 3/' crates/apportion_test/stdout >"$wrong"
-if cmp --silent "$wrong" crates/apportion_test/stdout || agrees share "$wrong"; then
-    echo "tests/model.sh: a wrong answer was not noticed" >&2
-    exit 1
-fi
-echo "model: a wrong answer is noticed"
+# The comparison can fail: one changed digit is noticed, of the calls also in the last one with the book lent.
+notices() { # SUBCOMMAND FILE CHANGE
+    sed "$3" "$2" >"$work/wrong"
+    if cmp --silent "$work/wrong" "$2" || agrees "$1" "$work/wrong"; then
+        echo "tests/model.sh: $3 in $2 was not noticed" >&2
+        exit 1
+    fi
+}
+
+notices share crates/apportion_test/stdout '1s/4 3 3/3 4 3/'
+notices calls crates/replay/stdout '0,/= counted 0/s//= counted 1/'
+notices calls crates/replay/stdout '$s/.$/&0/'
+echo "model: wrong answers are noticed"

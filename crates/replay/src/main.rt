@@ -1,5 +1,6 @@
 // Reads commands as bytes from standard input and does them one after the other, first by value, then with the book lent. Each is
 // printed as `command = answer`. A command is a field of a filing: tags 1 to 7 are the filing calls, those from 208 on are its own.
+mod arguments;
 mod print;
 mod routes;
 mod show;

@@ -1,5 +1,6 @@
 // Prints words, numbers, lists of numbers and answers.
 use crate::words;
+use crate::words::WIDTH;
 use crate::words::letter_of;
 use calls::Answer;
 use calls::Reason;
@@ -12,7 +13,7 @@ pub(crate) fn put(byte: u8) {
 
 pub(crate) fn word(k: u8) {
     let mut i = 0;
-    while i < 12 {
+    while i < WIDTH {
         letter(letter_of(k, i));
         i += 1;
     }

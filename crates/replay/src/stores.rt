@@ -52,7 +52,8 @@ pub(crate) fn stored(b: Book, field: Field) -> Book {
 }
 
 fn print_store(kind: u8, first: u8, second: u8, third: u8) {
-    label(words::JOINED + kind % 16);
+    // A kind that there is not has some other word.
+    label(words::JOINED + kind % 64);
     match kind {
         JOINED | POT | CAP => {}
         FIGURE => {
@@ -78,7 +79,10 @@ fn store(b: Book, kind: u8, first: u8, second: u8, third: u8, value: u64) -> Boo
         CAP => next.cap_rate = thirty_two(value),
         INDEX => next.indices[first as usize % INDICES] = thirty_two(value),
         _ => {
-            next.settings[setting_slot(first % OPERATORS as u8, kind % SETTINGS as u8)] = value;
+            next.settings[setting_slot(
+                first % OPERATORS as u8,
+                (kind - SETTING) % SETTINGS as u8,
+            )] = value;
         }
     }
     next

@@ -2,9 +2,9 @@
 // A command's name stands at its tag, less 200 where that is above 200. From JOINED on: what can be stored, the settings last.
 const COUNT: usize = 30;
 
-const WIDTH: usize = 12;
+pub(crate) const WIDTH: usize = 12;
 
-const WORDS: [u8; 360] = *b"\
+const WORDS: [u8; COUNT * WIDTH] = *b"\
 -           join        setting     interruption\
 amount      mark        rates       index       \
 fresh       show        settle      store       \
