@@ -43,16 +43,16 @@ fields() { # COUNT CALL
     }'
 }
 
-# The instructions of one field of a kind: 1000 of them less 100, divided by 900.
+# The instructions of one field of a kind: 2000 of them less 1000, divided by 1000. Both take the larger of the program's two buffers.
 field() { # KIND CALL
     local few many
-    for count in 100 1000; do
+    for count in 1000 2000; do
         mkdir -p "$work/$1-$count"
         fields "$count" "$2" | "$model" encode >"$work/$1-$count/filing.q"
     done
-    few=$(cd "$work/$1-100" && instructions "$program")
-    many=$(cd "$work/$1-1000" && instructions "$program")
-    awk -v kind="$1" -v few="$few" -v many="$many" 'BEGIN { printf "%-24s %6d\n", kind, (many - few) / 900 }'
+    few=$(cd "$work/$1-1000" && instructions "$program")
+    many=$(cd "$work/$1-2000" && instructions "$program")
+    awk -v kind="$1" -v few="$few" -v many="$many" 'BEGIN { printf "%-24s %6d\n", kind, (many - few) / 1000 }'
 }
 
 printf '%-14s %14s %14s %7s\n' filing program model ratio

@@ -68,7 +68,7 @@ fn award_units(units: u64, d: Divisions) -> [u64; 16]
     let mut remaining = d.remainders;
     let mut left = units;
     while 0 < left {
-        let place = foremost_place(remaining);
+        let place = foremost_place(&remaining);
         shares[place] += 1;
         remaining[place] = 0;
         left -= 1;
@@ -76,15 +76,18 @@ fn award_units(units: u64, d: Divisions) -> [u64; 16]
     shares
 }
 
-// The place that is served first.
-fn foremost_place(remaining: [u64; 16]) -> usize
-    ensures { λ r. ⌜ (r ≡ foremost remaining 16) × (r < 16) ⌝ }
+// The place that is served first. Its remainder is kept beside it.
+fn foremost_place(remaining: &[u64; 16]) -> usize
+    ensures { λ r. ⌜ (r ≡ foremost (now (remaining .entry)) 16) × (r < 16) ⌝ }
 {
     let mut best = 0;
+    let mut top = remaining[0];
     let mut i = 1;
     while i < 16 {
-        if precedes(remaining[i], i, remaining[best], best) {
+        let next = remaining[i];
+        if precedes(next, i, top, best) {
             best = i;
+            top = next;
         }
         i += 1;
     }

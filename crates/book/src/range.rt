@@ -1,18 +1,21 @@
 // Whether a book is in range: every value within its limits, and only fresh values for an operator not joined.
 ghost use mathlib.Core.Path.{_≡_};
 ghost use mathlib.Core.Bool.{cond, not, _&&_, _||_};
+ghost use Prim.Native.Nat.{ℕ, _+_, _≤_};
 ghost use lib.Dec.{leb};
-ghost use Rattle.calls.specs.Limits.{indexLeast, indexMost};
+ghost use lib.ListN.{getD};
+ghost use Rattle.calls.specs.Limits.{operators, operatorFigures, figurePlaces, indexLeast, indexMost};
 ghost use Rattle.calls.specs.Masks.{has};
-ghost use Rattle.book.specs.Book.{hasSixteenBits, settingsInRange, figuresInRange, marksInRange, ratesInRange, indicesInRange, inRange};
+ghost use Rattle.book.specs.Book.{every, hasSixteenBits, settingsInRange, figuresInRange, marksInRange, ratesInRange, indicesInRange, inRange};
 use crate::Book;
 use calls::FIGURE_LIMIT;
 use calls::FIGURE_PLACES;
 use calls::INDEX_LEAST;
 use calls::INDEX_MOST;
+use calls::INDICATORS;
 use calls::INDICES;
-use calls::MARK_PLACES;
 use calls::OPERATOR_FIGURES;
+use calls::OPERATORS;
 use calls::SETTING_PLACES;
 use calls::SETTINGS;
 use calls::has_bit;
@@ -62,9 +65,25 @@ fn figures_in_range(b: Book) -> bool
 {
     let joined = b.joined;
     let figures = b.figures;
+    let mut operator = 0;
+    while operator < OPERATORS {
+        let most = most_allowed(joined, operator as u8, FIGURE_LIMIT);
+        if !all_within(&figures, operator * OPERATOR_FIGURES, most) {
+            return false;
+        }
+        operator += 1;
+    }
+    true
+}
+
+// Whether the figures of an operator, from a place on, stay within a limit. The limit is taken once for all of them.
+fn all_within(figures: &[u64; FIGURE_PLACES], from: usize, most: u64) -> bool
+    requires { ⌜ from + operatorFigures ≤ figurePlaces ⌝ }
+    ensures { λ r. ⌜ r ≡ every operatorFigures (λ (k : ℕ). leb (getD (now (figures .entry)) (from + k) 0) most) ⌝ }
+{
     let mut i = 0;
-    while i < FIGURE_PLACES {
-        if most_allowed(joined, (i / OPERATOR_FIGURES) as u8, FIGURE_LIMIT) < figures[i] {
+    while i < OPERATOR_FIGURES {
+        if most < figures[from + i] {
             return false;
         }
         i += 1;
@@ -88,8 +107,8 @@ fn marks_in_range(b: Book) -> bool
     let joined = b.joined;
     let marks = b.marks;
     let mut i = 0;
-    while i < MARK_PLACES {
-        if !mark_allowed(marks[i / 16], joined, (i % 16) as u8) {
+    while i < INDICATORS {
+        if !only_of(marks[i], joined) {
             return false;
         }
         i += 1;
@@ -97,14 +116,11 @@ fn marks_in_range(b: Book) -> bool
     true
 }
 
-// Only a joined operator has a mark.
-fn mark_allowed(mask: u16, joined: u16, operator: u8) -> bool
-    ensures { λ r. ⌜ r ≡ hasSixteenBits mask && (not (has mask operator) || has joined operator) ⌝ }
+// Only joined operators have a mark: the mask has nothing that it has not in common with theirs.
+fn only_of(mask: u16, joined: u16) -> bool
+    ensures { λ r. ⌜ r ≡ hasSixteenBits mask && every operators (λ (operator : ℕ). not (has mask operator) || has joined operator) ⌝ }
 {
-    if has_bit(mask, operator) {
-        return has_bit(joined, operator);
-    }
-    true
+    mask & joined == mask
 }
 
 fn rates_in_range(b: Book) -> bool

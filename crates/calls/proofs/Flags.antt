@@ -37,6 +37,12 @@ pub or-right : (s t : Bool) → s || t ≡ false → t ≡ false
 or-right true t e = absurd (false≢true (sym e))
 or-right false t e = e
 
+-- two tests, each of which holds if the other does
+pub same-test : (s t : Bool) → (s ≡ true → t ≡ true) → (t ≡ true → s ≡ true) → s ≡ t
+same-test true t forth back = sym (forth refl)
+same-test false true forth back = back refl
+same-test false false forth back = refl
+
 -- both halves of a test that holds
 pub both : (a b : Bool) → a && b ≡ true → (a ≡ true) × (b ≡ true)
 both a b e = (and-left a b e, and-right a b e)

@@ -1,16 +1,16 @@
--- Masks as sets of numbers: what is in a mask with one number more or less, and masks with the same bits are equal.
+-- Masks as sets of numbers: what is in a mask with one number more or less and in two masks, and masks with the same bits are equal.
 -- Assumes nothing.
-use Prim.Native.Nat.{ℕ, zero, suc, _+_, _-_, _*_, _/_, _%_, _^_, max, _≤_, _<_}
+use Prim.Native.Nat.{ℕ, zero, suc, _+_, _-_, _*_, _/_, _%_, _^_, min, max, _≤_, _<_}
 use mathlib.Core.Path.{_≡_, refl, sym, ap, ap₂, _∙_}
 use mathlib.Core.Logic.{_≢_}
-use mathlib.Core.Bool.{Bool, true, false, cond}
+use mathlib.Core.Bool.{Bool, true, false, cond, _&&_}
 use native.Mathlib.Nat.{zero-div, div-one, mod-lt, div-self, div-eq-of-lt, pow-suc}
 use native.Mathlib.Omega.{arith}
 use native.Mathlib.Decide.{decLt}
-use lib.Bits.{bitOr, or-step, or-zero-r, or-lt, or-shr, or-block}
+use lib.Bits.{bitAnd, and-step, and-shr, bitOr, or-step, or-zero-r, or-lt, or-shr, or-block}
 use lib.Pow.{pow-pos, pow-lt, pow-add, shr-shr, split, high, shl-shr}
 use lib.Dec.{eqb}
-use borrow.Author.Tests.{eqb-true, eqb-false, ne-eqb}
+use borrow.Author.Tests.{eqb-true, eqb-false, eq-eqb, ne-eqb}
 use Rattle.calls.specs.Masks.{has, including, excluding}
 
 pub has-zero : (k : ℕ) → has 0 k ≡ false
@@ -125,6 +125,23 @@ excluding-has mask k j = go (eqb j k) refl
     go : (t : Bool) → eqb j k ≡ t → has (excluding mask k) j ≡ cond t false (has mask j)
     go true e = rw (eqb-true j k e) (excluding-same mask k)
     go false e = excluding-other mask k j (eqb-false j k e)
+
+-- the last digit of a common part
+and-digit : (x y : ℕ) → eqb (bitAnd x y % 2) 1 ≡ eqb (x % 2) 1 && eqb (y % 2) 1
+and-digit x y = go (eqb (x % 2) 1) refl (eqb (y % 2) 1) refl
+  where
+    lesser : bitAnd x y % 2 ≡ min (x % 2) (y % 2)
+    lesser = rw and-step (omega arith)
+
+    go : (s : Bool) → eqb (x % 2) 1 ≡ s → (t : Bool) → eqb (y % 2) 1 ≡ t → eqb (bitAnd x y % 2) 1 ≡ s && t
+    go true e true f = eq-eqb (bitAnd x y % 2) 1 (omega (arith, lesser, eqb-true (x % 2) 1 e, eqb-true (y % 2) 1 f))
+    go true e false f = ne-eqb (bitAnd x y % 2) 1 (λ h. omega (arith, h, lesser, eqb-false (y % 2) 1 f))
+    go false e t f = ne-eqb (bitAnd x y % 2) 1 (λ h. omega (arith, h, lesser, eqb-false (x % 2) 1 e))
+
+-- what is in the common part is in both masks
+pub and-has : (a b k : ℕ) → has (bitAnd a b) k ≡ has a k && has b k
+unfolding has
+and-has a b k = rw and-shr (and-digit (a / 2 ^ k) (b / 2 ^ k))
 
 -- masks with the same bits
 pub has-half : (mask k : ℕ) → has (mask / 2) k ≡ has mask (suc k)

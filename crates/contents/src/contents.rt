@@ -1,36 +1,13 @@
-// The content of a field: its size, and the call that it gives.
+// The call that the content of a field gives.
 ghost use mathlib.Core.Path.{_≡_};
 ghost use mathlib.Core.Bool.{true};
 ghost use Prim.Native.Nat.{_+_, _≤_};
 ghost use lib.ListN.{length, take, drop};
 ghost use Rattle.contents.specs.Content.{isKnown, tagged};
+use crate::numbers::eight_at;
 use crate::numbers::signed_at;
 use crate::numbers::unsigned_at;
 use calls::Call;
-
-pub fn is_known(tag: u8) -> bool
-    ensures { λ r. ⌜ r ≡ isKnown tag ⌝ }
-{
-    if tag < 1 {
-        return false;
-    }
-    tag <= 7
-}
-
-pub fn content_size(tag: u8) -> usize
-    requires { ⌜ isKnown tag ≡ true ⌝ }
-    ensures { λ r. ⌜ r ≡ tagged tag .size ⌝ }
-{
-    match tag {
-        1 => 1,
-        2 => 10,
-        3 => 24,
-        4 => 12,
-        5 => 3,
-        6 => 8,
-        _ => 5,
-    }
-}
 
 // The call of a known tag whose content starts at an offset and does not pass the end.
 pub fn call_at(tag: u8, bytes: &[u8], at: usize) -> Call
@@ -57,7 +34,7 @@ fn setting_at(bytes: &[u8], at: usize) -> Call
     Call::Setting {
         operator: bytes[at],
         which: bytes[at + 1],
-        value: unsigned_at(bytes, at + 2, 8),
+        value: eight_at(bytes, at + 2),
     }
 }
 
@@ -85,7 +62,7 @@ fn amount_at(bytes: &[u8], at: usize) -> Call
         year: bytes[at + 1],
         figure: bytes[at + 2],
         sign: bytes[at + 3],
-        value: unsigned_at(bytes, at + 4, 8),
+        value: eight_at(bytes, at + 4),
     }
 }
 

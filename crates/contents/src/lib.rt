@@ -3,6 +3,4 @@ mod contents;
 mod numbers;
 
 pub use contents::call_at;
-pub use contents::content_size;
-pub use contents::is_known;
 pub use numbers::unsigned_at;

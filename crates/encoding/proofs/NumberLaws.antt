@@ -1,31 +1,15 @@
 -- A number's bytes stored from the last to the first.
 -- Assumes nothing.
 use Prim.Native.Nat.{ℕ, zero, suc, _+_, _*_, _/_, _%_, _^_, _≤_}
-use mathlib.Core.Path.{_≡_, refl, sym, ap, _∙_}
-use mathlib.Core.List.{List, [], _∷_, _++_}
+use mathlib.Core.Path.{_≡_, refl, sym, _∙_}
+use mathlib.Core.List.{List}
 use native.Mathlib.Nat.{pow-suc, div-div-eq-div-mul, div-one}
-use native.Mathlib.Numerals.{add-one}
 use native.Mathlib.Omega.{arith}
-use lib.ListN.{length, take, drop, set, length-append}
-use lib.Seq.{set-append-left, take-set-lt, take-suc-set, append-snoc, length-take-le}
+use lib.ListN.{length, set}
 use Rattle.text.specs.Steps.{withTextAt}
-use Rattle.text.proofs.WrittenLaws.{put-nothing}
+use Rattle.text.proofs.WrittenLaws.{put-nothing, byte-before}
 use Rattle.fields.specs.Encoding.{inBytes}
 use Rattle.fields.proofs.EncodingLaws.{bytes-length}
-
--- a byte stored just before a text that was put
-byte-before : (old : List ℕ) (at byte : ℕ) (text : List ℕ) → at + 1 ≤ length old → set (withTextAt old (at + 1) text) at byte ≡ withTextAt old at (byte ∷ text)
-unfolding withTextAt
-byte-before old at byte text room =
-    let head : List ℕ = take (at + 1) old in
-    let rest : List ℕ = drop (at + 1 + length text) old in
-    let long : length head ≡ at + 1 = length-take-le (at + 1) old room in
-    let front : set head at byte ≡ take at old ++ (byte ∷ []) =
-    rw (add-one at) (sym (take-set-lt (suc at) old at byte (omega arith)) ∙ take-suc-set old at byte (omega arith)) in
-    let after : at + 1 + length text ≡ at + suc (length text) = omega arith in
-    set-append-left (head ++ text) rest at byte (rw length-append (omega (arith, long)))
-    ∙ ap (λ (l : List ℕ). l ++ rest) (set-append-left head text at byte (omega (arith, long)))
-    ∙ rw (front, append-snoc (take at old) byte text, after) refl
 
 -- bytes stored so far: the last of the number, up to a place
 pub record Storing (old : List ℕ) (at width number : ℕ) (new : List ℕ) (rest left : ℕ) : Type 0 where

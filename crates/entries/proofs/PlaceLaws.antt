@@ -9,19 +9,13 @@ use borrow.Author.Tests.{lt-ltb, le-ltb}
 use Rattle.book.specs.declared.Book.{Book}
 use Rattle.calls.specs.declared.Call.{Call}
 use Rattle.calls.specs.declared.Call.the-variants.{Amount}
-use Rattle.calls.specs.Limits.{operators, years, figureCount, settingCount, indicatorCount, indexCount}
+use Rattle.calls.specs.Limits.{operators, years, figureCount, settingCount, indicatorCount, indexCount, settingPlaces, markPlaces}
 use Rattle.book.specs.Book.{isJoined, isMarked, settingOf, figureOf, indexOf}
 use Rattle.writing.specs.Written.{inTurn, unlessFresh, joinCalls, settingCalls, amountCalls, markCalls, indexCalls, rateCalls, writtenCalls}
 use Rattle.entries.specs.Entries.{joinAt, settingAt, amountAt, markAt, indexAt, ratesAt, settingsFrom, amountsFrom, marksFrom, indicesFrom, ratesFrom, places, callsAt}
 
-abbrev settingPlaces : ℕ
-settingPlaces = operators * settingCount
-
 abbrev figurePlaces : ℕ
 figurePlaces = operators * (years * figureCount)
-
-abbrev markPlaces : ℕ
-markPlaces = operators * indicatorCount
 
 module _ (b : Book) (place : ℕ) where
   pub place-join : place < settingsFrom → callsAt b place ≡ joinAt (b .joined) place

@@ -1,6 +1,6 @@
 -- Division rounded down, and what the division of a product asks for: numbers that leave room in 64 bits.
 -- Assumes nothing.
-use Prim.Native.Nat.{ℕ, _/_, _^_, _<_, _≤_}
+use Prim.Native.Nat.{ℕ, _*_, _/_, _^_, _<_, _≤_}
 use mathlib.Core.Bool.{cond}
 use lib.Dec.{eqb}
 
@@ -15,10 +15,11 @@ pub record Dividing (t w s : ℕ) : Type 0 where
   pub divisor-small : s < 2 ^ 62
   pub factor-small : t < 2 ^ 62
 
--- a bit appended to the factor of a division of which quotient and remainder are known
-pub record Appending (quotient remainder bit w s : ℕ) : Type 0 where
-  pub is-bit : bit < 2
+-- a digit appended to the factor of a division of which quotient and remainder are known
+pub record Appending (quotient remainder digit base w s : ℕ) : Type 0 where
+  pub is-digit : digit < base
   pub part : w ≤ s
-  pub divisor-small : s < 2 ^ 62
   pub reduced : remainder < s
-  pub quotient-small : quotient < 2 ^ 62
+  pub base-small : base ≤ 2 ^ 62
+  pub room : base * s ≤ 2 ^ 63
+  pub quotient-small : quotient * base < 2 ^ 62

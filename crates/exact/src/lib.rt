@@ -1,7 +1,7 @@
 // Division, rounded down; and quotient and remainder of a product, at once where it fits 64 bits and in steps of 64 bits where it passes
 // them (01: "Some products pass 64 bits; the answer is exact all the same").
 ghost use mathlib.Core.Path.{_≡_};
-ghost use Prim.Native.Nat.{_+_, _*_, _/_, _%_, _^_, _<_, _≤_};
+ghost use Prim.Native.Nat.{_+_, _*_, _/_, _%_, _^_, _<_, _≤_, min};
 ghost use lib.Dec.{ltb};
 ghost use Rattle.exact.specs.Division.{over, Dividing, Appending};
 
@@ -36,7 +36,7 @@ pub fn divide_product(t: u64, w: u64, s: u64) -> Division
             remainder: product % s,
         };
     }
-    divide_by_bits(t, w, s)
+    divide_by_digits(t, w, s)
 }
 
 // Whether t * w fits 64 bits.
@@ -49,44 +49,50 @@ fn product_fits(t: u64, w: u64) -> bool
     t <= LARGEST / w
 }
 
-// The same division, t taken bit by bit from the top.
-fn divide_by_bits(t: u64, w: u64, s: u64) -> Division
+// The same division, t taken from the top by digits of as many bits as s leaves free, but for one.
+fn divide_by_digits(t: u64, w: u64, s: u64) -> Division
     requires { ⌜ Dividing t w s ⌝ }
     ensures { λ r. ⌜ (r .quotient ≡ t * w / s) × (r .remainder ≡ t * w % s) ⌝ }
 {
+    let width = u64::leading_zeros(s) - 1;
     let mut k = 64 - u64::leading_zeros(t);
     let mut d = Division {
         quotient: 0,
         remainder: 0,
     };
     while 0 < k {
-        k -= 1;
-        d = append_bit(d, (t >> k) % 2, w, s);
+        let bits = least(width, k);
+        let base = power_of_two(bits);
+        k -= bits;
+        d = append_digit(d, (t >> k) % base, base, w, s);
     }
     d
 }
 
-// The division of a product whose factor t is one bit longer: t doubled, and the bit added.
-fn append_bit(d: Division, bit: u64, w: u64, s: u64) -> Division
-    requires { ⌜ Appending (d .quotient) (d .remainder) bit w s ⌝ }
-    ensures { λ r. ⌜ (r .remainder < s) × (r .quotient * s + r .remainder ≡ 2 * (d .quotient * s + d .remainder) + bit * w) ⌝ }
+fn least(a: u32, b: u32) -> u32
+    ensures { λ r. ⌜ r ≡ min a b ⌝ }
 {
-    let quotient = 2 * d.quotient;
-    let remainder = 2 * d.remainder + bit * w;
-    if remainder < s {
-        return Division {
-            quotient,
-            remainder,
-        };
+    if a < b {
+        return a;
     }
-    if remainder - s < s {
-        return Division {
-            quotient: quotient + 1,
-            remainder: remainder - s,
-        };
-    }
+    b
+}
+
+fn power_of_two(n: u32) -> u64
+    requires { ⌜ n < 64 ⌝ }
+    ensures { λ r. ⌜ r ≡ 2 ^ n ⌝ }
+{
+    1 << n
+}
+
+// The division of a product whose factor t is one digit longer: t times the digits' base, and the digit added.
+fn append_digit(d: Division, digit: u64, base: u64, w: u64, s: u64) -> Division
+    requires { ⌜ Appending (d .quotient) (d .remainder) digit base w s ⌝ }
+    ensures { λ r. ⌜ (r .remainder < s) × (r .quotient * s + r .remainder ≡ base * (d .quotient * s + d .remainder) + digit * w) ⌝ }
+{
+    let sum = d.remainder * base + digit * w;
     Division {
-        quotient: quotient + 2,
-        remainder: remainder - s - s,
+        quotient: d.quotient * base + sum / s,
+        remainder: sum % s,
     }
 }

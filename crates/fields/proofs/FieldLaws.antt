@@ -12,6 +12,7 @@ use Rattle.calls.specs.declared.Call.{Call}
 use Rattle.calls.specs.Answers.{Said, refused-by, accepted, firstOf}
 use Rattle.contents.specs.Content.{byte, unsigned, isKnown, tagged}
 use Rattle.fields.specs.Field.{Found, at-end, call-then, fieldLines, callAt, fieldAt}
+use Rattle.fields.specs.Steps.{contentSaid}
 
 -- how an answer leaves the offset: a call ends 3 bytes on or more and does not pass the end
 abbrev pub Stands : List ℕ → ℕ → Said Found → Type 0
@@ -57,16 +58,11 @@ module _ (bytes : List ℕ) (at : ℕ) where
       passes-end lt = rw (some-left, three-or-more, lt-ltb (left - 3) size lt) refl
 
       module _ (within : size ≤ left - 3) where
-        pub unknown-tag : isKnown tag ≡ false → fieldAt bytes at ≡ refused-by 2
-        unfolding fieldAt fieldLines firstOf callAt
-        unknown-tag e = rw (some-left, three-or-more, le-ltb (left - 3) size within, e) refl
+        pub framed : fieldAt bytes at ≡ contentSaid tag size bytes (at + 3)
+        unfolding fieldAt fieldLines firstOf callAt contentSaid
+        framed = rw (some-left, three-or-more, le-ltb (left - 3) size within) refl
 
         module _ (known : isKnown tag ≡ true) where
-          pub wrong-length : (size ≡ tagged tag .size → ⊥) → fieldAt bytes at ≡ refused-by 3
-          unfolding fieldAt fieldLines firstOf callAt
-          wrong-length differs =
-              rw (some-left, three-or-more, le-ltb (left - 3) size within, known, ne-eqb size (tagged tag .size) differs) refl
-
           pub filed : size ≡ tagged tag .size → fieldAt bytes at ≡ accepted (call-then (tagged tag .call (take size (drop (at + 3) bytes))) (at + 3 + size))
           unfolding fieldAt fieldLines firstOf callAt
           filed same = rw (some-left, three-or-more, le-ltb (left - 3) size within, known, eq-eqb size (tagged tag .size) same) refl

@@ -1,4 +1,5 @@
 -- The laws that the proofs of `fields`, and of the crates above it, use.
+pub mod ContentLaws
 pub mod FieldLaws
 pub mod LowestOfFields
 pub mod EncodingLaws

@@ -2,3 +2,4 @@
 pub mod Field
 pub mod Encoding
 pub mod Laws
+pub mod Steps

@@ -1,36 +1,38 @@
 // What stands in a filing at an offset: a field and the call that it files, the end, or a field that 1, 2 or 3 refuses.
 ghost use mathlib.Core.Path.{_≡_};
+ghost use Prim.Native.Nat.{_+_, _<_};
+ghost use lib.ListN.{length};
 ghost use Rattle.fields.specs.Field.{fieldAt, fieldSaid};
 use crate::Field;
+use crate::tags::content_at;
 use calls::Refusal;
-use contents::call_at;
-use contents::content_size;
-use contents::is_known;
 use contents::unsigned_at;
 
 pub fn field_at(bytes: &[u8], at: usize) -> Field
     ensures { λ r. ⌜ fieldSaid r ≡ fieldAt (now (bytes .entry)) at ⌝ }
 {
-    if bytes.len() <= at {
-        return Field::End;
+    if bytes.len() < 3 {
+        return short_at(bytes, at);
     }
-    let left = bytes.len() - at;
-    if left < 3 {
-        return Field::Refused(Refusal::Truncated);
+    let last = bytes.len() - 3;
+    if last < at {
+        return short_at(bytes, at);
     }
     let size = unsigned_at(bytes, at + 1, 2) as usize;
-    if left - 3 < size {
+    if last - at < size {
         return Field::Refused(Refusal::Truncated);
     }
     let tag = bytes[at];
-    if !is_known(tag) {
-        return Field::Refused(Refusal::UnknownTag);
+    content_at(tag, size, bytes, at + 3)
+}
+
+// Fewer than three bytes are left: the end, or 1.
+fn short_at(bytes: &[u8], at: usize) -> Field
+    requires { ⌜ length (now bytes) < at + 3 ⌝ }
+    ensures { λ r. ⌜ fieldSaid r ≡ fieldAt (now (bytes .entry)) at ⌝ }
+{
+    if bytes.len() <= at {
+        return Field::End;
     }
-    if size != content_size(tag) {
-        return Field::Refused(Refusal::WrongLength);
-    }
-    Field::CallThen {
-        filing_call: call_at(tag, bytes, at + 3),
-        next: at + 3 + size,
-    }
+    Field::Refused(Refusal::Truncated)
 }

@@ -1,5 +1,6 @@
 // A field of a filing: its bytes, and the call that they give.
 mod fields;
+mod tags;
 
 use calls::Call;
 use calls::Refusal;

@@ -1,12 +1,11 @@
--- The ones of a mask are the numbers in it; and what is in the common part of two masks and in a complement.
+-- The ones of a mask are the numbers in it; and what is in a complement.
 -- Assumes nothing.
-use Prim.Native.Nat.{ℕ, zero, suc, _+_, _-_, _/_, _%_, _^_, min, _<_}
+use Prim.Native.Nat.{ℕ, zero, suc, _+_, _-_, _/_, _%_, _^_, _<_}
 use mathlib.Core.Path.{_≡_, refl, sym, ap, _∙_}
-use mathlib.Core.Bool.{Bool, true, false, cond, not, _&&_}
+use mathlib.Core.Bool.{Bool, true, false, cond, not}
 use native.Mathlib.Nat.{div-one, pow-suc}
 use native.Mathlib.Omega.{arith}
 use native.Mathlib.Decide.{decLt}
-use lib.Bits.{bitAnd, and-step, and-shr}
 use lib.Count.{ones, ones-step, ones-le}
 use lib.Dec.{eqb}
 use lib.Pow.{pow-pos}
@@ -45,29 +44,13 @@ some-one n mask small pos = go (decLt 0 (count n (has mask)))
         same-bits n mask 0 small (pow-pos n) (λ k lt. count-none n (has mask) (omega (arith, none)) k lt ∙ sym (has-zero k)) in
         absurd (omega arith)
 
--- the last digits of a common part and of a complement
-and-digit : (x y : ℕ) → eqb (bitAnd x y % 2) 1 ≡ eqb (x % 2) 1 && eqb (y % 2) 1
-and-digit x y = go (eqb (x % 2) 1) refl (eqb (y % 2) 1) refl
-  where
-    lesser : bitAnd x y % 2 ≡ min (x % 2) (y % 2)
-    lesser = rw and-step (omega arith)
-
-    go : (s : Bool) → eqb (x % 2) 1 ≡ s → (t : Bool) → eqb (y % 2) 1 ≡ t → eqb (bitAnd x y % 2) 1 ≡ s && t
-    go true e true f = eq-eqb (bitAnd x y % 2) 1 (omega (arith, lesser, eqb-true (x % 2) 1 e, eqb-true (y % 2) 1 f))
-    go true e false f = ne-eqb (bitAnd x y % 2) 1 (λ h. omega (arith, h, lesser, eqb-false (y % 2) 1 f))
-    go false e t f = ne-eqb (bitAnd x y % 2) 1 (λ h. omega (arith, h, lesser, eqb-false (x % 2) 1 e))
-
+-- the last digit of a complement
 other-digit : (x y : ℕ) → x % 2 + y % 2 ≡ 1 → eqb (x % 2) 1 ≡ not (eqb (y % 2) 1)
 other-digit x y sum = go (eqb (y % 2) 1) refl
   where
     go : (t : Bool) → eqb (y % 2) 1 ≡ t → eqb (x % 2) 1 ≡ not t
     go true e = ne-eqb (x % 2) 1 (λ h. omega (arith, h, sum, eqb-true (y % 2) 1 e))
     go false e = eq-eqb (x % 2) 1 (omega (arith, sum, eqb-false (y % 2) 1 e))
-
--- what is in the common part is in both masks
-pub and-has : (a b k : ℕ) → has (bitAnd a b) k ≡ has a k && has b k
-unfolding has
-and-has a b k = rw and-shr (and-digit (a / 2 ^ k) (b / 2 ^ k))
 
 -- what is not in a mask is in its complement
 pub complement : (n mask k : ℕ) → mask < 2 ^ n → k < n → has (2 ^ n - 1 - mask) k ≡ not (has mask k)

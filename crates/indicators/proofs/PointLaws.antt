@@ -12,6 +12,7 @@ use lib.Count.{ones, ones-le}
 use lib.ListN.{length, getD}
 use Rattle.calls.specs.Masks.{has}
 use Rattle.calls.proofs.Flags.{and-left}
+use Rattle.calls.proofs.MaskLaws.{and-has}
 use Rattle.book.specs.declared.Book.{Book}
 use Rattle.book.specs.Book.{isJoined, isMarked, inRange}
 use Rattle.book.proofs.Bounds.{bounded}
@@ -27,7 +28,7 @@ use Rattle.indicators.specs.Laws.{PointsMadeUp}
 use Rattle.values.proofs.InRange.{mark-set-small}
 use Rattle.values.proofs.Tables.{sum-none}
 use Rattle.values.proofs.CountLaws.{count-positive, count-mono, some-passes}
-use Rattle.indicators.proofs.OnesLaws.{ones-counted, and-has, complement}
+use Rattle.indicators.proofs.OnesLaws.{ones-counted, complement}
 use Rattle.indicators.proofs.WeightLaws.{together, over-most, over-some, one-better, better-reliable, weights-length, weight-reliable, weight-none, weight-better}
 
 module _ (b : Book) (indicator : Indicator) where

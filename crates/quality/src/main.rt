@@ -1,14 +1,26 @@
 // The program: reads `filing.q` from the folder that it is run in, and prints its settlement or its refusal. What is printed for the
 // bytes of a filing is `output`'s to say.
 use libc::STDOUT_FILENO;
+use load::Begun;
 use load::Loaded;
-use load::load_filing;
+use load::begin_filing;
+use load::load_rest;
 use output::output;
 
+// Most filings are short, and to clear a buffer for the longest takes more instructions than to settle them.
 fn main() {
+    let mut front = [0u8; 2048];
+    match begin_filing(&mut front) {
+        Begun::Whole(length) => print_output(&front[..length]),
+        Begun::Full(fd) => print_long(fd, &front),
+        Begun::Failed => {}
+    }
+}
+
+fn print_long(fd: i32, front: &[u8; 2048]) {
     // One byte more than a filing may have, so that a longer one shows.
     let mut filing = [0u8; 65537];
-    match load_filing(&mut filing) {
+    match load_rest(fd, front, &mut filing) {
         Loaded::Bytes(length) => print_output(&filing[..length]),
         Loaded::Failed => {}
     }

@@ -42,6 +42,13 @@ decimal-length (suc most) n lt = go (ltb n 10) refl (decimal-length most (n / 10
     go true small before = rw (decimal-small n (ltb-true n 10 small)) (omega arith)
     go false large before = rw (decimal-large n (ltb-false n 10 large), length-append) (omega arith)
 
+pub some-digit : (n : ℕ) → 1 ≤ length (decimal n)
+some-digit n = go (ltb n 10) refl
+  where
+    go : (t : Bool) → ltb n 10 ≡ t → 1 ≤ length (decimal n)
+    go true small = rw (decimal-small n (ltb-true n 10 small)) (omega arith)
+    go false large = rw (decimal-large n (ltb-false n 10 large), length-append) (omega arith)
+
 pub signed-length : (x : ℤ) → natAbs x < 10 ^ 20 → length (signedDecimal x) ≤ 21
 unfolding signedDecimal bytesOf
 signed-length (pos n) lt = omega (arith, decimal-length 19 n lt)

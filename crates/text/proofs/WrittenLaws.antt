@@ -1,12 +1,12 @@
 -- A text put into a list at a place: the length stays, and one text after another is both at once.
 -- Assumes nothing.
-use Prim.Native.Nat.{ℕ, _+_, _≤_}
+use Prim.Native.Nat.{ℕ, suc, _+_, _≤_}
 use mathlib.Core.Path.{_≡_, refl, sym, ap, _∙_}
 use mathlib.Core.List.{List, [], _∷_, _++_, append-assoc}
 use native.Mathlib.Numerals.{add-one}
 use native.Mathlib.Omega.{arith}
 use lib.ListN.{length, take, drop, set, length-append, length-take, length-drop}
-use lib.Seq.{set-split, append-snoc, take-at, drop-drop, drop-append-add, length-take-le, paste, paste-zero, take-length}
+use lib.Seq.{set-split, set-append-left, take-set-lt, take-suc-set, append-snoc, take-at, drop-drop, drop-append-add, length-take-le, paste, paste-zero, take-length}
 use Rattle.text.specs.Steps.{withTextAt}
 
 pub length-written : (old : List ℕ) (at : ℕ) (text : List ℕ) → at + length text ≤ length old → length (withTextAt old at text) ≡ length old
@@ -22,6 +22,20 @@ written-byte old at byte room = set-split old at byte (omega arith) ∙ (rw (add
 pub written-paste : (old : List ℕ) (at : ℕ) (text : List ℕ) → paste old at text (length text) ≡ withTextAt old at text
 unfolding withTextAt
 written-paste old at text = rw (take-length text) refl
+
+-- a byte stored just before a text that was put
+pub byte-before : (old : List ℕ) (at byte : ℕ) (text : List ℕ) → at + 1 ≤ length old → set (withTextAt old (at + 1) text) at byte ≡ withTextAt old at (byte ∷ text)
+unfolding withTextAt
+byte-before old at byte text room =
+    let head : List ℕ = take (at + 1) old in
+    let rest : List ℕ = drop (at + 1 + length text) old in
+    let long : length head ≡ at + 1 = length-take-le (at + 1) old room in
+    let front : set head at byte ≡ take at old ++ (byte ∷ []) =
+    rw (add-one at) (sym (take-set-lt (suc at) old at byte (omega arith)) ∙ take-suc-set old at byte (omega arith)) in
+    let after : at + 1 + length text ≡ at + suc (length text) = omega arith in
+    set-append-left (head ++ text) rest at byte (rw length-append (omega (arith, long)))
+    ∙ ap (λ (l : List ℕ). l ++ rest) (set-append-left head text at byte (omega (arith, long)))
+    ∙ rw (front, append-snoc (take at old) byte text, after) refl
 
 -- what comes before a place, with a text there
 front : (old : List ℕ) (at : ℕ) (text : List ℕ) → at + length text ≤ length old → length (take at old ++ text) ≡ at + length text

@@ -34,16 +34,33 @@ pub fn put_word(out: &mut [u8], at: usize, word: &[u8]) -> usize
     at + word.len()
 }
 
-// The digits before the last first.
+// From the last digit to the first.
 pub fn put_decimal(out: &mut [u8], at: usize, n: u64) -> usize
     requires { ⌜ at + length (decimal n) ≤ length (now out) ⌝ }
     ensures { λ r. ⌜ (now (out .exit) ≡ withTextAt (now (out .entry)) at (decimal n)) × (r ≡ at + length (decimal n)) ⌝ }
 {
-    if n < 10 {
-        return put_byte(out, at, 48 + n as u8);
+    let count = digit_count(n);
+    let mut rest = n;
+    let mut left = count;
+    while 10 <= rest {
+        left -= 1;
+        out[at + left] = 48 + (rest % 10) as u8;
+        rest = rest / 10;
     }
-    let last = put_decimal(out, at, n / 10);
-    put_byte(out, last, 48 + (n % 10) as u8)
+    out[at] = 48 + rest as u8;
+    at + count
+}
+
+fn digit_count(n: u64) -> usize
+    ensures { λ r. ⌜ r ≡ length (decimal n) ⌝ }
+{
+    let mut rest = n;
+    let mut count = 1;
+    while 10 <= rest {
+        rest = rest / 10;
+        count += 1;
+    }
+    count
 }
 
 pub fn put_signed(out: &mut [u8], at: usize, n: i64) -> usize

@@ -30,7 +30,7 @@ array-read-shares : tie.Need-array-read-shares Inv-loop μ-loop
 array-read-shares c = omega arith
 
 add-shares : tie.Need-add-shares Inv-loop μ-loop
-add-shares c = omega (arith, element-le (c .before .before .loop .shares) (c .foremost-place .result))
+add-shares c = omega (arith, element-le (c .before .before .before .loop .shares) (c .foremost-place .result))
 
 array-write-shares : tie.Need-array-write-shares Inv-loop μ-loop
 array-write-shares c = omega arith
@@ -49,7 +49,7 @@ loop-less c = omega arith
 
 loop-again : tie.Need-loop-again Inv-loop μ-loop
 loop-again c =
-    let here = c .before .before .loop in
+    let here = c .before .before .before .loop in
     let place = c .foremost-place .result in
     record {
       shares-long = length-set (here .shares) place _ ∙ here .inv .shares-long;

@@ -1,34 +1,32 @@
--- `apportion::foremost_place` meets its contract. The loop's invariant: best is the foremost of the places passed.
+-- `apportion::foremost_place` meets its contract. The loop's invariant: best is the foremost of the places passed, and top is its remainder.
 -- Assumes nothing.
-use mathlib.Core.Path.{_≡_, sym, _∙_}
+use mathlib.Core.Path.{_≡_, refl, sym, ap, _∙_}
 use mathlib.Core.Logic.{⊎-elim}
 use mathlib.Core.Bool.{true, false}
-use Prim.Native.Nat.{_-_}
+use Prim.Native.Nat.{ℕ, _-_}
 use native.Mathlib.Omega.{arith}
+use lib.ListN.{getD}
 use Rattle.apportion.proofs.Order.{ForemostOf, foremost-one, foremost-more}
 use Rattle.apportion.proofs.foremost_place.Statement.{statement}
 use Rattle.apportion.proofs.foremost_place.Tie as tie
 
 abbrev Inv-loop : tie.InvT-loop
-Inv-loop remaining best₀ i₀ best i = ForemostOf 16 remaining i best
+Inv-loop remaining best₀ top₀ i₀ best top i = ForemostOf 16 remaining i best × (top ≡ getD remaining best 0)
 
 abbrev μ-loop : tie.MeasureT-loop
-μ-loop remaining best₀ i₀ best i = 16 - i
+μ-loop remaining best₀ top₀ i₀ best top i = 16 - i
+
+element-copy-out-top : tie.Need-element-copy-out-top Inv-loop μ-loop
+element-copy-out-top c = omega arith
 
 loop-holds : tie.Need-loop-holds Inv-loop μ-loop
-loop-holds c = record { within = omega arith; passed = omega arith; foremost-is = sym (foremost-one (c .args .t1)) }
+loop-holds c = (record { within = omega arith; passed = omega arith; foremost-is = sym (foremost-one (c .before .args .remaining .now)) }, refl)
 
-mul-precedes : tie.Need-mul-precedes Inv-loop μ-loop
-mul-precedes c = omega arith
+mul-next : tie.Need-mul-next Inv-loop μ-loop
+mul-next c = omega arith
 
-array-read-precedes : tie.Need-array-read-precedes Inv-loop μ-loop
-array-read-precedes c = omega arith
-
-mul-precedes-2 : tie.Need-mul-precedes-2 Inv-loop μ-loop
-mul-precedes-2 c = omega arith
-
-array-read-precedes-2 : tie.Need-array-read-precedes-2 Inv-loop μ-loop
-array-read-precedes-2 c = omega arith
+element-copy-out-next : tie.Need-element-copy-out-next Inv-loop μ-loop
+element-copy-out-next c = omega arith
 
 precedes-requires : tie.Need-precedes-requires Inv-loop μ-loop
 precedes-requires c κs = tt
@@ -41,19 +39,25 @@ loop-less c = omega arith
 
 loop-again : tie.Need-loop-again Inv-loop μ-loop
 loop-again c =
-    let here = c .before .before .before .loop in
-    let tested = c .before .precedes .ensures in
-    let remaining = c .before .before .before .before .args .t1 in
+    let here = c .before .before .before .before .loop in
+    let remaining = c .before .before .before .before .before .before .args .remaining .now in
+    let tested = rw (here .inv .1) at (c .before .precedes .ensures) in
     let next = foremost-more remaining (here .best) (here .i) in
     ⊎-elim
-    (λ w. record { within = omega arith; passed = omega (arith, w .1); foremost-is = w .1 ∙ sym (next true (here .inv .foremost-is) (sym tested ∙ w .0 .taken)) })
-    (λ w. record { within = omega arith; passed = omega (arith, w .1); foremost-is = w .1 ∙ sym (next false (here .inv .foremost-is) (sym tested ∙ w .0 .left)) })
+    (λ w. (
+      record { within = omega arith; passed = omega (arith, w .1); foremost-is = w .1 ∙ sym (next true (here .inv .0 .foremost-is) (sym tested ∙ w .0 .taken)) },
+      w .2 ∙ ap (λ (place : ℕ). getD remaining place 0) (sym (w .1)),
+    ))
+    (λ w. (
+      record { within = omega arith; passed = omega (arith, w .1); foremost-is = w .1 ∙ sym (next false (here .inv .0 .foremost-is) (sym tested ∙ w .0 .left)) },
+      w .2 ∙ here .inv .1 ∙ ap (λ (place : ℕ). getD remaining place 0) (sym (w .1)),
+    ))
     (c .if1 .came)
 
 returns : tie.Need-returns Inv-loop μ-loop
 returns c =
     let last : c .before .loop .i ≡ 16 = omega arith in
-    (rw last at (c .before .loop .inv .foremost-is), omega arith)
+    (rw last at (c .before .loop .inv .0 .foremost-is), omega arith)
 
 pub foremost-place-spec : {M : Type 1} → statement M
 foremost-place-spec =
@@ -61,11 +65,10 @@ foremost-place-spec =
     (tie.spec
     Inv-loop
     μ-loop
+    element-copy-out-top
     loop-holds
-    mul-precedes
-    array-read-precedes
-    mul-precedes-2
-    array-read-precedes-2
+    mul-next
+    element-copy-out-next
     precedes-requires
     add-i
     loop-less

@@ -23,14 +23,14 @@ rem-t7 c = search needs
 returns : tie.Need-returns
 returns c = (refl, refl)
 
-divide-by-bits-requires : tie.Need-divide-by-bits-requires
-divide-by-bits-requires c κs = search needs
+divide-by-digits-requires : tie.Need-divide-by-digits-requires
+divide-by-digits-requires c κs = search needs
 
 -- it does not
 returns-2 : tie.Need-returns-2
-returns-2 c = c .divide-by-bits .ensures
+returns-2 c = c .divide-by-digits .ensures
 
 pub divide-product-spec : {M : Type 1} → statement M
 divide-product-spec =
     tie.close
-    (tie.spec product-fits-requires mul-product div-t6 rem-t7 returns divide-by-bits-requires returns-2)
+    (tie.spec product-fits-requires mul-product div-t6 rem-t7 returns divide-by-digits-requires returns-2)

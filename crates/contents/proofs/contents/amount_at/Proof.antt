@@ -30,11 +30,11 @@ add-t11 c = search needs
 shared-slice-read-t13 : tie.Need-shared-slice-read-t13
 shared-slice-read-t13 c = search needs
 
-add-unsigned-at : tie.Need-add-unsigned-at
-add-unsigned-at c = search needs
+add-eight-at : tie.Need-add-eight-at
+add-eight-at c = search needs
 
-unsigned-at-requires : tie.Need-unsigned-at-requires
-unsigned-at-requires c κs = search needs
+eight-at-requires : tie.Need-eight-at-requires
+eight-at-requires c κs = search needs
 
 returns : tie.Need-returns
 unfolding tagged tags
@@ -44,7 +44,7 @@ returns c =
     let at = start .args .at in
     let byte = byte-in bytes at 12 in
     let unsigned = unsigned-in bytes at 12 in
-    rw (byte 0 (omega arith), add-zero, byte 1 (omega arith), byte 2 (omega arith), byte 3 (omega arith), unsigned 4 8 (omega arith), ← c .unsigned-at .ensures .0) refl
+    rw (byte 0 (omega arith), add-zero, byte 1 (omega arith), byte 2 (omega arith), byte 3 (omega arith), unsigned 4 8 (omega arith), ← c .eight-at .ensures) refl
 
 pub amount-at-spec : {M : Type 1} → statement M
 amount-at-spec =
@@ -57,6 +57,6 @@ amount-at-spec =
     shared-slice-read-t10
     add-t11
     shared-slice-read-t13
-    add-unsigned-at
-    unsigned-at-requires
+    add-eight-at
+    eight-at-requires
     returns)

@@ -18,11 +18,11 @@ add-t5 c = search needs
 shared-slice-read-t7 : tie.Need-shared-slice-read-t7
 shared-slice-read-t7 c = search needs
 
-add-unsigned-at : tie.Need-add-unsigned-at
-add-unsigned-at c = search needs
+add-eight-at : tie.Need-add-eight-at
+add-eight-at c = search needs
 
-unsigned-at-requires : tie.Need-unsigned-at-requires
-unsigned-at-requires c κs = search needs
+eight-at-requires : tie.Need-eight-at-requires
+eight-at-requires c κs = search needs
 
 returns : tie.Need-returns
 unfolding tagged tags
@@ -32,7 +32,7 @@ returns c =
     let at = start .args .at in
     let byte = byte-in bytes at 10 in
     let unsigned = unsigned-in bytes at 10 in
-    rw (byte 0 (omega arith), add-zero, byte 1 (omega arith), unsigned 2 8 (omega arith), ← c .unsigned-at .ensures .0) refl
+    rw (byte 0 (omega arith), add-zero, byte 1 (omega arith), unsigned 2 8 (omega arith), ← c .eight-at .ensures) refl
 
 pub setting-at-spec : {M : Type 1} → statement M
 setting-at-spec =
@@ -41,6 +41,6 @@ setting-at-spec =
     shared-slice-read-t4
     add-t5
     shared-slice-read-t7
-    add-unsigned-at
-    unsigned-at-requires
+    add-eight-at
+    eight-at-requires
     returns)
