@@ -1,6 +1,6 @@
 #!/usr/bin/env bash
-# Counts the instructions of the program and of the model on the same filings of 65,536 bytes, and prints both and their ratio; then the
-# instructions of one field of each kind.
+# Counts the instructions of the program and of the model on the same filings of 65,536 bytes, and prints both and their ratio; then those of
+# the program without a filing, and of one field of each kind.
 # It needs valgrind. Nothing here is held to a limit.
 set -euo pipefail
 . "$(dirname "$0")/common.sh"
@@ -66,6 +66,9 @@ for kind in amounts interruptions mixed; do
     awk -v kind="$kind" -v ours="$ours" -v theirs="$theirs" \
         'BEGIN { printf "%-14s %14d %14d %7.2f\n", kind, ours, theirs, ours / theirs }'
 done
+
+mkdir "$work/none"
+printf '%-14s %14d\n' none "$(cd "$work/none" && instructions "$program")"
 
 printf '\n%-24s %6s\n' "one field" program
 field amount "amount 3 1 4 0 1000"

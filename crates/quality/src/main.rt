@@ -7,9 +7,11 @@ use load::begin_filing;
 use load::load_rest;
 use output::output;
 
-// Most filings are short, and to clear a buffer for the longest takes more instructions than to settle them.
+// Most filings are shorter, and to clear a buffer for the longest takes more instructions than to settle them.
+const FRONT: usize = 2048;
+
 fn main() {
-    let mut front = [0u8; 2048];
+    let mut front = [0u8; FRONT];
     match begin_filing(&mut front) {
         Begun::Whole(length) => print_output(&front[..length]),
         Begun::Full(fd) => print_long(fd, &front),
@@ -17,7 +19,8 @@ fn main() {
     }
 }
 
-fn print_long(fd: i32, front: &[u8; 2048]) {
+// A filing that goes on after its first bytes.
+fn print_long(fd: i32, front: &[u8; FRONT]) {
     // One byte more than a filing may have, so that a longer one shows.
     let mut filing = [0u8; 65537];
     match load_rest(fd, front, &mut filing) {
