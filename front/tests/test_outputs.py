@@ -147,6 +147,11 @@ class Kept(InFolder):
 
 
 class Interrupted(InFolder):
+    def setUp(self):
+        super().setUp()
+        # Where the tests run in the background interrupts are ignored, and a command would inherit that.
+        self.addCleanup(signal.signal, signal.SIGINT, signal.signal(signal.SIGINT, signal.default_int_handler))
+
     def test_an_interrupt_is_silent(self):
         end, other = os.pipe()
         os.write(other, b"join 0\n")
