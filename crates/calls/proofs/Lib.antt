@@ -5,6 +5,5 @@ pub mod SaidLaws
 pub mod Bit
 pub mod MaskLaws
 pub mod Times
-pub mod JudgedLaws
 pub mod RangeLaws
 pub mod Opened

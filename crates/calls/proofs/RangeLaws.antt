@@ -1,17 +1,38 @@
 -- The values of a call in range, as facts about numbers.
 -- Assumes nothing.
-use Prim.Native.Nat.{_≤_, _<_}
+use Prim.Native.Nat.{ℕ, _≤_, _<_}
 use mathlib.Core.Path.{_≡_}
-use mathlib.Core.Bool.{true, _&&_}
-use lib.Dec.{ltb, leb}
-use borrow.Author.Tests.{ltb-true, leb-true}
+use mathlib.Core.Bool.{Bool, true, false, cond, _&&_}
+use native.Mathlib.Omega.{arith}
+use lib.Dec.{ltb, leb, eqb}
+use borrow.Author.Tests.{eqb-true, ltb-true, leb-true}
 use Rattle.calls.specs.declared.Call.{Call}
 use Rattle.calls.specs.declared.Call.the-variants.{Join, Setting, Interruption, Amount, Mark, Rates, Index}
-use Rattle.calls.specs.Limits.{years, figureCount, settingCount, indicatorCount, indexCount, settingLimit, rateLimit, indexLeast, indexMost}
-use Rattle.calls.specs.Call.{detailsInRange, yearOf, factsOf}
+use Rattle.calls.specs.Limits.{weightLimit, years, figureCount, settingCount, indicatorCount, indexCount, settingLimit, rateLimit, indexLeast, indexMost}
+use Rattle.calls.specs.Call.{weightInRange, detailsInRange, yearOf, factsOf}
 use Rattle.calls.proofs.Times.{timed, year-lt}
-use Rattle.calls.proofs.JudgedLaws.{details}
-use Rattle.calls.proofs.Flags.{and-left, and-right}
+use Rattle.calls.proofs.Flags.{both, and-left, and-right}
+
+-- what the range of the details says in numbers
+pub record Details (sign level cause weight : ℕ) : Type 0 where
+  pub sign-most : sign ≤ 1
+  pub level-most : level ≤ 1
+  pub weight-most : weight ≤ weightLimit
+
+pub details : (sign level cause weight : ℕ) → detailsInRange sign level cause weight ≡ true → Details sign level cause weight
+unfolding detailsInRange weightInRange
+details sign level cause weight e =
+    let weighted = both (leb sign 1 && leb level 1 && leb cause 4) _ e in
+    let levels = both (leb sign 1) (leb level 1) (both (leb sign 1 && leb level 1) (leb cause 4) (weighted .0) .0) in
+    record {
+      sign-most = leb-true sign 1 (levels .0);
+      level-most = leb-true level 1 (levels .1);
+      weight-most = go (eqb level 0) (weighted .1);
+    }
+  where
+    go : (t : Bool) → cond t (leb 1 weight && leb weight weightLimit) (eqb weight 1) ≡ true → weight ≤ weightLimit
+    go true h = leb-true weight weightLimit (both (leb 1 weight) (leb weight weightLimit) h .1)
+    go false h = omega (arith, eqb-true weight 1 h)
 
 abbrev pub Ranges : Call → Type 0
 Ranges (Join operator) = Unit {0}

@@ -2,13 +2,12 @@
 -- Assumes nothing.
 use Prim.Native.Nat.{ℕ, _-_, _<_}
 use mathlib.Core.Logic.{inl, inr}
-use mathlib.Core.Bool.{false, cond}
+use mathlib.Core.Bool.{false}
 use native.Mathlib.Omega.{arith}
 use types.Run.{OneOf}
 use denote.Enum.Declared.{tagOf}
 use Rattle.calls.proofs.Answer.{the-type}
 use mathlib.Core.List.{[], _∷_}
-use lib.Dec.{eqb}
 use lib.ListN.{getD}
 use mathlib.Core.Path.{_≡_, refl, sym, ap, _∙_}
 use Rattle.calls.specs.declared.Refusal.{Refusal}
@@ -17,10 +16,7 @@ use Rattle.calls.specs.declared.Reason.{Reason}
 use Rattle.calls.specs.declared.Reason.the-variants.{Short, Planned, Coupled, Exceptional}
 use Rattle.calls.specs.declared.Answer.{Answer}
 use Rattle.calls.specs.declared.Answer.the-variants.{Yes, Counted, LeftOut, Refused}
-use Rattle.calls.specs.declared.Moved.{Moved}
-use Rattle.calls.specs.declared.Moved.the-variants.{To, Above, Below}
 use Rattle.calls.specs.Answers.{Said, refused-by, accepted, onAnswer, isRefused, Acceptance, yes-said, counted-in, left-out-as-short, left-out-under, numberOf, leftOutAs, said}
-use Rattle.calls.specs.Figures.{movedSaid}
 use Rattle.calls.specs.Laws.{ToldApart}
 
 -- the refusal of a number, the first being 1
@@ -67,19 +63,6 @@ answer-back (Refused refusal) = ap Refused (refusal-back refusal)
 
 pub answers-apart : ToldApart said
 answers-apart answer other same = sym (answer-back answer) ∙ ap answerSaying same ∙ answer-back other
-
--- the move of a figure that says it
-abbrev pub movedSaying : Said ℕ → Moved
-movedSaying (refused-by number) = cond (eqb number 8) Above Below
-movedSaying (accepted new) = To new
-
-pub moved-back : (moved : Moved) → movedSaying (movedSaid moved) ≡ moved
-moved-back (To new) = refl
-moved-back Above = refl
-moved-back Below = refl
-
-pub moves-apart : ToldApart movedSaid
-moves-apart moved other same = sym (moved-back moved) ∙ ap movedSaying same ∙ moved-back other
 
 -- one of the first three kinds, told by its tag, is no refusal
 first-three : (tag : ℕ) → OneOf (0 ∷ 1 ∷ 2 ∷ []) tag → tag < 3

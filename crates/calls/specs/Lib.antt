@@ -4,6 +4,4 @@ pub mod Masks
 pub mod Held
 pub mod Answers
 pub mod Call
-pub mod Figures
-pub mod Steps
 pub mod Laws

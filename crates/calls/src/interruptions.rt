@@ -1,16 +1,10 @@
-// An interruption: the ranges of its values, its year and length, and what is left out and why.
+// The ranges of an interruption's values.
 ghost use mathlib.Core.Path.{_≡_};
-ghost use mathlib.Core.Bool.{true};
-ghost use Rattle.calls.specs.Call.{weightInRange, detailsInRange, timesInRange, factsOf, yearOf, secondsOf};
-ghost use Rattle.calls.specs.Steps.{JudgedAs};
+ghost use Rattle.calls.specs.Call.{weightInRange, detailsInRange, timesInRange, factsOf};
 use crate::Call;
-use crate::Judged;
-use crate::Reason;
 use crate::limits::FIRST_START;
 use crate::limits::LAST_END;
-use crate::limits::SHORT;
 use crate::limits::WEIGHT_LIMIT;
-use crate::limits::YEAR_LENGTH;
 
 pub fn interruption_in_range(
     sign: u8,
@@ -69,40 +63,4 @@ fn times_in_range(start: i64, end: i64) -> bool
         return false;
     }
     start <= end
-}
-
-// The year is that of the end.
-pub fn year_of(start: i64, end: i64) -> u8
-    requires { ⌜ timesInRange start end ≡ true ⌝ }
-    ensures { λ r. ⌜ r ≡ yearOf end ⌝ }
-{
-    let stop = end as u64;
-    (stop / YEAR_LENGTH) as u8
-}
-
-// How long an interruption lasts.
-pub fn seconds_of(start: i64, end: i64) -> u64
-    requires { ⌜ timesInRange start end ≡ true ⌝ }
-    ensures { λ r. ⌜ r ≡ secondsOf start end ⌝ }
-{
-    (end - start) as u64
-}
-
-// Whether an interruption counts: short comes before the cause.
-pub fn judge(cause: u8, seconds: u64) -> Judged
-    ensures { λ r. ⌜ JudgedAs cause seconds r ⌝ }
-{
-    if seconds <= SHORT {
-        return Judged::LeftOut(Reason::Short);
-    }
-    if cause == 1 {
-        return Judged::LeftOut(Reason::Planned);
-    }
-    if cause == 2 {
-        return Judged::LeftOut(Reason::Coupled);
-    }
-    if cause == 3 {
-        return Judged::LeftOut(Reason::Exceptional);
-    }
-    Judged::Counts
 }

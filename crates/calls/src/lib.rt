@@ -1,8 +1,6 @@
-// A filing call and its answers: the ranges of its arguments, what an interruption comes to, how a figure moves,
-// and masks of operators.
+// A filing call and its answers: the ranges of its arguments, and masks of operators.
 mod answers;
 mod arguments;
-mod figures;
 mod interruptions;
 mod limits;
 mod masks;
@@ -14,11 +12,7 @@ pub use arguments::mark_in_range;
 pub use arguments::rates_in_range;
 pub use arguments::setting_in_range;
 pub use arguments::setting_limit;
-pub use figures::move_figure;
 pub use interruptions::interruption_in_range;
-pub use interruptions::judge;
-pub use interruptions::seconds_of;
-pub use interruptions::year_of;
 pub use limits::FIGURE_LIMIT;
 pub use limits::FIGURE_PLACES;
 pub use limits::FIGURES;
@@ -113,17 +107,4 @@ pub enum Answer {
     Counted { year: u8 },
     LeftOut(Reason),
     Refused(Refusal),
-}
-
-// What an interruption comes to that nothing refuses.
-pub enum Judged {
-    Counts,
-    LeftOut(Reason),
-}
-
-// A figure that is filed to or withdrawn from: its new value, or above its limit (8) or below 0 (9).
-pub enum Moved {
-    To(u64),
-    Above,
-    Below,
 }

@@ -55,12 +55,7 @@ pub const FRESH_INDEX: u32 = 10000;
 // Of an interruption: cabins, and seconds.
 pub(crate) const WEIGHT_LIMIT: u32 = 100000;
 
-pub(crate) const YEAR_LENGTH: u64 = 31536000;
-
 pub(crate) const LAST_END: i64 = 94607999;
 
 // The first second of the year before the three: an interruption may have begun then.
 pub(crate) const FIRST_START: i64 = -31536000;
-
-// Up to this many seconds an interruption is short.
-pub(crate) const SHORT: u64 = 180;

@@ -15,6 +15,7 @@ use crate::Progress;
 use crate::Reading;
 use book::Book;
 use book::in_range;
+use bookkeeping::apply_in;
 use calls::Answer;
 use calls::Call;
 use calls::FIGURE_PLACES;
@@ -24,7 +25,6 @@ use calls::Refusal;
 use calls::SETTING_PLACES;
 use fields::Field;
 use fields::field_at;
-use ledger::apply_in;
 
 // A reading under way, but for the book: how far it has come, and whether it goes on with a next field.
 struct Turn {

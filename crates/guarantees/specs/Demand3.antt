@@ -7,7 +7,7 @@
 --   3. crates/history/specs/History.antt: the plain history, `plain`, `notedAnswers`, `notedHistory`; nothing there knows of a book
 --   4. crates/calls/specs/Held.antt: `Same`; crates/book/specs/Book.antt: `freshBook`, `inRange`, and what a book holds, `heldBy`
 --   5. crates/ledger/specs/Calls.antt: `file`, what a call does to a book, and a list of them, `filedBook` and `filedAnswers`
---   6. crates/ledger/specs/Filed.antt: `Files`, which the contract of each of the seven calls says, by value (crates/ledger/src/by_value.rt) and
+--   6. crates/ledger/specs/Filed.antt: `Files`, which the contract of each of the seven calls says, by value (crates/bookkeeping/src/by_value.rt) and
 --      with the book lent (crates/lent/src/lending.rt, held.rt); so a run of calls in turn, `FiledInTurn`, may mix them
 --   7. crates/history/specs/Demand.antt: `bookOf` and `historyOf` of a list
 --   8. crates/writing/specs/Written.antt: `written`; crates/writer/specs/Writer.antt: what `write` answers and puts into a buffer

@@ -10,15 +10,15 @@ use lib.Dec.{ltb, eqb}
 use lib.ListN.{set}
 use borrow.Author.Tests.{eqb-true, eqb-false, eq-eqb, ne-eqb}
 use Rattle.book.specs.declared.Book.{Book}
-use Rattle.calls.specs.declared.Moved.{Moved}
-use Rattle.calls.specs.declared.Moved.the-variants.{To, Above, Below}
+use Rattle.judging.specs.declared.Moved.{Moved}
+use Rattle.judging.specs.declared.Moved.the-variants.{To, Above, Below}
 use Rattle.calls.specs.Limits.{figureLimit}
 use Rattle.calls.specs.Answers.{refused-by, accepted, onAnswer, firstOf, Acceptance}
 use Rattle.book.specs.Book.{withFigures, figureSlot, figureOf}
 use Rattle.calls.specs.Call.{Entry}
-use Rattle.calls.specs.Figures.{movedSaid, movedBy}
+use Rattle.judging.specs.Figures.{movedSaid, movedBy}
 use Rattle.calls.proofs.Flags.{and-left}
-use Rattle.calls.proofs.SaidLaws.{movedSaying, moved-back}
+use Rattle.judging.proofs.MovedLaws.{movedSaying, moved-back}
 use Rattle.ledger.specs.Table.{some, passesLimit, fallsBelow}
 use Rattle.ledger.specs.Calls.{Outcome, entered, enterAll, outcomeOf}
 use Rattle.ledger.specs.Steps.{entering}

@@ -12,8 +12,8 @@ use Rattle.book.proofs.Book as B
 use Rattle.book.proofs.Book.Laws as B′
 use Rattle.calls.proofs.Answer as N
 use Rattle.calls.proofs.Answer.Laws as N′
-use Rattle.ledger.proofs.Answered as F
-use Rattle.ledger.proofs.Answered.Laws as F′
+use Rattle.bookkeeping.proofs.Answered as F
+use Rattle.bookkeeping.proofs.Answered.Laws as F′
 use Rattle.lent.proofs.Plain.{Plain, unsigned, signed, of-struct, of-enum}
 use Rattle.lent.proofs.Passed.{Passed, by-value, Values}
 use Rattle.lent.proofs.Contracts.{Paired, Promise}

@@ -6,9 +6,9 @@ ghost use Rattle.filing.specs.Reader.{told, read as Reader·read};
 use crate::lending;
 use crate::reading;
 use book::Book;
+use bookkeeping::Answered;
 use calls::Call;
 use filing::Reading;
-use ledger::Answered;
 
 pub fn join(mut b: Book, operator: u8) -> Answered
     ensures { λ r. ⌜ Files b (Call.Join operator) (r .answer) (r .book) ⌝ }

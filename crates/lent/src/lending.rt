@@ -9,7 +9,7 @@ use calls::Call;
 pub fn join(b: &mut Book, operator: u8) -> Answer
     ensures { λ r. ⌜ Files (now (b .entry)) (Call.Join operator) r (now (b .exit)) ⌝ }
 {
-    let filed = ledger::join(*b, operator);
+    let filed = bookkeeping::join(*b, operator);
     *b = filed.book;
     filed.answer
 }
@@ -18,7 +18,7 @@ pub fn join(b: &mut Book, operator: u8) -> Answer
 pub fn setting(b: &mut Book, operator: u8, which: u8, value: u64) -> Answer
     ensures { λ r. ⌜ Files (now (b .entry)) (Call.Setting operator which value) r (now (b .exit)) ⌝ }
 {
-    let filed = ledger::setting(*b, operator, which, value);
+    let filed = bookkeeping::setting(*b, operator, which, value);
     *b = filed.book;
     filed.answer
 }
@@ -38,7 +38,7 @@ pub fn interruption(
 ) -> Answer
     ensures { λ r. ⌜ Files (now (b .entry)) (Call.Interruption operator sign level cause start end weight) r (now (b .exit)) ⌝ }
 {
-    let filed = ledger::interruption(*b, operator, sign, level, cause, start, end, weight);
+    let filed = bookkeeping::interruption(*b, operator, sign, level, cause, start, end, weight);
     *b = filed.book;
     filed.answer
 }
@@ -47,7 +47,7 @@ pub fn interruption(
 pub fn amount(b: &mut Book, operator: u8, year: u8, figure: u8, sign: u8, value: u64) -> Answer
     ensures { λ r. ⌜ Files (now (b .entry)) (Call.Amount operator year figure sign value) r (now (b .exit)) ⌝ }
 {
-    let filed = ledger::amount(*b, operator, year, figure, sign, value);
+    let filed = bookkeeping::amount(*b, operator, year, figure, sign, value);
     *b = filed.book;
     filed.answer
 }
@@ -56,7 +56,7 @@ pub fn amount(b: &mut Book, operator: u8, year: u8, figure: u8, sign: u8, value:
 pub fn mark(b: &mut Book, operator: u8, indicator: u8, mark: u8) -> Answer
     ensures { λ r. ⌜ Files (now (b .entry)) (Call.Mark operator indicator mark) r (now (b .exit)) ⌝ }
 {
-    let filed = ledger::mark(*b, operator, indicator, mark);
+    let filed = bookkeeping::mark(*b, operator, indicator, mark);
     *b = filed.book;
     filed.answer
 }
@@ -65,7 +65,7 @@ pub fn mark(b: &mut Book, operator: u8, indicator: u8, mark: u8) -> Answer
 pub fn rates(b: &mut Book, pot: u32, cap: u32) -> Answer
     ensures { λ r. ⌜ Files (now (b .entry)) (Call.Rates pot cap) r (now (b .exit)) ⌝ }
 {
-    let filed = ledger::rates(*b, pot, cap);
+    let filed = bookkeeping::rates(*b, pot, cap);
     *b = filed.book;
     filed.answer
 }
@@ -74,7 +74,7 @@ pub fn rates(b: &mut Book, pot: u32, cap: u32) -> Answer
 pub fn index(b: &mut Book, number: u8, value: u32) -> Answer
     ensures { λ r. ⌜ Files (now (b .entry)) (Call.Index number value) r (now (b .exit)) ⌝ }
 {
-    let filed = ledger::index(*b, number, value);
+    let filed = bookkeeping::index(*b, number, value);
     *b = filed.book;
     filed.answer
 }

@@ -45,7 +45,7 @@ fn step(walk: Walk, filing: &[u8]) -> Walk {
     let mut offset = filing.len();
     match fields::field_at(filing, walk.offset) {
         Field::CallThen { filing_call, next } => {
-            let filed = ledger::file(book, filing_call);
+            let filed = bookkeeping::file(book, filing_call);
             let answer = filed.answer;
             book = filed.book;
             if put_answer(walk.offset, answer) {

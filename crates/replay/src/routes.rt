@@ -2,8 +2,8 @@
 use crate::arguments;
 use crate::print::answered;
 use book::Book;
+use bookkeeping::Answered;
 use calls::Call;
-use ledger::Answered;
 use lent::held;
 
 pub(crate) fn filed(b: Book, lends: bool, filing_call: Call) -> Book {
@@ -23,12 +23,12 @@ fn told(after: Answered) -> Book {
 
 fn by_value(b: Book, filing_call: Call) -> Answered {
     match filing_call {
-        Call::Join { operator } => ledger::join(b, operator),
+        Call::Join { operator } => bookkeeping::join(b, operator),
         Call::Setting {
             operator,
             which,
             value,
-        } => ledger::setting(b, operator, which, value),
+        } => bookkeeping::setting(b, operator, which, value),
         Call::Interruption {
             operator,
             sign,
@@ -37,21 +37,21 @@ fn by_value(b: Book, filing_call: Call) -> Answered {
             start,
             end,
             weight,
-        } => ledger::interruption(b, operator, sign, level, cause, start, end, weight),
+        } => bookkeeping::interruption(b, operator, sign, level, cause, start, end, weight),
         Call::Amount {
             operator,
             year,
             figure,
             sign,
             value,
-        } => ledger::amount(b, operator, year, figure, sign, value),
+        } => bookkeeping::amount(b, operator, year, figure, sign, value),
         Call::Mark {
             operator,
             indicator,
             mark,
-        } => ledger::mark(b, operator, indicator, mark),
-        Call::Rates { pot, cap } => ledger::rates(b, pot, cap),
-        Call::Index { number, value } => ledger::index(b, number, value),
+        } => bookkeeping::mark(b, operator, indicator, mark),
+        Call::Rates { pot, cap } => bookkeeping::rates(b, pot, cap),
+        Call::Index { number, value } => bookkeeping::index(b, number, value),
     }
 }
 

@@ -1,8 +1,8 @@
 -- `lent::amount` is its core, lent.
 -- Assumes nothing.
 use base.Logic.{id⊢}
-use Rattle.ledger.proofs.amount.Symbol as core
-use Rattle.ledger.proofs.amount.Met as core-thm
+use Rattle.bookkeeping.proofs.amount.Symbol as core
+use Rattle.bookkeeping.proofs.amount.Met as core-thm
 use Rattle.lent.proofs.lending.amount as own
 use Rattle.lent.proofs.lending.amount.Key.{name}
 use Rattle.lent.proofs.lending.amount.Statement.{statement}
@@ -13,5 +13,5 @@ use Rattle.lent.proofs.Filings.{filed, amount, FilesBy}
 pub amount-spec : {M : Type 1} → statement M
 unfolding code.routine
 amount-spec 𝓤 H 𝓜 𝓖 𝓡 =
-    lent-call filed (amount .params) (FilesBy amount) 𝓤 H 𝓜 𝓖 𝓡 code.env name core.name core.routine (code.unfolded 𝓤 H 𝓜 𝓡) code.calls-ledger·amount (core-thm.met 𝓤 H 𝓜 𝓖 𝓡)
+    lent-call filed (amount .params) (FilesBy amount) 𝓤 H 𝓜 𝓖 𝓡 code.env name core.name core.routine (code.unfolded 𝓤 H 𝓜 𝓡) code.calls-bookkeeping·amount (core-thm.met 𝓤 H 𝓜 𝓖 𝓡)
     (λ κs a. own.clauses 𝓤 H (𝓖 .A) (𝓜 .mem) (𝓡 .run) κs a .ensures) (λ κs a r ws. id⊢ 𝓤 _)

@@ -1,0 +1,3 @@
+-- The definitions of `judging`.
+pub mod Figures
+pub mod Steps

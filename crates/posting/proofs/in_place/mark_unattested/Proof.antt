@@ -1,0 +1,70 @@
+-- `posting::in_place::mark_unattested` meets its contract. The loop's invariant: the first masks have the operator, the others are as
+-- they were.
+-- Assumes nothing.
+use mathlib.Core.Path.{_≡_, refl, _∙_}
+use Prim.Native.Nat.{_-_}
+use native.Mathlib.Omega.{arith}
+use lib.ListN.{length, length-set}
+use borrow.Author.Needs.{needs}
+use Rattle.ledger.proofs.UnattestedLaws.{MarkedTo, marked-none, marked-more, marked-all}
+use Rattle.posting.proofs.in_place.mark_unattested.Statement.{statement}
+use Rattle.posting.proofs.in_place.mark_unattested.Tie as tie
+
+abbrev Inv-loop : tie.InvT-loop
+Inv-loop marks₀ operator indicator₀ marks indicator = MarkedTo marks₀ operator indicator marks × (length marks ≡ length marks₀)
+
+abbrev μ-loop : tie.MeasureT-loop
+μ-loop marks₀ operator indicator₀ marks indicator = length marks - indicator
+
+loop-holds : tie.Need-loop-holds Inv-loop μ-loop
+loop-holds c = (marked-none, refl)
+
+mul-mask : tie.Need-mul-mask Inv-loop μ-loop
+mul-mask c = search needs
+
+slice-read-mask : tie.Need-slice-read-mask Inv-loop μ-loop
+slice-read-mask c = search needs
+
+include-bit-requires : tie.Need-include-bit-requires Inv-loop μ-loop
+include-bit-requires c κs = search needs
+
+mul-marks : tie.Need-mul-marks Inv-loop μ-loop
+mul-marks c = search needs
+
+slice-write-marks : tie.Need-slice-write-marks Inv-loop μ-loop
+slice-write-marks c = search needs
+
+add-indicator : tie.Need-add-indicator Inv-loop μ-loop
+add-indicator c = search needs
+
+loop-less : tie.Need-loop-less Inv-loop μ-loop
+loop-less c = rw length-set (omega arith)
+
+loop-again : tie.Need-loop-again Inv-loop μ-loop
+loop-again c =
+    let at-loop = c .before .before .before .loop in
+    (marked-more (at-loop .inv .0) (omega (arith, at-loop .inv .1)) (c .include-bit .ensures), length-set (at-loop .marks) _ _ ∙ at-loop .inv .1)
+
+same-length : tie.Need-same-length Inv-loop μ-loop
+same-length c = search needs
+
+returns : tie.Need-returns Inv-loop μ-loop
+returns c = marked-all (c .before .loop .inv .0) (omega (arith, c .before .loop .inv .1))
+
+pub mark-unattested-spec : {M : Type 1} → statement M
+mark-unattested-spec =
+    tie.close
+    (tie.spec
+    Inv-loop
+    μ-loop
+    loop-holds
+    mul-mask
+    slice-read-mask
+    include-bit-requires
+    mul-marks
+    slice-write-marks
+    add-indicator
+    loop-less
+    loop-again
+    same-length
+    returns)

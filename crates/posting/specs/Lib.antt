@@ -1,0 +1,2 @@
+-- The definitions of `posting`.
+pub mod Parts

@@ -1,0 +1,39 @@
+-- A filing call on a book in range, said of the parts of a book that are lent to it, and what the check says that calls share.
+-- Assumes nothing.
+use Prim.Native.Nat.{ℕ}
+use mathlib.Core.Path.{_≡_}
+use mathlib.Core.List.{List}
+use Rattle.calls.specs.declared.Call.{Call}
+use Rattle.calls.specs.declared.Answer.{Answer}
+use Rattle.posting.specs.declared.Admission.{Admission}
+use Rattle.posting.specs.declared.Admission.the-variants.{Admitted, Refused}
+use Rattle.calls.specs.Answers.{Said, refused-by, accepted, numberOf, said}
+use Rattle.book.specs.declared.Book.{Book}
+use Rattle.book.specs.Book.{withJoined, withMarks, withSettings, withFigures, withRates, withIndices}
+use Rattle.ledger.specs.Calls.{apply}
+
+-- a call on a book in range, by value or by its parts lent: the answer, and the book afterwards
+abbrev pub Leaves : Book → Call → Answer → Book → Type 0
+Leaves old call answer new = (said answer ≡ apply old call .said) × (new ≡ apply old call .book)
+
+-- the same of parts that are lent, whatever book they belong to: operators and marks, settings or figures beside the operators, rates,
+-- indices; each as it was, the call, the answer, and as it is left
+abbrev pub OnMarks : ℕ → List ℕ → Call → Answer → ℕ → List ℕ → Type 0
+OnMarks joined marks call answer joined′ marks′ = (b : Book) → Leaves (withMarks (withJoined b joined) marks) call answer (withMarks (withJoined b joined′) marks′)
+
+abbrev pub OnSettings : ℕ → List ℕ → Call → Answer → List ℕ → Type 0
+OnSettings joined old call answer new = (b : Book) → Leaves (withSettings (withJoined b joined) old) call answer (withSettings (withJoined b joined) new)
+
+abbrev pub OnFigures : ℕ → List ℕ → Call → Answer → List ℕ → Type 0
+OnFigures joined old call answer new = (b : Book) → Leaves (withFigures (withJoined b joined) old) call answer (withFigures (withJoined b joined) new)
+
+abbrev pub OnRates : ℕ → ℕ → Call → Answer → ℕ → ℕ → Type 0
+OnRates pot cap call answer pot′ cap′ = (b : Book) → Leaves (withRates b pot cap) call answer (withRates b pot′ cap′)
+
+abbrev pub OnIndices : List ℕ → Call → Answer → List ℕ → Type 0
+OnIndices old call answer new = (b : Book) → Leaves (withIndices b old) call answer (withIndices b new)
+
+-- whether a call passes 4, 5 and 7
+abbrev pub admissionSaid : Admission → Said (Unit {0})
+admissionSaid Admitted = accepted tt
+admissionSaid (Refused refusal) = refused-by (numberOf refusal)

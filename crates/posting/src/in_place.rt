@@ -1,0 +1,186 @@
+// The seven filing calls on the parts of a book that each changes, lent and altered in place; a refused call leaves them. Each refuses in
+// the order of the table: 4, 5, 6 or 7, then 8 and 9.
+ghost use mathlib.Core.Path.{_≡_};
+ghost use Prim.Native.Nat.{_<_};
+ghost use Rattle.calls.specs.Limits.{operators};
+ghost use Rattle.calls.specs.Answers.{firstOf};
+ghost use Rattle.ledger.specs.Calls.{unattested};
+ghost use Rattle.ledger.specs.Steps.{memberLines};
+ghost use Rattle.posting.specs.Parts.{OnMarks, OnSettings, OnFigures, OnRates, OnIndices, admissionSaid};
+use crate::Admission;
+use book::setting_slot;
+use calls::Answer;
+use calls::Call;
+use calls::FIGURE_PLACES;
+use calls::INDICATORS;
+use calls::INDICES;
+use calls::LAST_OPERATOR;
+use calls::Refusal;
+use calls::SETTING_PLACES;
+use calls::amount_in_range;
+use calls::has_bit;
+use calls::include_bit;
+use calls::index_in_range;
+use calls::interruption_in_range;
+use calls::mark_in_range;
+use calls::rates_in_range;
+use calls::remask;
+use calls::setting_in_range;
+use judging::Judged;
+use judging::judge;
+use judging::seconds_of;
+use judging::year_of;
+use ledger::enter_amount;
+use ledger::enter_counted;
+
+pub fn join(joined: &mut u16, marks: &mut [u16; INDICATORS], operator: u8) -> Answer
+    ensures { λ r. ⌜ OnMarks (now (joined .entry)) (now (marks .entry)) (Call.Join operator) r (now (joined .exit)) (now (marks .exit)) ⌝ }
+{
+    if LAST_OPERATOR < operator {
+        return Answer::Refused(Refusal::UnknownOperator);
+    }
+    if has_bit(*joined, operator) {
+        return Answer::Refused(Refusal::AlreadyJoined);
+    }
+    *joined = include_bit(*joined, operator);
+    mark_unattested(marks, operator);
+    Answer::Yes
+}
+
+// No attestation is in when an operator joins: its mark is set at every indicator.
+fn mark_unattested(marks: &mut [u16], operator: u8)
+    requires { ⌜ operator < operators ⌝ }
+    ensures { λ r. ⌜ now (marks .exit) ≡ unattested (now (marks .entry)) operator ⌝ }
+{
+    let mut indicator = 0;
+    while indicator < marks.len() {
+        let mask = marks[indicator];
+        let marked = include_bit(mask, operator);
+        marks[indicator] = marked;
+        indicator += 1;
+    }
+}
+
+// The checks that setting, interruption, amount and mark share: 4, 5 and 7, in the order of the table.
+fn admit(joined: u16, operator: u8, valid: bool) -> Admission
+    ensures { λ r. ⌜ admissionSaid r ≡ firstOf (memberLines joined operator valid) tt ⌝ }
+{
+    if LAST_OPERATOR < operator {
+        return Admission::Refused(Refusal::UnknownOperator);
+    }
+    if !valid {
+        return Admission::Refused(Refusal::OutOfRange);
+    }
+    if !has_bit(joined, operator) {
+        return Admission::Refused(Refusal::NotJoined);
+    }
+    Admission::Admitted
+}
+
+// Which: 0 cabins, 1 active access points, 2 income.
+pub fn setting(
+    joined: u16,
+    settings: &mut [u64; SETTING_PLACES],
+    operator: u8,
+    which: u8,
+    value: u64,
+) -> Answer
+    ensures { λ r. ⌜ OnSettings joined (now (settings .entry)) (Call.Setting operator which value) r (now (settings .exit)) ⌝ }
+{
+    if let Admission::Refused(refusal) = admit(joined, operator, setting_in_range(which, value)) {
+        return Answer::Refused(refusal);
+    }
+    let at = setting_slot(operator, which);
+    settings[at] = value;
+    Answer::Yes
+}
+
+// Level: 0 MV, 1 LV.
+pub fn interruption(
+    joined: u16,
+    figures: &mut [u64; FIGURE_PLACES],
+    operator: u8,
+    sign: u8,
+    level: u8,
+    cause: u8,
+    start: i64,
+    end: i64,
+    weight: u32,
+) -> Answer
+    ensures { λ r. ⌜ OnFigures joined (now (figures .entry)) (Call.Interruption operator sign level cause start end weight) r (now (figures .exit)) ⌝ }
+{
+    let valid = interruption_in_range(sign, level, cause, start, end, weight);
+    if let Admission::Refused(refusal) = admit(joined, operator, valid) {
+        return Answer::Refused(refusal);
+    }
+    let seconds = seconds_of(start, end);
+    match judge(cause, seconds) {
+        Judged::Counts => {
+            let year = year_of(start, end);
+            enter_counted(figures, operator, sign, level, year, weight, seconds)
+        }
+        Judged::LeftOut(reason) => Answer::LeftOut(reason),
+    }
+}
+
+// Sign: 0 file, 1 withdraw.
+pub fn amount(
+    joined: u16,
+    figures: &mut [u64; FIGURE_PLACES],
+    operator: u8,
+    year: u8,
+    figure: u8,
+    sign: u8,
+    value: u64,
+) -> Answer
+    ensures { λ r. ⌜ OnFigures joined (now (figures .entry)) (Call.Amount operator year figure sign value) r (now (figures .exit)) ⌝ }
+{
+    if let Admission::Refused(refusal) = admit(
+        joined,
+        operator,
+        amount_in_range(year, figure, sign),
+    ) {
+        return Answer::Refused(refusal);
+    }
+    enter_amount(figures, operator, year, figure, sign, value)
+}
+
+// Mark: 1 unreliable, 0 not.
+pub fn mark_indicator(
+    joined: u16,
+    marks: &mut [u16; INDICATORS],
+    operator: u8,
+    indicator: u8,
+    mark: u8,
+) -> Answer
+    ensures { λ r. ⌜ OnMarks joined (now (marks .entry)) (Call.Mark operator indicator mark) r joined (now (marks .exit)) ⌝ }
+{
+    if let Admission::Refused(refusal) = admit(joined, operator, mark_in_range(indicator, mark)) {
+        return Answer::Refused(refusal);
+    }
+    let at = indicator as usize;
+    marks[at] = remask(marks[at], operator, mark);
+    Answer::Yes
+}
+
+pub fn rates(pot_rate: &mut u32, cap_rate: &mut u32, pot: u32, cap: u32) -> Answer
+    ensures { λ r. ⌜ OnRates (now («pot_rate» .entry)) (now («cap_rate» .entry)) (Call.Rates pot cap) r (now («pot_rate» .exit)) (now («cap_rate» .exit)) ⌝ }
+{
+    if !rates_in_range(pot, cap) {
+        return Answer::Refused(Refusal::OutOfRange);
+    }
+    *pot_rate = pot;
+    *cap_rate = cap;
+    Answer::Yes
+}
+
+// Number: 0 to 2 the June before each year, 3 June 2013.
+pub fn index(indices: &mut [u32; INDICES], number: u8, value: u32) -> Answer
+    ensures { λ r. ⌜ OnIndices (now (indices .entry)) (Call.Index number value) r (now (indices .exit)) ⌝ }
+{
+    if !index_in_range(number, value) {
+        return Answer::Refused(Refusal::OutOfRange);
+    }
+    indices[number as usize] = value;
+    Answer::Yes
+}

@@ -1,0 +1,17 @@
+// The seven filing calls on the parts of a book that each changes, lent and altered in place.
+mod in_place;
+
+use calls::Refusal;
+pub use in_place::amount;
+pub use in_place::index;
+pub use in_place::interruption;
+pub use in_place::join;
+pub use in_place::mark_indicator;
+pub use in_place::rates;
+pub use in_place::setting;
+
+// Whether a call passes the checks that it shares with others.
+pub(crate) enum Admission {
+    Admitted,
+    Refused(Refusal),
+}
