@@ -13,7 +13,7 @@ use Rattle.values.specs.Indicator.{Indicator, electricity, pool}
 use Rattle.indicators.specs.Points.{points}
 use Rattle.indicators.specs.Laws.{PointsMadeUp}
 use Rattle.settlement.specs.declared.Settlement.{Settlement}
-use Rattle.settlement.specs.Money.{pot, contributions, returns, limits, adjustments}
+use Rattle.money.specs.Money.{pot, contributions, returns, limits, adjustments}
 use Rattle.settlement.specs.Settlement.{pointsOfAll, settledBy, settled}
 use Rattle.settlement.specs.Laws.{Settles, pointsAt}
 use Rattle.filing.specs.Reader.{reading, read}

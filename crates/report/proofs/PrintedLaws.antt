@@ -23,7 +23,7 @@ use Rattle.settlement.specs.Settlement.{pointsOfAll, settlementBy, settled}
 use Rattle.settlement.specs.Laws.{Settles, Balanced}
 use Rattle.calls.specs.Limits.{operators, indicatorCount}
 use Rattle.values.specs.Bounds.{poolMost}
-use Rattle.settlement.proofs.Amounts.{pot-most, limit-most}
+use Rattle.money.proofs.Amounts.{pot-most, limit-most}
 use Rattle.settlement.proofs.Gathering.{share-le, pool-le}
 use Rattle.settlement.proofs.SettledLaws.{worth-electricity, settles-exactly, settles-ranged, settled-so, balanced-if-settles}
 use Rattle.text.specs.Text.{bytesOf, decimal}

@@ -28,11 +28,11 @@ use Rattle.values.proofs.Tables.{each-le-sum, some-place}
 use Rattle.indicators.specs.Points.{points, allPoints}
 use Rattle.indicators.proofs.OnesLaws.{some-one}
 use Rattle.indicators.proofs.PointLaws.{points-made-up, points-length, points-reliable, reliable-joined, reliable-small, pool-above}
-use Rattle.settlement.specs.Money.{pot, contributions, returns}
+use Rattle.money.specs.Money.{pot, contributions, returns}
 use Rattle.settlement.specs.Settlement.{networkMissing, allMarked, pointsOfAll, settlementBy, settlingLines, settledBy}
 use Rattle.settlement.specs.Laws.{Worth, Settles, pointsAt, Balanced, Settling}
 use Rattle.settlement.proofs.MarkLaws.{marked-none, marked-more}
-use Rattle.settlement.proofs.AdjustmentLaws.{adjustments-cancel, within-limits}
+use Rattle.money.proofs.AdjustmentLaws.{adjustments-cancel, within-limits}
 use Rattle.settlement.proofs.UnjoinedLaws.{points-unjoined, contribution-none, return-none, limit-none, adjustment-none}
 
 pub worth-electricity : Worth electricity

@@ -14,7 +14,7 @@ use Rattle.book.specs.Book.{isJoined, isMarked, settingOf, inRange, every}
 use Rattle.values.specs.Operators.{any}
 use Rattle.values.specs.Indicator.{Indicator, electricity, pool}
 use Rattle.indicators.specs.Points.{points}
-use Rattle.settlement.specs.Money.{pot, contributions, returns, limits, adjustments}
+use Rattle.money.specs.Money.{pot, contributions, returns, limits, adjustments}
 
 -- 11: "a joined operator has 0 cabins or access points"
 unfoldable pub networkMissing : Book → Bool

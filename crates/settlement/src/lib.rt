@@ -1,6 +1,5 @@
 // Settling a book: points of each indicator, the pot, contributions, returns and each operator's adjustment.
 mod gather;
-mod money;
 mod settling;
 
 use calls::Answer;

@@ -1,14 +1,14 @@
--- `settlement::money::capped_side` meets its contract. The loop's invariant: the places passed hold their cut amount.
+-- `money::capped_side` meets its contract. The loop's invariant: the places passed hold their cut amount.
 -- Assumes nothing.
 use borrow.Author.Needs.{needs}
 use mathlib.Core.Path.{refl}
 use Prim.Native.Nat.{ℕ, _-_, min}
 use native.Mathlib.Omega.{arith}
 use lib.ListN.{getD}
-use Rattle.settlement.specs.Money.{capped}
+use Rattle.money.specs.Money.{capped}
 use Rattle.values.proofs.Tables.{Filling, filling-none, filling-more, filling-each}
-use Rattle.settlement.proofs.money.capped_side.Statement.{statement}
-use Rattle.settlement.proofs.money.capped_side.Tie as tie
+use Rattle.money.proofs.capped_side.Statement.{statement}
+use Rattle.money.proofs.capped_side.Tie as tie
 
 abbrev Inv-loop : tie.InvT-loop
 Inv-loop more less limit out₀ operator₀ out operator = Filling (λ (k : ℕ). min (getD more k 0 - getD less k 0) (getD limit k 0)) operator out

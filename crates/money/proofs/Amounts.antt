@@ -13,13 +13,13 @@ use Rattle.apportion.proofs.Sums.{sum-bound}
 use Rattle.values.specs.Operators.{each, settingsOf}
 use Rattle.values.specs.Indicator.{Indicator}
 use Rattle.indicators.specs.Points.{allPoints}
-use Rattle.settlement.specs.Money.{pot, limits, capped, balanced}
+use Rattle.money.specs.Money.{pot, limits, capped, balanced}
 use Rattle.values.proofs.Tables.{length-each, each-at, each-same}
-use Rattle.settlement.proofs.InRange.{access-at, income-at, incomes-most, pot-le, limit-le}
+use Rattle.money.proofs.InRange.{access-at, income-at, incomes-most, pot-le, limit-le}
 use Rattle.values.proofs.InRange.{pot-rate-le, cap-rate-le}
 use Rattle.calls.specs.Limits.{operators}
 use Rattle.values.specs.Bounds.{accessLimit, totalMost, potMost, limitMost}
-use Rattle.settlement.proofs.BalanceLaws.{capped-length, capped-most, balanced-within}
+use Rattle.money.proofs.BalanceLaws.{capped-length, capped-most, balanced-within}
 
 -- sixteen numbers, each with a bound
 pub sixteen-le : (list : List ℕ) (bound : ℕ) → length list ≡ 16 → ((k : ℕ) → k < 16 → getD list k 0 ≤ bound) → sum list ≤ 16 * bound

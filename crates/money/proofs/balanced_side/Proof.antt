@@ -1,14 +1,14 @@
--- `settlement::money::balanced_side` meets its contract.
+-- `money::balanced_side` meets its contract.
 -- Assumes nothing.
 use mathlib.Core.Path.{_≡_, refl, _∙_}
 use Prim.Native.Nat.{_<_, _≤_}
 use native.Mathlib.Omega.{arith}
 use borrow.Author.Tests.{lt-ltb, le-ltb}
 use Rattle.apportion.specs.Sum.{sum}
-use Rattle.settlement.specs.Money.{balanced}
+use Rattle.money.specs.Money.{balanced}
 use borrow.Author.Needs.{needs}
-use Rattle.settlement.proofs.money.balanced_side.Statement.{statement}
-use Rattle.settlement.proofs.money.balanced_side.Tie as tie
+use Rattle.money.proofs.balanced_side.Statement.{statement}
+use Rattle.money.proofs.balanced_side.Tie as tie
 
 sum-of-requires : tie.Need-sum-of-requires
 sum-of-requires c κs = search needs

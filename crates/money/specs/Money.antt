@@ -2,9 +2,9 @@
 -- Assumes nothing.
 use Prim.Native.Nat.{ℕ, _*_, _-_, _/_, min}
 use mathlib.Core.Bool.{cond}
-use mathlib.Core.List.{List}
+use mathlib.Core.List.{List, [], _∷_}
 use lib.Dec.{ltb}
-use lib.IntN.{ℤ, subℕ}
+use lib.IntN.{ℤ, pos, subℕ, _+ℤ_}
 use lib.ListN.{getD}
 use Rattle.calls.specs.Limits.{operators}
 use Rattle.book.specs.declared.Book.{Book}
@@ -47,3 +47,8 @@ adjustedBy received paid limit =
 
 unfoldable pub adjustments : Book → List Indicator → List ℤ
 adjustments b indicators = adjustedBy (returns b indicators) (contributions b) (limits b)
+
+-- their sum, with its sign
+unfoldable pub sumℤ : List ℤ → ℤ
+sumℤ [] = pos 0
+sumℤ (x ∷ xs) = x +ℤ sumℤ xs

@@ -1,10 +1,10 @@
--- `settlement::money::difference` meets its contract.
+-- `money::difference` meets its contract.
 -- Assumes nothing.
 use native.Mathlib.Omega.{arith}
-use Rattle.settlement.proofs.Signs.{gained, lost-fits, lost-is}
+use Rattle.money.proofs.Signs.{gained, lost-fits, lost-is}
 use borrow.Author.Needs.{needs}
-use Rattle.settlement.proofs.money.difference.Statement.{statement}
-use Rattle.settlement.proofs.money.difference.Tie as tie
+use Rattle.money.proofs.difference.Statement.{statement}
+use Rattle.money.proofs.difference.Tie as tie
 
 cast-result : tie.Need-cast-result
 cast-result c = search needs

@@ -12,7 +12,7 @@ use borrow.Author.Tests.{lt-ltb, le-ltb}
 use Rattle.apportion.specs.Sum.{sum}
 use Rattle.values.specs.Operators.{table}
 use Rattle.values.proofs.Tables.{length-table, table-at, table-sum}
-use Rattle.settlement.specs.Laws.{sumℤ}
+use Rattle.money.specs.Money.{sumℤ}
 
 -- a difference by its sign
 below : (a b : ℕ) → a < b → subℕ a b ≡ negsuc (b - suc a)

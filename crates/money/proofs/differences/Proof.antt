@@ -1,4 +1,4 @@
--- `settlement::money::differences` meets its contract. The loop's invariant: the places passed hold their difference.
+-- `money::differences` meets its contract. The loop's invariant: the places passed hold their difference.
 -- Assumes nothing.
 use borrow.Author.Needs.{needs}
 use mathlib.Core.Path.{refl}
@@ -6,10 +6,10 @@ use Prim.Native.Nat.{ℕ, _-_}
 use native.Mathlib.Omega.{arith}
 use lib.IntN.{subℕ}
 use lib.ListN.{getD}
-use Rattle.settlement.proofs.Signs.{stored}
+use Rattle.money.proofs.Signs.{stored}
 use Rattle.values.proofs.Tables.{Filling, filling-none, filling-more, filling-all}
-use Rattle.settlement.proofs.money.differences.Statement.{statement}
-use Rattle.settlement.proofs.money.differences.Tie as tie
+use Rattle.money.proofs.differences.Statement.{statement}
+use Rattle.money.proofs.differences.Tie as tie
 
 abbrev Inv-loop : tie.InvT-loop
 Inv-loop gains losses out₀ operator₀ out operator = Filling (λ (k : ℕ). subℕ (getD gains k 0) (getD losses k 0)) operator out

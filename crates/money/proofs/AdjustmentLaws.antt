@@ -10,10 +10,9 @@ use Rattle.apportion.specs.Sum.{sum}
 use Rattle.book.specs.declared.Book.{Book}
 use Rattle.values.specs.Indicator.{Indicator}
 use Rattle.values.proofs.Tables.{table-at}
-use Rattle.settlement.specs.Money.{limits, capped, balanced, adjustedBy, adjustments}
-use Rattle.settlement.specs.Laws.{sumℤ}
-use Rattle.settlement.proofs.DifferenceLaws.{none-left, difference-most, differences-sum, table-of}
-use Rattle.settlement.proofs.BalanceLaws.{capped-length, capped-most, balanced-length, balanced-sum, balanced-within}
+use Rattle.money.specs.Money.{limits, capped, balanced, adjustedBy, adjustments, sumℤ}
+use Rattle.money.proofs.DifferenceLaws.{none-left, difference-most, differences-sum, table-of}
+use Rattle.money.proofs.BalanceLaws.{capped-length, capped-most, balanced-length, balanced-sum, balanced-within}
 
 module _ (received paid limit : List ℕ) where
   abbrev bonuses : List ℕ

@@ -1,15 +1,15 @@
--- `settlement::settling::adjust` meets its contract.
+-- `money::adjust` meets its contract.
 -- Assumes nothing.
 use mathlib.Core.Path.{_≡_, refl, ap, _∙_}
 use native.Mathlib.Nat.{lt-of-le-of-lt}
 use lib.Dec.{lit<}
 use Rattle.apportion.specs.Sum.{sum}
 use native.Mathlib.Omega.{arith}
-use Rattle.settlement.specs.Money.{balanced, adjustedBy}
-use Rattle.settlement.proofs.Amounts.{cut-sum-le, balanced-le}
+use Rattle.money.specs.Money.{balanced, adjustedBy}
+use Rattle.money.proofs.Amounts.{cut-sum-le, balanced-le}
 use borrow.Author.Needs.{needs}
-use Rattle.settlement.proofs.settling.adjust.Statement.{statement}
-use Rattle.settlement.proofs.settling.adjust.Tie as tie
+use Rattle.money.proofs.adjust.Statement.{statement}
+use Rattle.money.proofs.adjust.Tie as tie
 
 capped-side-requires : tie.Need-capped-side-requires
 capped-side-requires c κs = search needs

@@ -1,12 +1,12 @@
--- `settlement::money::pot_of` meets its contract.
+-- `money::pot_of` meets its contract.
 -- Assumes nothing.
 use mathlib.Core.Path.{_≡_, refl}
 use native.Mathlib.Omega.{arith}
 use lib.ListN.{length}
-use Rattle.settlement.proofs.InRange.{incomes-le, pot-product-le, pot-le}
+use Rattle.money.proofs.InRange.{incomes-le, pot-product-le, pot-le}
 use borrow.Author.Needs.{needs}
-use Rattle.settlement.proofs.money.pot_of.Statement.{statement}
-use Rattle.settlement.proofs.money.pot_of.Tie as tie
+use Rattle.money.proofs.pot_of.Statement.{statement}
+use Rattle.money.proofs.pot_of.Tie as tie
 
 sum-of-requires : tie.Need-sum-of-requires
 sum-of-requires c κs =

@@ -12,7 +12,7 @@ use Rattle.apportion.specs.Sum.{sum}
 use Rattle.apportion.specs.Share.{share}
 use Rattle.apportion.proofs.Shared.{shared}
 use Rattle.values.proofs.Tables.{length-each, each-at}
-use Rattle.settlement.specs.Money.{capped, balanced}
+use Rattle.money.specs.Money.{capped, balanced}
 
 module _ (more less limit : List ℕ) where
   pub capped-length : length (capped more less limit) ≡ 16
