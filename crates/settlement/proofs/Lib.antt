@@ -2,5 +2,4 @@
 pub mod MarkLaws
 pub mod UnjoinedLaws
 pub mod SettledLaws
-pub mod Gathering
 pub mod Opened

@@ -1,12 +1,12 @@
--- `settlement::gather::add` meets its contract: the operators passed hold their sums.
+-- `gathering::add` meets its contract: the operators passed hold their sums.
 -- Assumes nothing.
 use mathlib.Core.Path.{refl}
 use Prim.Native.Nat.{_+_, _-_}
 use native.Mathlib.Omega.{arith}
 use lib.ListN.{getD}
 use Rattle.values.proofs.Tables.{Filling, filling-none, filling-more, filling-each}
-use Rattle.settlement.proofs.gather.add.Statement.{statement}
-use Rattle.settlement.proofs.gather.add.Tie as tie
+use Rattle.gathering.proofs.add.Statement.{statement}
+use Rattle.gathering.proofs.add.Tie as tie
 
 abbrev Inv-loop : tie.InvT-loop
 Inv-loop list other out₀ i₀ out i = Filling (λ operator. getD list operator 0 + getD other operator 0) i out

@@ -7,23 +7,29 @@ ghost use Rattle.book.specs.declared.Book.{Book};
 ghost use Rattle.values.specs.Bounds.{poolMost, totalMost};
 ghost use Rattle.values.specs.Operators.{each};
 ghost use Rattle.values.specs.Parts.{HasMarks, HasMeasures, Within};
-ghost use Rattle.settlement.specs.Steps.{GatheringAsked, OneGathered, AllGathered};
-use crate::POINT_PLACES;
+ghost use Rattle.gathering.specs.Steps.{GatheringAsked, OneGathered, AllGathered};
 use calls::FIGURE_PLACES;
 use calls::INDICATOR_COUNT;
 use calls::INDICATORS;
 use calls::INDICES;
+use calls::OPERATORS;
 use calls::SETTING_PLACES;
 use indicators::points_of;
 use indicators::pool_of;
 
-pub(crate) struct Gathered {
+// A number for each indicator and operator.
+pub const POINT_PLACES: usize = OPERATORS * INDICATORS;
+
+pub struct Gathered {
+    // In hundredths, by indicator.
     pub pools: [u64; INDICATORS],
+    // In hundredths, at indicator * 16 + operator.
     pub points: [u64; POINT_PLACES],
+    // In hundredths, by operator.
     pub totals: [u64; 16],
 }
 
-pub(crate) fn gather(
+pub fn gather(
     joined: u16,
     marks: &[u16; INDICATORS],
     settings: &[u64; SETTING_PLACES],

@@ -13,7 +13,6 @@ use lib.ListN.{length, getD, take, length-set, List·getD-eq-default, replicate}
 use lib.Seq.{take-suc, take-suc-set, take-paste, length-paste, take-all}
 use Rattle.calls.specs.Limits.{indicatorCount}
 use Rattle.values.proofs.Numbered.{of-numbered}
-use Rattle.settlement.specs.Settlement.{pointPlaces}
 use Rattle.book.specs.declared.Book.{Book}
 use Rattle.apportion.specs.Sum.{sum}
 use Rattle.apportion.specs.Share.{share}
@@ -21,12 +20,11 @@ use Rattle.apportion.proofs.Sums.{element-le}
 use Rattle.apportion.proofs.Shared.{shared}
 use Rattle.values.specs.Operators.{table, each}
 use Rattle.values.specs.Indicator.{Indicator, electricity, numbered, reliableMask, pool}
-use Rattle.indicators.specs.Points.{points, allPoints}
+use Rattle.indicators.specs.Points.{points, allPoints, pointsOfAll, pointPlaces}
 use Rattle.values.proofs.Scores.{over-le}
 use Rattle.indicators.proofs.PointLaws.{points-length}
-use Rattle.settlement.specs.declared.gather.Gathered.{Gathered}
-use Rattle.settlement.specs.Settlement.{pointsOfAll}
-use Rattle.settlement.specs.Steps.{OneGathered, AllGathered}
+use Rattle.gathering.specs.declared.Gathered.{Gathered}
+use Rattle.gathering.specs.Steps.{OneGathered, AllGathered}
 use Rattle.values.specs.Bounds.{pointsMost, poolMost}
 use Rattle.values.proofs.Tables.{length-each, each-at, each-same}
 

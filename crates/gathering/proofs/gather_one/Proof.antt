@@ -1,11 +1,11 @@
--- `settlement::gather::gather_one` meets its contract.
+-- `gathering::gather_one` meets its contract.
 -- Assumes nothing.
 use mathlib.Core.Path.{refl, _∙_}
 use Rattle.values.proofs.InRange.{lending, lending-marked, lending-measured}
-use Rattle.settlement.proofs.Gathering.{point-le}
+use Rattle.gathering.proofs.Gathering.{point-le}
 use borrow.Author.Needs.{needs}
-use Rattle.settlement.proofs.gather.gather_one.Statement.{statement}
-use Rattle.settlement.proofs.gather.gather_one.Tie as tie
+use Rattle.gathering.proofs.gather_one.Statement.{statement}
+use Rattle.gathering.proofs.gather_one.Tie as tie
 
 points-of-requires : tie.Need-points-of-requires
 points-of-requires c κs = search needs

@@ -1,4 +1,4 @@
--- `settlement::gather::gather` meets its contract.
+-- `gathering::gather` meets its contract.
 -- Assumes nothing.
 use mathlib.Core.Path.{_≡_}
 use Prim.Native.Nat.{_-_, _≤_}
@@ -7,9 +7,9 @@ use Rattle.calls.specs.Limits.{indicatorCount}
 use Rattle.book.specs.declared.Book.{Book}
 use Rattle.values.specs.Parts.{HasMarks, HasMeasures}
 use Rattle.values.proofs.InRange.{lending, lending-marked, lending-measured}
-use Rattle.settlement.proofs.Gathering.{Gathers, gathers-none, gathers-more, gathers-all}
-use Rattle.settlement.proofs.gather.gather.Statement.{statement}
-use Rattle.settlement.proofs.gather.gather.Tie as tie
+use Rattle.gathering.proofs.Gathering.{Gathers, gathers-none, gathers-more, gathers-all}
+use Rattle.gathering.proofs.gather.Statement.{statement}
+use Rattle.gathering.proofs.gather.Tie as tie
 
 abbrev Inv-loop : tie.InvT-loop
 Inv-loop joined marks settings figures indices g₀ number₀ g number =

@@ -1,4 +1,4 @@
--- `settlement::gather::place` meets its contract: so many have been put in.
+-- `gathering::place` meets its contract: so many have been put in.
 -- Assumes nothing.
 use borrow.Author.Needs.{needs}
 use mathlib.Core.Path.{_≡_}
@@ -7,9 +7,9 @@ use native.Mathlib.Omega.{arith}
 use lib.ListN.{length}
 use lib.Seq.{paste, paste-zero, paste-suc}
 use native.Mathlib.Numerals.{add-one}
-use Rattle.settlement.specs.Settlement.{pointPlaces}
-use Rattle.settlement.proofs.gather.place.Statement.{statement}
-use Rattle.settlement.proofs.gather.place.Tie as tie
+use Rattle.indicators.specs.Points.{pointPlaces}
+use Rattle.gathering.proofs.place.Statement.{statement}
+use Rattle.gathering.proofs.place.Tie as tie
 
 abbrev Inv-loop : tie.InvT-loop
 Inv-loop at shares out₀ i₀ out i = (i ≤ 16) × (out ≡ paste out₀ at shares i)
