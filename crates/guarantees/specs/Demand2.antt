@@ -10,11 +10,11 @@ use Rattle.calls.specs.Answers.{accepted, yes-said}
 use Rattle.book.specs.declared.Book.{Book}
 use Rattle.book.specs.Book.{freshBook, inRange}
 use Rattle.values.specs.Indicator.{Indicator, electricity, pool}
-use Rattle.indicators.specs.Points.{points}
+use Rattle.indicators.specs.Points.{points, pointsOfAll}
 use Rattle.indicators.specs.Laws.{PointsMadeUp}
+use Rattle.money.specs.Money.{pot, contributions, returns, limits, adjustments}
 use Rattle.settlement.specs.declared.Settlement.{Settlement}
-use Rattle.settlement.specs.Money.{pot, contributions, returns, limits, adjustments}
-use Rattle.settlement.specs.Settlement.{pointsOfAll, settledBy, settled}
+use Rattle.settlement.specs.Settlement.{settledBy, settled}
 use Rattle.settlement.specs.Laws.{Settles, pointsAt}
 use Rattle.filing.specs.Reader.{reading, read}
 use Rattle.writing.specs.Written.{writtenCalls, written}

@@ -2,11 +2,11 @@
 -- Assumes nothing.
 use Prim.Native.Nat.{ℕ, _+_, _*_, _-_, max}
 use mathlib.Core.Bool.{Bool, true, false, cond, _&&_}
-use mathlib.Core.List.{List, [], _∷_}
+use mathlib.Core.List.{List, [], _∷_, _++_}
 use lib.Count.{ones}
 use lib.Dec.{ltb, eqb}
 use lib.ListN.{getD}
-use Rattle.calls.specs.Limits.{operators}
+use Rattle.calls.specs.Limits.{operators, indicatorCount}
 use Rattle.calls.specs.Masks.{has}
 use Rattle.book.specs.declared.Book.{Book}
 use Rattle.apportion.specs.Sum.{sum}
@@ -63,3 +63,12 @@ points b indicator = share (pool b indicator) (weights (indicator .measure) (rel
 unfoldable pub allPoints : Book → List Indicator → ℕ → ℕ
 allPoints b [] operator = 0
 allPoints b (indicator ∷ rest) operator = getD (points b indicator) operator 0 + allPoints b rest operator
+
+-- the lists of all indicators, one after the other
+unfoldable pub pointsOfAll : Book → List Indicator → List ℕ
+pointsOfAll b [] = []
+pointsOfAll b (indicator ∷ rest) = points b indicator ++ pointsOfAll b rest
+
+-- a number for each indicator and operator
+abbrev pub pointPlaces : ℕ
+pointPlaces = operators * indicatorCount

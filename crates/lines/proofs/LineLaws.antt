@@ -13,7 +13,7 @@ use Rattle.book.specs.declared.Book.{Book}
 use Rattle.book.specs.Book.{isJoined}
 use Rattle.apportion.specs.Sum.{sum}
 use Rattle.settlement.specs.declared.Settlement.{Settlement}
-use Rattle.settlement.specs.Laws.{sumℤ}
+use Rattle.money.specs.Money.{sumℤ}
 use Rattle.text.specs.Text.{bytesOf, decimal, signedDecimal}
 use Rattle.lines.specs.Lines.{line, numberLine, pointsOfOperator, operatorLine, operatorLines, lastLine}
 

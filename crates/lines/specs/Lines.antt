@@ -12,7 +12,7 @@ use Rattle.book.specs.Book.{isJoined}
 use Rattle.apportion.specs.Sum.{sum}
 use Rattle.values.specs.Operators.{table}
 use Rattle.settlement.specs.declared.Settlement.{Settlement}
-use Rattle.settlement.specs.Laws.{sumℤ}
+use Rattle.money.specs.Money.{sumℤ}
 use Rattle.text.specs.Text.{bytesOf, decimal, signedDecimal}
 
 -- "single spaces, each line ended by byte 10"

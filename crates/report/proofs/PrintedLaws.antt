@@ -16,15 +16,15 @@ use Rattle.apportion.specs.Share.{share}
 use Rattle.apportion.proofs.Sums.{sum-append, sum-bound, element-le}
 use Rattle.apportion.proofs.Shared.{shared}
 use Rattle.values.specs.Indicator.{Indicator, electricity, numbered, reliableMask, scores, pool}
-use Rattle.indicators.specs.Points.{weights, points}
+use Rattle.indicators.specs.Points.{weights, points, pointsOfAll}
 use Rattle.indicators.proofs.WeightLaws.{weights-length}
 use Rattle.settlement.specs.declared.Settlement.{Settlement}
-use Rattle.settlement.specs.Settlement.{pointsOfAll, settlementBy, settled}
+use Rattle.settlement.specs.Settlement.{settlementBy, settled}
 use Rattle.settlement.specs.Laws.{Settles, Balanced}
 use Rattle.calls.specs.Limits.{operators, indicatorCount}
 use Rattle.values.specs.Bounds.{poolMost}
-use Rattle.settlement.proofs.Amounts.{pot-most, limit-most}
-use Rattle.settlement.proofs.Gathering.{share-le, pool-le}
+use Rattle.money.proofs.Amounts.{pot-most, limit-most}
+use Rattle.gathering.proofs.Gathering.{share-le, pool-le}
 use Rattle.settlement.proofs.SettledLaws.{worth-electricity, settles-exactly, settles-ranged, settled-so, balanced-if-settles}
 use Rattle.text.specs.Text.{bytesOf, decimal}
 use Rattle.lines.specs.Lines.{line, header, pointsOfOperator, operatorLine, operatorLines, lastLine, printed}

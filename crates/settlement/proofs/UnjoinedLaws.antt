@@ -20,8 +20,8 @@ use Rattle.values.specs.Indicator.{Indicator, reliableMask}
 use Rattle.indicators.specs.Points.{points}
 use Rattle.values.proofs.Tables.{length-each, each-at}
 use Rattle.indicators.proofs.PointLaws.{reliable-joined, points-none}
-use Rattle.settlement.specs.Money.{pot, contributions, returns, limits, adjustments}
-use Rattle.settlement.proofs.AdjustmentLaws.{within-limits}
+use Rattle.money.specs.Money.{pot, contributions, returns, limits, adjustments}
+use Rattle.money.proofs.AdjustmentLaws.{within-limits}
 
 -- a share by a weight of 0
 none-shared : (T : ℕ) (f : ℕ → ℕ) (k : ℕ) → k < 16 → f k ≡ 0 → getD (share T (each f)) k 0 ≡ 0

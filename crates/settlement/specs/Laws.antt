@@ -5,7 +5,7 @@ use mathlib.Core.Path.{_≡_}
 use mathlib.Core.Logic.{_↔_}
 use mathlib.Core.Bool.{false}
 use mathlib.Core.List.{List, [], _∷_}
-use lib.IntN.{ℤ, pos, natAbs, _+ℤ_}
+use lib.IntN.{pos, natAbs}
 use lib.ListN.{length, getD, take, drop}
 use Rattle.calls.specs.Limits.{operators}
 use Rattle.calls.specs.Answers.{accepted, yes-said}
@@ -14,12 +14,9 @@ use Rattle.book.specs.declared.Book.{Book}
 use Rattle.book.specs.Book.{isJoined}
 use Rattle.apportion.specs.Sum.{sum}
 use Rattle.values.specs.Indicator.{Indicator}
+use Rattle.money.specs.Money.{sumℤ}
 use Rattle.settlement.specs.declared.Settlement.{Settlement}
 use Rattle.settlement.specs.Settlement.{settlingLines, settledBy}
-
-unfoldable pub sumℤ : List ℤ → ℤ
-sumℤ [] = pos 0
-sumℤ (x ∷ xs) = x +ℤ sumℤ xs
 
 -- every indicator of a list is worth points
 abbrev pub Worth : List Indicator → Type 0

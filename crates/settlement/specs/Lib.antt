@@ -1,5 +1,4 @@
 -- The definitions of `settlement`.
-pub mod Money
 pub mod Settlement
 pub mod Laws
 pub mod Steps

@@ -1,8 +1,8 @@
 -- The whole settlement of a book, or its refusal (01, "Settlement" and numbers 5, 10, 11, 12).
 -- Assumes nothing.
-use Prim.Native.Nat.{ℕ, _*_}
+use Prim.Native.Nat.{ℕ}
 use mathlib.Core.Bool.{Bool, true, not, _&&_, _||_}
-use mathlib.Core.List.{List, [], _∷_, _++_, map}
+use mathlib.Core.List.{List, [], _∷_, map}
 use lib.Dec.{eqb}
 use lib.IntN.{ℤ, pos}
 use lib.ListN.{replicate}
@@ -13,8 +13,8 @@ use Rattle.book.specs.declared.Book.{Book}
 use Rattle.book.specs.Book.{isJoined, isMarked, settingOf, inRange, every}
 use Rattle.values.specs.Operators.{any}
 use Rattle.values.specs.Indicator.{Indicator, electricity, pool}
-use Rattle.indicators.specs.Points.{points}
-use Rattle.settlement.specs.Money.{pot, contributions, returns, limits, adjustments}
+use Rattle.indicators.specs.Points.{pointsOfAll, pointPlaces}
+use Rattle.money.specs.Money.{pot, contributions, returns, limits, adjustments}
 
 -- 11: "a joined operator has 0 cabins or access points"
 unfoldable pub networkMissing : Book → Bool
@@ -28,11 +28,6 @@ isMarkedAtAll b (indicator ∷ rest) operator = isMarked b operator (indicator .
 unfoldable pub allMarked : Book → List Indicator → Bool
 allMarked b indicators = every operators (λ (operator : ℕ). not (isJoined b operator) || isMarkedAtAll b indicators operator)
 
--- the lists of all indicators, one after the other
-unfoldable pub pointsOfAll : Book → List Indicator → List ℕ
-pointsOfAll b [] = []
-pointsOfAll b (indicator ∷ rest) = points b indicator ++ pointsOfAll b rest
-
 -- a settlement by its parts: pools, points, pot, contributions, returns, limits, adjustments
 abbrev pub settlement : List ℕ → List ℕ → ℕ → List ℕ → List ℕ → List ℕ → List ℤ → Settlement
 settlement pools points pot out received limits adjustments =
@@ -41,10 +36,6 @@ settlement pools points pot out received limits adjustments =
 unfoldable pub settlementBy : Book → List Indicator → Settlement
 settlementBy b indicators =
     settlement (map (pool b) indicators) (pointsOfAll b indicators) (pot b) (contributions b) (returns b indicators) (limits b) (adjustments b indicators)
-
--- a number for each indicator and operator
-abbrev pub pointPlaces : ℕ
-pointPlaces = operators * indicatorCount
 
 -- "it is all 0 on refusal"
 unfoldable pub nothing : Settlement

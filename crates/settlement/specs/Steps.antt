@@ -1,37 +1,13 @@
--- What inner functions give, and what they are given: the points of one indicator more, and of all; columns of money and rates.
+-- What inner functions are given: columns of money and rates.
 -- Assumes nothing.
-use Prim.Native.Nat.{ℕ, _+_, _*_, _≤_, _<_}
+use Prim.Native.Nat.{ℕ, _≤_}
 use mathlib.Core.Path.{_≡_}
-use mathlib.Core.List.{List, map}
-use lib.ListN.{getD, set}
-use lib.Seq.{paste}
-use Rattle.calls.specs.Limits.{operators, indicatorCount, rateLimit}
+use mathlib.Core.List.{List}
+use lib.ListN.{getD}
+use Rattle.calls.specs.Limits.{rateLimit}
 use Rattle.book.specs.declared.Book.{Book}
 use Rattle.values.specs.Bounds.{accessLimit, incomeLimit, totalMost}
-use Rattle.values.specs.Parts.{Within}
-use Rattle.values.specs.Operators.{each, settingsOf}
-use Rattle.values.specs.Indicator.{electricity, numbered, pool}
-use Rattle.indicators.specs.Points.{points, allPoints}
-use Rattle.settlement.specs.declared.gather.Gathered.{Gathered}
-use Rattle.settlement.specs.Settlement.{pointsOfAll}
-
--- what putting in one indicator more asks for
-pub record GatheringAsked (settings figures indices totals : List ℕ) (number : ℕ) : Type 0 where
-  pub within : Within settings figures indices
-  pub number-there : number < indicatorCount
-  pub totals-most : (k : ℕ) → getD totals k 0 ≤ totalMost
-
--- g with the indicator of a number put in
-pub record OneGathered (b : Book) (number : ℕ) (g more : Gathered) : Type 0 where
-  pub pools-are : more .pools ≡ set (g .pools) number (pool b (numbered number))
-  pub points-are : more .points ≡ paste (g .points) (operators * number) (points b (numbered number)) operators
-  pub totals-are : more .totals ≡ each (λ (k : ℕ). getD (g .totals) k 0 + getD (points b (numbered number)) k 0)
-
-pub record AllGathered (b : Book) (g : Gathered) : Type 0 where
-  pub pools-are : g .pools ≡ map (pool b) electricity
-  pub points-are : g .points ≡ pointsOfAll b electricity
-  pub totals-are : g .totals ≡ each (allPoints b electricity)
-  pub totals-most : (k : ℕ) → getD (g .totals) k 0 ≤ totalMost
+use Rattle.values.specs.Operators.{settingsOf}
 
 -- a book has these access points, incomes and rates
 pub record HasCharges (b : Book) (access incomes : List ℕ) (pot cap : ℕ) : Type 0 where

@@ -1,15 +1,10 @@
 // Settling a book: points of each indicator, the pot, contributions, returns and each operator's adjustment.
-mod gather;
-mod money;
 mod settling;
 
 use calls::Answer;
 use calls::INDICATORS;
-use calls::OPERATORS;
+pub use gathering::POINT_PLACES;
 pub use settling::settle;
-
-// A number for each indicator and operator.
-pub const POINT_PLACES: usize = OPERATORS * INDICATORS;
 
 // All 0 on refusal and for operators not joined.
 pub struct Settlement {

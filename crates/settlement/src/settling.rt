@@ -2,29 +2,18 @@
 ghost use mathlib.Core.Path.{_≡_};
 ghost use mathlib.Core.Bool.{true, _&&_, _||_};
 ghost use lib.Dec.{eqb};
-ghost use Prim.Native.Nat.{ℕ, _≤_, _<_};
-ghost use lib.ListN.{getD};
 ghost use Rattle.calls.specs.Answers.{refused-by, numberOf, said};
 ghost use Rattle.calls.specs.Masks.{has};
 ghost use Rattle.book.specs.Book.{inRange};
-ghost use Rattle.values.specs.Bounds.{limitMost};
 ghost use Rattle.values.specs.Operators.{settingsOf};
 ghost use Rattle.values.specs.Parts.{HasMarks};
 ghost use Rattle.values.specs.Indicator.{electricity};
-ghost use Rattle.settlement.specs.Money.{adjustedBy};
-ghost use Rattle.settlement.specs.Steps.{AllGathered, HasCharges, Payable};
+ghost use Rattle.gathering.specs.Steps.{AllGathered};
+ghost use Rattle.settlement.specs.Steps.{HasCharges, Payable};
 ghost use Rattle.settlement.specs.Settlement.{networkMissing, allMarked, settlementBy, nothing, settled};
 use crate::POINT_PLACES;
 use crate::Settled;
 use crate::Settlement;
-use crate::gather::Gathered;
-use crate::gather::gather;
-use crate::money::balanced_side;
-use crate::money::capped_side;
-use crate::money::differences;
-use crate::money::limits_of;
-use crate::money::pot_of;
-use crate::money::return_weights;
 use apportion::share;
 use book::Book;
 use book::in_range;
@@ -33,6 +22,12 @@ use calls::INDICATOR_COUNT;
 use calls::INDICATORS;
 use calls::Refusal;
 use calls::has_bit;
+use gathering::Gathered;
+use gathering::gather;
+use money::adjust;
+use money::limits_of;
+use money::pot_of;
+use money::return_weights;
 use values::reliable_mask;
 use values::settings_of;
 
@@ -162,16 +157,4 @@ fn settle_points(
         limits,
         adjustments,
     }
-}
-
-// What is received less what is paid, each cut to its limit, and the larger side shared again.
-fn adjust(received: [u64; 16], paid: [u64; 16], limits: [u64; 16]) -> [i64; 16]
-    requires { ⌜ ((k : ℕ) → k < 16 → getD limits k 0 ≤ limitMost) ⌝ }
-    ensures { λ r. ⌜ r ≡ adjustedBy received paid limits ⌝ }
-{
-    let bonuses = capped_side(received, paid, limits);
-    let maluses = capped_side(paid, received, limits);
-    let gains = balanced_side(bonuses, maluses);
-    let losses = balanced_side(maluses, bonuses);
-    differences(gains, losses)
 }

@@ -5,7 +5,7 @@ use Prim.Native.Nat.{_-_, _≤_}
 use native.Mathlib.Omega.{arith}
 use lib.ListN.{length}
 use borrow.Author.Needs.{needs}
-use Rattle.settlement.specs.Settlement.{pointPlaces}
+use Rattle.indicators.specs.Points.{pointPlaces}
 use Rattle.lines.proofs.SumLaws.{Summing, summing-none, summing-most, summing-more, summing-all}
 use Rattle.lines.proofs.lines.total_points.Statement.{statement}
 use Rattle.lines.proofs.lines.total_points.Tie as tie

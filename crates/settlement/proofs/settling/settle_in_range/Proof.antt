@@ -2,7 +2,7 @@
 -- Assumes nothing.
 use mathlib.Core.Path.{refl}
 use Rattle.values.proofs.InRange.{within, pot-rate-le, cap-rate-le}
-use Rattle.settlement.proofs.InRange.{access-most, incomes-most}
+use Rattle.money.proofs.InRange.{access-most, incomes-most}
 use borrow.Author.Needs.{needs}
 use Rattle.settlement.proofs.settling.settle_in_range.Statement.{statement}
 use Rattle.settlement.proofs.settling.settle_in_range.Tie as tie

@@ -9,9 +9,9 @@ use Rattle.values.specs.Bounds.{accessLimit}
 use Rattle.values.specs.Indicator.{electricity}
 use Rattle.values.proofs.Tables.{each-same}
 use Rattle.settlement.specs.Settlement.{settlementBy}
-use Rattle.settlement.specs.Money.{pot, limits, contributions, returns as Money·returns, adjustments}
-use Rattle.settlement.proofs.InRange.{income-at}
-use Rattle.settlement.proofs.Amounts.{sixteen-le, weights-same}
+use Rattle.money.specs.Money.{pot, limits, contributions, returns as Money·returns, adjustments}
+use Rattle.money.proofs.InRange.{income-at}
+use Rattle.money.proofs.Amounts.{sixteen-le, weights-same}
 use borrow.Author.Needs.{needs}
 use Rattle.settlement.proofs.settling.settle_points.Statement.{statement}
 use Rattle.settlement.proofs.settling.settle_points.Tie as tie

@@ -1,0 +1,2 @@
+-- The definitions of `gathering`.
+pub mod Steps

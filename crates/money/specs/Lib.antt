@@ -1,0 +1,2 @@
+-- The definitions of `money`.
+pub mod Money
