@@ -1,4 +1,3 @@
 -- The definitions of `filing`.
 pub mod Reader
-pub mod Steps
 pub mod Laws

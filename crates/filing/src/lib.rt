@@ -1,9 +1,6 @@
-// Reading a filing into a book.
-mod reader;
-
+// What reading a filing into a book gives, defined in specs/. The code is in the crate `reader`.
 use book::Book;
 use calls::Answer;
-pub use reader::read_from;
 
 // How far a reading has come: how many fields were applied, the offset of the next tag, and yes or the refusal. Of a reading that has
 // ended the offset is that of the refused tag (the filing's length if none).

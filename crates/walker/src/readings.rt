@@ -5,7 +5,7 @@ use crate::Walker;
 use crate::walkers::walker_over;
 use book::Book;
 use filing::Reading;
-use filing::read_from;
+use reader::read_from;
 
 // The fields from where a walker stands, into a book.
 pub fn read_on<'a>(b: Book, w: Walker<'a>) -> Reading

@@ -42,10 +42,10 @@ use Rattle.book.proofs.Book as B
 use Rattle.book.proofs.Book.Laws as B′
 use Rattle.filing.proofs.Reading as R
 use Rattle.filing.proofs.Reading.Laws as R′
-use Rattle.filing.proofs.read_from as read-from
-use Rattle.filing.proofs.read_from.Symbol as read-from-def
-use Rattle.filing.proofs.read_from.Symbol.{name as #filing·read-from}
-use Rattle.filing.proofs.read_from.Met as read-from-thm
+use Rattle.reader.proofs.read_from as read-from
+use Rattle.reader.proofs.read_from.Symbol as read-from-def
+use Rattle.reader.proofs.read_from.Symbol.{name as #reader·read-from}
+use Rattle.reader.proofs.read_from.Met as read-from-thm
 use Rattle.walker.specs.declared.Walker.{Walker}
 use Rattle.walker.proofs.Walker.Laws as T′
 use Rattle.walker.proofs.Owned.{bookVal, OfBook, readingVal, walkerIn, sliceIn, machineOf, walker-spelt, walker-tells, BytesOwned, WalkerOwned, OfWalker, walker-typed, walker-twice, bytes-of}
@@ -96,7 +96,7 @@ module _ {M : Type 1} (𝓤 : URA M) (H : Heap 𝓤) (A : Atoms 𝓤) (W : Given
       suffices ! _ (ends 𝓤 H A read-on.ended (read-on.clauses 𝓤 H A mem run) W given-to (readingVal r) r (tt, (tt, tt))) $ says ! e $ move ! (1 ∷ []) $ frame ! $
       nothing ! $ move ! (2 ∷ 0 ∷ []) $ fjoin ! $ owned ! B.the-row (Is B.the-row) (LL.makes B.the-type B′.the-plain 𝓤 H A) b (bookVal b ∷ []) of-book $ fjoin ! $ frame ! $ done !
 
-  module _ (C : Calls 𝓤 H) (Λ : Loops 𝓤 H) (fm : FmC 𝓤 H (W .laws) C) (known : Triple 𝓤 (C #filing·read-from) (ReadFrom 𝓤 H A mem run)) where
+  module _ (C : Calls 𝓤 H) (Λ : Loops 𝓤 H) (fm : FmC 𝓤 H (W .laws) C) (known : Triple 𝓤 (C #reader·read-from) (ReadFrom 𝓤 H A mem run)) where
     walk : ent 𝓤 Entry (WpFn 𝓤 H C Λ code.function (bookVal b ∷ machineOf w ∷ []) (Post 𝓤 H A read-on.ended (read-on.clauses 𝓤 H A mem run) given-to))
     walk =
         qed W (raw Entry ∷ []) ∵ enter ! C Λ code.function (bookVal b ∷ machineOf w ∷ []) _ $
@@ -120,4 +120,4 @@ read-on-spec 𝓤 H 𝓜 𝓖 𝓡 =
     by-walk 𝓤 H 𝓜 𝓖 𝓡 read-on.ended (read-on.clauses 𝓤 H (𝓖 .A) (𝓜 .mem) (𝓡 .run)) code.env #walker·read-on code.function (code.unfolded 𝓤 H 𝓜 𝓡) ((λ κs x f. refl), ((λ κs x f. refl), tt))
     (λ κs. (LL.vals B.the-type B′.the-laws, walker-spelt κs)) (λ κs. (LL.tells B.the-type B′.the-laws, walker-tells κs))
     (λ κs qs bounds a g are. walk 𝓤 H (𝓖 .A) W (𝓜 .mem) (𝓡 .run) (κs .0) (qs .0) (a .0) (a .1 .0) (are .0) (are .1 .0) (table .C) (table .Λ) (fmOf 𝓤 H (W .laws) (tablesOf 𝓤 H 𝓜 table))
-    (cited 𝓤 H (ReadFrom 𝓤 H (𝓖 .A) (𝓜 .mem) (𝓡 .run)) 𝓜 𝓡 code.env #filing·read-from read-from-def.routine code.calls-filing·read-from (read-from-thm.met 𝓤 H 𝓜 𝓖 𝓡)))
+    (cited 𝓤 H (ReadFrom 𝓤 H (𝓖 .A) (𝓜 .mem) (𝓡 .run)) 𝓜 𝓡 code.env #reader·read-from read-from-def.routine code.calls-reader·read-from (read-from-thm.met 𝓤 H 𝓜 𝓖 𝓡)))

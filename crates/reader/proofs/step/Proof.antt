@@ -1,14 +1,14 @@
--- `filing::reader::step` meets its contract.
+-- `reader::step` meets its contract.
 -- Assumes nothing.
 use mathlib.Core.Path.{sym, ap, _∙_}
 use native.Mathlib.Omega.{arith}
 use Rattle.calls.specs.Answers.{onAnswer}
 use Rattle.fields.specs.Field.{fieldSaid}
-use Rattle.filing.specs.Steps.{steppedOn, stepped}
+use Rattle.reader.specs.Steps.{steppedOn, stepped}
 use Rattle.fields.proofs.FieldLaws.{stands}
 use borrow.Author.Needs.{needs}
-use Rattle.filing.proofs.reader.step.Statement.{statement}
-use Rattle.filing.proofs.reader.step.Tie as tie
+use Rattle.reader.proofs.step.Statement.{statement}
+use Rattle.reader.proofs.step.Tie as tie
 
 -- where the field was found to be a call, before the parts are lent to it
 abbrev found : tie.After-advance-arg7 → tie.After-filing-call

@@ -1,11 +1,11 @@
--- `filing::reader::read_from` meets its contract.
+-- `reader::read_from` meets its contract.
 -- Assumes nothing.
 use mathlib.Core.Path.{refl}
 use Rattle.calls.proofs.Flags.{denied, granted}
 use Rattle.filing.specs.Reader.{readFrom}
 use borrow.Author.Needs.{needs}
-use Rattle.filing.proofs.reader.read_from.Statement.{statement}
-use Rattle.filing.proofs.reader.read_from.Tie as tie
+use Rattle.reader.proofs.read_from.Statement.{statement}
+use Rattle.reader.proofs.read_from.Tie as tie
 
 in-range-requires : tie.Need-in-range-requires
 in-range-requires c κs = search needs

@@ -1,4 +1,4 @@
--- `filing::reader::advance` meets its contract.
+-- `reader::advance` meets its contract.
 -- Assumes nothing.
 use mathlib.Core.Path.{_≡_, refl, sym, ap, _∙_}
 use mathlib.Core.Bool.{true, false}
@@ -6,12 +6,12 @@ use Rattle.book.specs.declared.Book.{Book}
 use Rattle.calls.specs.Answers.{isRefused}
 use Rattle.book.specs.Steps.{lentBook}
 use Rattle.ledger.specs.Calls.{apply}
 use Rattle.filing.specs.Reader.{reachedBy}
-use Rattle.filing.specs.Steps.{stopped, advanced}
+use Rattle.reader.specs.Steps.{stopped, advanced}
 use Rattle.filing.proofs.WalkLaws.{refused-leaves}
 use borrow.Author.Needs.{needs}
-use Rattle.filing.proofs.reader.advance.Statement.{statement}
-use Rattle.filing.proofs.reader.advance.Tie as tie
+use Rattle.reader.proofs.advance.Statement.{statement}
+use Rattle.reader.proofs.advance.Tie as tie
 
 -- the book of the lent parts
 abbrev before : tie.Start → Book

@@ -8,8 +8,8 @@ use Rattle.book.specs.declared.Book.{Book}
 use Rattle.book.specs.Book.{inRange}
 use Rattle.ledger.specs.Calls.{apply, Outcome}
 use Rattle.fields.specs.Field.{Found, at-end, call-then}
-use Rattle.filing.specs.declared.reader.Turn.{Turn}
+use Rattle.reader.specs.declared.Turn.{Turn}
 use Rattle.filing.specs.Reader.{Reached, reading, reachedBy}
 
 -- a reading under way: what it has reached, and whether it goes on with a next field
 pub record Turned : Type 0 where

@@ -1,10 +1,10 @@
--- `filing::reader::is_refused` meets its contract.
+-- `reader::is_refused` meets its contract.
 -- Assumes nothing.
 use borrow.Author.Needs.{needs}
 use mathlib.Core.Path.{refl}
 use Rattle.calls.specs.Answers.{onAnswer, isRefused}
-use Rattle.filing.proofs.reader.is_refused.Statement.{statement}
-use Rattle.filing.proofs.reader.is_refused.Tie as tie
+use Rattle.reader.proofs.is_refused.Statement.{statement}
+use Rattle.reader.proofs.is_refused.Tie as tie
 
 enum-known-answer : tie.Need-enum-known-answer
 enum-known-answer c = search needs

@@ -9,10 +9,8 @@ ghost use Rattle.book.specs.Book.{inRange};
 ghost use Rattle.book.specs.Steps.{lentBook, BeforeAndAfter};
 ghost use Rattle.ledger.specs.Calls.{apply as Calls·apply};
 ghost use Rattle.fields.specs.Field.{fieldAt};
 ghost use Rattle.filing.specs.Reader.{reachedBy, told, readFrom};
-ghost use Rattle.filing.specs.Steps.{Ready, toldTurn, stopped, advanced, stepped};
-use crate::Progress;
-use crate::Reading;
+ghost use Rattle.reader.specs.Steps.{Ready, toldTurn, stopped, advanced, stepped};
 use book::Book;
 use book::in_range;
 use bookkeeping::apply_in;
@@ -25,6 +23,8 @@ use calls::Refusal;
 use calls::SETTING_PLACES;
 use fields::Field;
 use fields::field_at;
+use filing::Progress;
+use filing::Reading;
 
 // A reading under way, but for the book: how far it has come, and whether it goes on with a next field.
 struct Turn {

@@ -1,14 +1,14 @@
--- `filing::reader::read_fields` meets its contract.
+-- `reader::read_fields` meets its contract.
 -- Assumes nothing.
 use Prim.Native.Nat.{_<_}
 use mathlib.Core.Path.{_≡_, refl, sym, ap, subst, _∙_}
 use Rattle.book.specs.Book.{bookWith}
 use Rattle.filing.specs.Reader.{readFrom}
-use Rattle.filing.specs.Steps.{Ready, Turned, toldTurn}
-use Rattle.filing.proofs.WalkLaws.{Continued, completed, remaining, remaining-more, completed-more, completed-stopped, step-completed, step-follows}
+use Rattle.reader.specs.Steps.{Ready, Turned, toldTurn}
+use Rattle.reader.proofs.StepLaws.{Continued, completed, remaining, remaining-more, completed-more, completed-stopped, step-completed, step-follows}
 use borrow.Author.Needs.{needs}
-use Rattle.filing.proofs.reader.read_fields.Statement.{statement}
-use Rattle.filing.proofs.reader.read_fields.Tie as tie
+use Rattle.reader.proofs.read_fields.Statement.{statement}
+use Rattle.reader.proofs.read_fields.Tie as tie
 
 abbrev Inv-loop : tie.InvT-loop
 Inv-loop bytes at joined₀ marks₀ settings₀ figures₀ pot-rate₀ cap-rate₀ indices₀ turn₀ joined marks settings figures pot-rate cap-rate indices turn =

@@ -1,10 +1,10 @@
--- `filing::reader::stop` meets its contract.
+-- `reader::stop` meets its contract.
 -- Assumes nothing.
 use mathlib.Core.Path.{refl}
-use Rattle.filing.specs.Steps.{stopped}
+use Rattle.reader.specs.Steps.{stopped}
 use borrow.Author.Needs.{needs}
-use Rattle.filing.proofs.reader.stop.Statement.{statement}
-use Rattle.filing.proofs.reader.stop.Tie as tie
+use Rattle.reader.proofs.stop.Statement.{statement}
+use Rattle.reader.proofs.stop.Tie as tie
 
 returns : tie.Need-returns
 unfolding stopped

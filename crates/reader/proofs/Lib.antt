@@ -1,0 +1,2 @@
+-- The laws that the proofs of `reader` use.
+pub mod StepLaws

@@ -1,0 +1,2 @@
+-- The definitions of `reader`.
+pub mod Steps
