@@ -10,7 +10,6 @@ ghost use Rattle.indicators.specs.Steps.{ScoresWithin};
 ghost use Rattle.indicators.specs.Points.{weights, points};
 use crate::weights::levelled_weights;
 use crate::weights::linear_weights;
-use crate::weights::ones_of;
 use calls::FIGURE_PLACES;
 use calls::INDICATORS;
 use calls::INDICES;
@@ -18,6 +17,7 @@ use calls::SETTING_PLACES;
 use exact::divide;
 use values::reliable_mask;
 use values::scores_of;
+use weighing::ones_of;
 
 // In hundredths, by operator.
 pub fn points_of(

@@ -1,4 +1,4 @@
--- `indicators::weights::levelled_weight` meets its contract.
+-- `weighing::levelled_weight` meets its contract.
 -- Assumes nothing.
 use mathlib.Core.Path.{refl}
 use native.Mathlib.Omega.{arith}
@@ -6,8 +6,8 @@ use borrow.Author.Tests.{eq-eqb, ne-eqb}
 use Rattle.calls.proofs.Flags.{denied, granted}
 use native.Mathlib.Nat.{mul-le-mul}
 use borrow.Author.Needs.{needs}
-use Rattle.indicators.proofs.weights.levelled_weight.Statement.{statement}
-use Rattle.indicators.proofs.weights.levelled_weight.Tie as tie
+use Rattle.weighing.proofs.levelled_weight.Statement.{statement}
+use Rattle.weighing.proofs.levelled_weight.Tie as tie
 
 has-bit-requires : tie.Need-has-bit-requires
 has-bit-requires c κs = search needs

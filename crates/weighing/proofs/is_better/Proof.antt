@@ -1,12 +1,12 @@
--- `indicators::weights::is_better` meets its contract.
+-- `weighing::is_better` meets its contract.
 -- Assumes nothing.
 use mathlib.Core.Path.{refl}
 use native.Mathlib.Omega.{arith}
 use Rattle.calls.proofs.Flags.{denied, granted}
 use native.Mathlib.Nat.{mul-le-mul}
 use borrow.Author.Needs.{needs}
-use Rattle.indicators.proofs.weights.is_better.Statement.{statement}
-use Rattle.indicators.proofs.weights.is_better.Tie as tie
+use Rattle.weighing.proofs.is_better.Statement.{statement}
+use Rattle.weighing.proofs.is_better.Tie as tie
 
 has-bit-requires : tie.Need-has-bit-requires
 has-bit-requires c κs = search needs

@@ -1,9 +1,9 @@
--- `indicators::weights::weight_if_better` meets its contract.
+-- `weighing::weight_if_better` meets its contract.
 -- Assumes nothing.
 use mathlib.Core.Path.{refl}
 use borrow.Author.Needs.{needs}
-use Rattle.indicators.proofs.weights.weight_if_better.Statement.{statement}
-use Rattle.indicators.proofs.weights.weight_if_better.Tie as tie
+use Rattle.weighing.proofs.weight_if_better.Statement.{statement}
+use Rattle.weighing.proofs.weight_if_better.Tie as tie
 
 is-better-requires : tie.Need-is-better-requires
 is-better-requires c κs = search needs

@@ -1,10 +1,10 @@
--- `indicators::weights::ones_of` meets its contract.
+-- `weighing::ones_of` meets its contract.
 -- Assumes nothing.
 use mathlib.Core.Path.{refl}
 use native.Mathlib.Omega.{arith}
 use lib.Count.{ones-le}
-use Rattle.indicators.proofs.weights.ones_of.Statement.{statement}
-use Rattle.indicators.proofs.weights.ones_of.Tie as tie
+use Rattle.weighing.proofs.ones_of.Statement.{statement}
+use Rattle.weighing.proofs.ones_of.Tie as tie
 
 cast-result : tie.Need-cast-result
 cast-result c = record { fits = omega (arith, ones-le 16 (c .args .mask) (omega arith)) }

@@ -1,4 +1,4 @@
--- `indicators::weights::normalise` meets its contract.
+-- `weighing::normalise` meets its contract.
 -- Assumes nothing.
 use mathlib.Core.Path.{refl}
 use Prim.Native.Nat.{_*_, _≤_}
@@ -7,8 +7,8 @@ use borrow.Author.Tests.{eq-eqb, ne-eqb}
 use Rattle.exact.specs.Division.{over}
 use native.Mathlib.Nat.{mul-le-mul-left, div-le-of-le-mul}
 use borrow.Author.Needs.{needs}
-use Rattle.indicators.proofs.weights.normalise.Statement.{statement}
-use Rattle.indicators.proofs.weights.normalise.Tie as tie
+use Rattle.weighing.proofs.normalise.Statement.{statement}
+use Rattle.weighing.proofs.normalise.Tie as tie
 
 returns : tie.Need-returns
 unfolding over

@@ -1,10 +1,10 @@
--- `indicators::weights::linear_weight` meets its contract.
+-- `weighing::linear_weight` meets its contract.
 -- Assumes nothing.
 use mathlib.Core.Path.{refl}
 use Rattle.calls.proofs.Flags.{denied, granted}
 use borrow.Author.Needs.{needs}
-use Rattle.indicators.proofs.weights.linear_weight.Statement.{statement}
-use Rattle.indicators.proofs.weights.linear_weight.Tie as tie
+use Rattle.weighing.proofs.linear_weight.Statement.{statement}
+use Rattle.weighing.proofs.linear_weight.Tie as tie
 
 has-bit-requires : tie.Need-has-bit-requires
 has-bit-requires c κs = search needs

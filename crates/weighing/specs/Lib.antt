@@ -1,0 +1,2 @@
+-- The definitions of `weighing`.
+pub mod Steps
