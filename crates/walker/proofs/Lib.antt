@@ -4,4 +4,3 @@ pub mod ByWalk
 pub mod Returned
 pub mod WalkedLaws
 pub mod Turns
-pub mod EndLaws

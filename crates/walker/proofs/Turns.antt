@@ -12,7 +12,8 @@ use denote.Ref.{RefT, now}
 use Rattle.fields.specs.Field.{fieldAt, fieldSaid}
 use Rattle.filing.specs.Reader.{fieldsOf}
 use Rattle.filing.specs.Laws.{callsIn}
-use Rattle.walker.specs.Walk.{walkerAt, offsetAfter, standsAt, movedOn, endIn, foundIn}
+use Rattle.filing.specs.Ends.{endIn, foundIn}
+use Rattle.walker.specs.Walk.{walkerAt, offsetAfter, standsAt, movedOn}
 use Rattle.walker.specs.declared.Walker.{Walker}
 use Rattle.walker.specs.declared.Taken.{Taken}
 use Rattle.walker.specs.declared.Walked.{Walked}

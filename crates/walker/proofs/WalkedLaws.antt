@@ -11,7 +11,8 @@ use Rattle.fields.proofs.FieldLaws.{Stands, stands}
 use Rattle.filing.specs.Reader.{Fields, followed, fieldsFrom, fieldsOf}
 use Rattle.filing.specs.Laws.{callsIn}
 use Rattle.filing.proofs.WalkLaws.{after, fields-next}
-use Rattle.walker.specs.Walk.{pastFound, past, offsetAfter, endIn, foundIn}
+use Rattle.filing.specs.Ends.{endIn, foundIn}
+use Rattle.walker.specs.Walk.{pastFound, past, offsetAfter}
 
 module _ (bytes : List ℕ) where
   -- the fields from an offset on

@@ -1,3 +1,2 @@
 -- The definitions of `walker`.
 pub mod Walk
-pub mod Laws

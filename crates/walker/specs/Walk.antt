@@ -3,9 +3,8 @@
 use Prim.Native.Nat.{ℕ}
 use mathlib.Core.List.{List}
 use denote.Ref.{RefT, now}
-use Rattle.calls.specs.Answers.{Said, refused-by, accepted, onAnswer}
+use Rattle.calls.specs.Answers.{Said, onAnswer}
 use Rattle.fields.specs.Field.{Found, at-end, call-then, fieldAt}
-use Rattle.filing.specs.Reader.{Fields, field, ended, broken}
 use Rattle.walker.specs.declared.Walker.{Walker}
 
 -- the offset after what is found at an offset: a call's next tag; the same at the end, and where 1, 2 or 3 refuses
@@ -28,14 +27,3 @@ standsAt w = fieldAt (now (w .bytes)) (w .offset)
 
 abbrev pub movedOn : Walker → Walker
 movedOn w = walkerAt (w .bytes) (offsetAfter (now (w .bytes)) (w .offset))
-
--- where a run of fields ends, and what stands there: the end, or what 1, 2 or 3 refuses
-unfoldable pub endIn : Fields → ℕ
-endIn (field call at rest) = endIn rest
-endIn (ended at) = at
-endIn (broken number at) = at
-
-unfoldable pub foundIn : Fields → Said Found
-foundIn (field call at rest) = foundIn rest
-foundIn (ended at) = accepted at-end
-foundIn (broken number at) = refused-by number

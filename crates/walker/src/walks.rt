@@ -4,7 +4,7 @@ ghost use lib.ListN.{length};
 ghost use Rattle.fields.specs.Field.{fieldSaid};
 ghost use Rattle.filing.specs.Reader.{fieldsOf};
 ghost use Rattle.filing.specs.Laws.{callsIn};
-ghost use Rattle.walker.specs.Walk.{endIn, foundIn};
+ghost use Rattle.filing.specs.Ends.{endIn, foundIn};
 use crate::Walked;
 use crate::walkers::next;
 use crate::walkers::offset;

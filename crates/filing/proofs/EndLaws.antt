@@ -1,4 +1,4 @@
--- Where a walk ends (specs/Laws.antt).
+-- Where a run of fields ends (specs/Ends.antt).
 -- Assumes nothing.
 use Prim.Native.Nat.{ℕ, zero, suc, _+_, _≤_}
 use mathlib.Core.Path.{_≡_, refl, ap, _∙_}
@@ -10,12 +10,11 @@ use Rattle.calls.specs.Answers.{Said, refused-by, accepted, onAnswer, isRefused
 use Rattle.book.specs.declared.Book.{Book}
 use Rattle.fields.specs.Field.{Found, at-end, call-then, fieldAt}
 use Rattle.fields.proofs.FieldLaws.{Stands, stands}
 use Rattle.filing.specs.Reader.{Fields, field, ended, broken, followed, fieldsFrom, fieldsOf}
 use Rattle.filing.specs.Laws.{callsIn, offsetsIn}
 use Rattle.filing.proofs.WalkLaws.{after}
 use Rattle.filing.proofs.ReadLaws.{read-as-calls}
-use Rattle.walker.specs.Walk.{endIn, foundIn}
-use Rattle.walker.specs.Laws.{EndsAtLength, EndsAsReading}
+use Rattle.filing.specs.Ends.{endIn, foundIn, EndsAtLength, EndsAsReading}
 
 -- the last of the offsets
 last-offset : (fields : Fields) → getD (offsetsIn fields) (length (callsIn fields)) 0 ≡ endIn fields
