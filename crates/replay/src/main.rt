@@ -1,11 +1,8 @@
 // Reads commands as bytes from standard input and does them one after the other, first by value, then with the book lent. Each is
 // printed as `command = answer`. A command is a field of a filing: tags 1 to 7 are the filing calls, those from 208 on are its own.
-mod arguments;
-mod print;
 mod routes;
 mod show;
 mod stores;
-mod words;
 
 ghost use Prim.Native.Nat.{_+_, _≤_, _<_};
 ghost use lib.ListN.{length};
@@ -13,8 +10,8 @@ use book::Book;
 use fields::Field;
 use fields::field_at;
 use libc::STDIN_FILENO;
-use print::put;
-use print::word;
+use printing::print::put;
+use printing::print::word;
 
 const FRESH: u8 = 208;
 

@@ -1,10 +1,10 @@
 // A filing call: printed, and done by its own function, by value or with the book lent.
-use crate::arguments;
-use crate::print::answered;
 use book::Book;
 use bookkeeping::Answered;
 use calls::Call;
 use lent::held;
+use printing::arguments;
+use printing::print::answered;
 
 pub(crate) fn filed(b: Book, lends: bool, filing_call: Call) -> Book {
     arguments::print(filing_call);

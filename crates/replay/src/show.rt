@@ -1,12 +1,12 @@
 // Shows a whole book, or its whole settlement, on one line: a list has a place and a value for each that is not 0.
-use crate::print::answered;
-use crate::print::equals;
-use crate::print::list;
-use crate::print::list_16;
-use crate::print::list_32;
-use crate::print::list_signed;
-use crate::print::number;
 use book::Book;
+use printing::print::answered;
+use printing::print::equals;
+use printing::print::list;
+use printing::print::list_16;
+use printing::print::list_32;
+use printing::print::list_signed;
+use printing::print::number;
 use settlement::Settlement;
 
 // Who has joined and the rates; marks, indices, settings and figures.

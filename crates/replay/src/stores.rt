@@ -1,9 +1,5 @@
 // Puts a raw value into a book, so that one out of range can be made.
-use crate::print::byte;
-use crate::print::label;
-use crate::print::number;
 use crate::show;
-use crate::words;
 use book::Book;
 use book::figure_slot;
 use book::setting_slot;
@@ -15,6 +11,10 @@ use calls::OPERATORS;
 use calls::SETTINGS;
 use calls::YEARS;
 use fields::Field;
+use printing::print::byte;
+use printing::print::label;
+use printing::print::number;
+use printing::words;
 
 // The kinds of values; the settings follow.
 const JOINED: u8 = 0;

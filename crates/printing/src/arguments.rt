@@ -4,7 +4,7 @@ use crate::print::number;
 use crate::print::signed;
 use calls::Call;
 
-pub(crate) fn print(filing_call: Call) {
+pub fn print(filing_call: Call) {
     match filing_call {
         Call::Join { operator } => byte(operator),
         Call::Setting {

@@ -32,7 +32,7 @@ pub(crate) const COUPLED: u8 = 19;
 
 pub(crate) const EXCEPTIONAL: u8 = 20;
 
-pub(crate) const JOINED: u8 = 21;
+pub const JOINED: u8 = 21;
 
 // A letter of a word, or a space after it.
 pub(crate) fn letter_of(word: u8, at: usize) -> u8 {

@@ -1,9 +1,9 @@
--- `replay::print::word` is safe and ends.
+-- `printing::print::word` is safe and ends.
 -- Assumes nothing.
 use borrow.Author.Needs.{needs}
 use Prim.Native.Nat.{_-_, _≤_}
-use Rattle.replay.proofs.print.word.Statement.{statement}
-use Rattle.replay.proofs.print.word.Tie as tie
+use Rattle.printing.proofs.print.word.Statement.{statement}
+use Rattle.printing.proofs.print.word.Tie as tie
 
 abbrev Inv-loop : tie.InvT-loop
 Inv-loop k i₀ i = i ≤ 12

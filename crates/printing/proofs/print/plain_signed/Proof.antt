@@ -1,4 +1,4 @@
--- `replay::print::plain_signed` is safe and ends.
+-- `printing::print::plain_signed` is safe and ends.
 -- Assumes nothing.
 use mathlib.Core.Path.{_≡_, refl, ap}
 use mathlib.Core.Bool.{true, false, true≢false}
@@ -11,8 +11,8 @@ use mir.Val.{SFits}
 use borrow.Author.Tests.{ltb-true, le-ltb}
 use borrow.Author.Needs.{needs}
 use Rattle.calls.proofs.Times.{back}
-use Rattle.replay.proofs.print.plain_signed.Statement.{statement}
-use Rattle.replay.proofs.print.plain_signed.Tie as tie
+use Rattle.printing.proofs.print.plain_signed.Statement.{statement}
+use Rattle.printing.proofs.print.plain_signed.Tie as tie
 
 -- a number below 0, with its bits turned
 turned : (z : ℤ) → SFits w64 z → ltZ z (pos 0) ≡ true → (m : ℕ) × (negsuc 0 -ℤ z ≡ pos m) × (m < 2 ^ 63)

@@ -1,10 +1,10 @@
--- `replay::print::list_32` is safe and ends.
+-- `printing::print::list_16` is safe and ends.
 -- Assumes nothing.
 use borrow.Author.Needs.{needs}
 use Prim.Native.Nat.{_-_, _≤_}
 use lib.ListN.{length}
-use Rattle.replay.proofs.print.list_32.Statement.{statement}
-use Rattle.replay.proofs.print.list_32.Tie as tie
+use Rattle.printing.proofs.print.list_16.Statement.{statement}
+use Rattle.printing.proofs.print.list_16.Tie as tie
 
 abbrev Inv-loop : tie.InvT-loop
 Inv-loop values i₀ i = i ≤ length values
@@ -18,14 +18,14 @@ bar-requires c κs = search needs
 loop-holds : tie.Need-loop-holds Inv-loop μ-loop
 loop-holds c = search needs
 
-mul-of-32 : tie.Need-mul-of-32 Inv-loop μ-loop
-mul-of-32 c = search needs
+mul-of-16 : tie.Need-mul-of-16 Inv-loop μ-loop
+mul-of-16 c = search needs
 
-shared-slice-read-of-32 : tie.Need-shared-slice-read-of-32 Inv-loop μ-loop
-shared-slice-read-of-32 c = search needs
+shared-slice-read-of-16 : tie.Need-shared-slice-read-of-16 Inv-loop μ-loop
+shared-slice-read-of-16 c = search needs
 
-of-32-requires : tie.Need-of-32-requires Inv-loop μ-loop
-of-32-requires c κs = search needs
+of-16-requires : tie.Need-of-16-requires Inv-loop μ-loop
+of-16-requires c κs = search needs
 
 entry-requires : tie.Need-entry-requires Inv-loop μ-loop
 entry-requires c κs = search needs
@@ -42,17 +42,17 @@ loop-again c = search needs
 returns : tie.Need-returns Inv-loop μ-loop
 returns c = search needs
 
-pub list-32-spec : {M : Type 1} → statement M
-list-32-spec =
+pub list-16-spec : {M : Type 1} → statement M
+list-16-spec =
     tie.close
     (tie.spec
     Inv-loop
     μ-loop
     bar-requires
     loop-holds
-    mul-of-32
-    shared-slice-read-of-32
-    of-32-requires
+    mul-of-16
+    shared-slice-read-of-16
+    of-16-requires
     entry-requires
     add-i
     loop-less

@@ -6,12 +6,12 @@ use calls::Answer;
 use calls::Reason;
 use libc::STDOUT_FILENO;
 
-pub(crate) fn put(byte: u8) {
+pub fn put(byte: u8) {
     let one = [byte];
     io::write_all(STDOUT_FILENO, &one);
 }
 
-pub(crate) fn word(k: u8) {
+pub fn word(k: u8) {
     let mut i = 0;
     while i < WIDTH {
         letter(letter_of(k, i));
@@ -26,21 +26,21 @@ fn letter(byte: u8) {
 }
 
 // A word or a number with a space before it.
-pub(crate) fn label(k: u8) {
+pub fn label(k: u8) {
     put(b' ');
     word(k);
 }
 
-pub(crate) fn number(n: u64) {
+pub fn number(n: u64) {
     put(b' ');
     io::print_decimal(STDOUT_FILENO, n);
 }
 
-pub(crate) fn byte(n: u8) {
+pub fn byte(n: u8) {
     number(n as u64);
 }
 
-pub(crate) fn signed(n: i64) {
+pub fn signed(n: i64) {
     put(b' ');
     plain_signed(n);
 }
@@ -54,13 +54,13 @@ fn plain_signed(n: i64) {
     }
 }
 
-pub(crate) fn equals() {
+pub fn equals() {
     put(b' ');
     put(b'=');
 }
 
 // The values of a list that are not 0, each with its place.
-pub(crate) fn list(values: &[u64]) {
+pub fn list(values: &[u64]) {
     bar();
     let mut i = 0;
     while i < values.len() {
@@ -69,7 +69,7 @@ pub(crate) fn list(values: &[u64]) {
     }
 }
 
-pub(crate) fn list_16(values: &[u16]) {
+pub fn list_16(values: &[u16]) {
     bar();
     let mut i = 0;
     while i < values.len() {
@@ -82,7 +82,7 @@ fn of_16(n: u16) -> u64 {
     n as u64
 }
 
-pub(crate) fn list_32(values: &[u32]) {
+pub fn list_32(values: &[u32]) {
     bar();
     let mut i = 0;
     while i < values.len() {
@@ -95,7 +95,7 @@ fn of_32(n: u32) -> u64 {
     n as u64
 }
 
-pub(crate) fn list_signed(values: &[i64]) {
+pub fn list_signed(values: &[i64]) {
     bar();
     let mut i = 0;
     while i < values.len() {
@@ -125,7 +125,7 @@ fn signed_entry(place: usize, value: i64) {
     }
 }
 
-pub(crate) fn answered(answer: Answer) {
+pub fn answered(answer: Answer) {
     equals();
     match answer {
         Answer::Yes => label(words::YES),
