@@ -3,40 +3,21 @@
 use Prim.Native.Nat.{ℕ, zero, suc, _+_, _≤_, _<_}
 use mathlib.Core.Path.{_≡_, refl}
 use mathlib.Core.Bool.{cond}
-use mathlib.Core.List.{List, [], _∷_, _++_, append-assoc}
+use mathlib.Core.List.{List, [], _∷_, _++_}
 use native.Mathlib.Numerals.{add-one}
 use native.Mathlib.Omega.{arith}
 use native.Mathlib.Decide.{ℕ-discrete}
-use lib.IntN.{ℤ, pos}
+use lib.IntN.{pos}
 use lib.ListN.{length, getD, length-append}
 use Rattle.book.specs.declared.Book.{Book}
 use Rattle.book.specs.Book.{isJoined}
 use Rattle.apportion.specs.Sum.{sum}
 use Rattle.settlement.specs.declared.Settlement.{Settlement}
 use Rattle.money.specs.Money.{sumℤ}
-use Rattle.text.specs.Text.{bytesOf, decimal, signedDecimal}
-use Rattle.lines.specs.Lines.{line, numberLine, pointsOfOperator, operatorLine, operatorLines, lastLine}
-
-after-name : (name a b c d e : List ℕ) → name ++ a ++ b ++ c ++ d ++ e ≡ name ++ (a ++ b ++ c ++ d ++ e)
-after-name name a b c d e = simp append-assoc
-
--- all of a line but its name
-abbrev pub columns : ℕ → ℕ → ℕ → ℤ → List ℕ
-columns points out received adjustment = numberLine [] points out received adjustment
-
--- a name, and the columns after it
-pub line-named : (name : List ℕ) (points out received : ℕ) (adjustment : ℤ)
-    → numberLine name points out received adjustment ≡ name ++ columns points out received adjustment
-unfolding line
-line-named name points out received adjustment =
-    after-name name (32 ∷ decimal points) (32 ∷ decimal out) (32 ∷ decimal received) (32 ∷ signedDecimal adjustment) (10 ∷ [])
-
--- three columns, and the last with the line's end
-pub columns-parts : (points out received : ℕ) (adjustment : ℤ)
-    → columns points out received adjustment
-    ≡ (32 ∷ decimal points) ++ (32 ∷ decimal out) ++ (32 ∷ decimal received) ++ ((32 ∷ signedDecimal adjustment) ++ (10 ∷ []))
-unfolding line
-columns-parts points out received adjustment = append-assoc ((32 ∷ decimal points) ++ (32 ∷ decimal out) ++ (32 ∷ decimal received)) (32 ∷ signedDecimal adjustment) (10 ∷ [])
+use Rattle.text.specs.Text.{bytesOf, decimal}
+use Rattle.columns.specs.Columns.{pointsOfOperator}
+use Rattle.columns.proofs.ColumnLaws.{columns, line-named}
+use Rattle.lines.specs.Lines.{operatorLine, operatorLines, lastLine}
 
 module _ (s : Settlement) where
   abbrev pub operatorColumns : ℕ → List ℕ

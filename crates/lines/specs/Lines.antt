@@ -1,34 +1,22 @@
 -- The printed settlement: its lines as bytes (01, "The printed settlement").
 -- Assumes nothing.
-use Prim.Native.Nat.{ℕ, zero, suc, _+_, _*_, _^_, _≤_, _<_}
+use Prim.Native.Nat.{ℕ, zero, suc, _+_, _^_, _≤_, _<_}
 use mathlib.Core.Path.{_≡_}
 use mathlib.Core.Bool.{cond}
-use mathlib.Core.List.{List, [], _∷_, _++_}
-use lib.IntN.{ℤ, pos, natAbs}
+use mathlib.Core.List.{List, [], _++_}
+use lib.IntN.{pos, natAbs}
 use lib.ListN.{length, getD}
-use Rattle.calls.specs.Limits.{operators, indicatorCount}
+use Rattle.calls.specs.Limits.{operators}
 use Rattle.book.specs.declared.Book.{Book}
 use Rattle.book.specs.Book.{isJoined}
 use Rattle.apportion.specs.Sum.{sum}
-use Rattle.values.specs.Operators.{table}
 use Rattle.settlement.specs.declared.Settlement.{Settlement}
 use Rattle.money.specs.Money.{sumℤ}
-use Rattle.text.specs.Text.{bytesOf, decimal, signedDecimal}
-
--- "single spaces, each line ended by byte 10"
-unfoldable pub line : List ℕ → List ℕ → List ℕ → List ℕ → List ℕ → List ℕ
-line name points out received adjustment = name ++ (32 ∷ points) ++ (32 ∷ out) ++ (32 ∷ received) ++ (32 ∷ adjustment) ++ (10 ∷ [])
+use Rattle.text.specs.Text.{bytesOf, decimal}
+use Rattle.columns.specs.Columns.{line, numberLine, pointsOfOperator}
 
 unfoldable pub header : List ℕ
 header = line (bytesOf "operator") (bytesOf "points") (bytesOf "out") (bytesOf "in") (bytesOf "adjustment")
-
--- "Points in hundredths, money in cents"
-abbrev pub numberLine : List ℕ → ℕ → ℕ → ℕ → ℤ → List ℕ
-numberLine name points out received adjustment = line name (decimal points) (decimal out) (decimal received) (signedDecimal adjustment)
-
--- an operator's points over all indicators
-unfoldable pub pointsOfOperator : Settlement → ℕ → ℕ
-pointsOfOperator s operator = sum (table indicatorCount (λ (number : ℕ). getD (s .points) (operators * number + operator) 0))
 
 -- "in" and "out" before the limit
 unfoldable pub operatorLine : Settlement → ℕ → List ℕ

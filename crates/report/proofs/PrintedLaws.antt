@@ -27,11 +27,12 @@ use Rattle.money.proofs.Amounts.{pot-most, limit-most}
 use Rattle.gathering.proofs.Gathering.{share-le, pool-le}
 use Rattle.settlement.proofs.SettledLaws.{worth-electricity, settles-exactly, settles-ranged, settled-so, balanced-if-settles}
 use Rattle.text.specs.Text.{bytesOf, decimal}
-use Rattle.lines.specs.Lines.{line, header, pointsOfOperator, operatorLine, operatorLines, lastLine, printed}
+use Rattle.columns.specs.Columns.{line, pointsOfOperator}
+use Rattle.lines.specs.Lines.{header, operatorLine, operatorLines, lastLine, printed}
 use Rattle.report.specs.Report.{textOf}
 use Rattle.lines.specs.Lines.{Printable}
 use Rattle.text.proofs.DigitLaws.{decimal-length, signed-length}
-use Rattle.lines.proofs.SumLaws.{points-most}
+use Rattle.columns.proofs.SumLaws.{points-most}
 
 line-length : (name points out received adjustment : List ℕ)
     → length (line name points out received adjustment) ≡ length name + length points + length out + length received + length adjustment + 5

@@ -1,7 +1,8 @@
 -- `lines::lines::put_lines` meets its contract.
 -- Assumes nothing.
 use Rattle.text.specs.Text.{bytesOf}
-use Rattle.lines.specs.Lines.{line, header, operatorLines, lastLine, printed}
+use Rattle.columns.specs.Columns.{line}
+use Rattle.lines.specs.Lines.{header, operatorLines, lastLine, printed}
 use Rattle.text.proofs.WrittenLaws.{three-first, three-second, three-third, put-three}
 use borrow.Author.Needs.{needs}
 use Rattle.lines.proofs.lines.put_lines.Statement.{statement}

@@ -1,12 +1,12 @@
--- `lines::lines::put_adjustment` meets its contract.
+-- `columns::put_adjustment` meets its contract.
 -- Assumes nothing.
 use mathlib.Core.List.{[], _∷_}
 use Rattle.text.specs.Text.{signedDecimal}
 use Rattle.text.proofs.WrittenLaws.{three-second, three-third, put-three}
 use Rattle.text.proofs.SignLaws.{again}
 use borrow.Author.Needs.{needs}
-use Rattle.lines.proofs.lines.put_adjustment.Statement.{statement}
-use Rattle.lines.proofs.lines.put_adjustment.Tie as tie
+use Rattle.columns.proofs.put_adjustment.Statement.{statement}
+use Rattle.columns.proofs.put_adjustment.Tie as tie
 
 put-byte-requires : tie.Need-put-byte-requires
 put-byte-requires c κs = search needs

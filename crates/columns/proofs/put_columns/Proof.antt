@@ -1,10 +1,10 @@
--- `lines::lines::put_columns` meets its contract.
+-- `columns::put_columns` meets its contract.
 -- Assumes nothing.
-use Rattle.lines.proofs.ColumnLaws.{points-room, out-room, received-room, adjustment-room, columns-put}
+use Rattle.columns.proofs.ColumnLaws.{points-room, out-room, received-room, adjustment-room, columns-put}
 use Rattle.text.proofs.SignLaws.{again}
 use borrow.Author.Needs.{needs}
-use Rattle.lines.proofs.lines.put_columns.Statement.{statement}
-use Rattle.lines.proofs.lines.put_columns.Tie as tie
+use Rattle.columns.proofs.put_columns.Statement.{statement}
+use Rattle.columns.proofs.put_columns.Tie as tie
 
 -- what is put stands first, so that a wrong column is told before the room for it
 returns : tie.Need-returns

@@ -1,12 +1,34 @@
--- The columns of a line put one after the other: the room that each has, and what they are together.
+-- A line as its name and its columns, and the columns put one after the other: the room that each has, and what they are together.
 -- Assumes nothing.
 use Prim.Native.Nat.{ℕ, _+_, _≤_}
-use mathlib.Core.List.{List, [], _∷_, _++_}
+use mathlib.Core.Path.{_≡_}
+use mathlib.Core.List.{List, [], _∷_, _++_, append-assoc}
 use lib.IntN.{ℤ}
 use lib.ListN.{length}
 use Rattle.text.specs.Text.{decimal, signedDecimal}
 use Rattle.text.proofs.WrittenLaws.{Put, room-first, room-after, put-then, three-first, three-second, three-third, put-three}
-use Rattle.lines.proofs.LineLaws.{columns, columns-parts}
+use Rattle.columns.specs.Columns.{line, numberLine}
+
+after-name : (name a b c d e : List ℕ) → name ++ a ++ b ++ c ++ d ++ e ≡ name ++ (a ++ b ++ c ++ d ++ e)
+after-name name a b c d e = simp append-assoc
+
+-- all of a line but its name
+abbrev pub columns : ℕ → ℕ → ℕ → ℤ → List ℕ
+columns points out received adjustment = numberLine [] points out received adjustment
+
+-- a name, and the columns after it
+pub line-named : (name : List ℕ) (points out received : ℕ) (adjustment : ℤ)
+    → numberLine name points out received adjustment ≡ name ++ columns points out received adjustment
+unfolding line
+line-named name points out received adjustment =
+    after-name name (32 ∷ decimal points) (32 ∷ decimal out) (32 ∷ decimal received) (32 ∷ signedDecimal adjustment) (10 ∷ [])
+
+-- three columns, and the last with the line's end
+columns-parts : (points out received : ℕ) (adjustment : ℤ)
+    → columns points out received adjustment
+    ≡ (32 ∷ decimal points) ++ (32 ∷ decimal out) ++ (32 ∷ decimal received) ++ ((32 ∷ signedDecimal adjustment) ++ (10 ∷ []))
+unfolding line
+columns-parts points out received adjustment = append-assoc ((32 ∷ decimal points) ++ (32 ∷ decimal out) ++ (32 ∷ decimal received)) (32 ∷ signedDecimal adjustment) (10 ∷ [])
 
 -- a number after a space
 abbrev column : ℕ → List ℕ

@@ -1,11 +1,11 @@
--- `lines::lines::put_column` meets its contract.
+-- `columns::put_column` meets its contract.
 -- Assumes nothing.
 use mathlib.Core.List.{[], _∷_}
 use Rattle.text.specs.Text.{decimal}
 use Rattle.text.proofs.WrittenLaws.{put-then}
 use borrow.Author.Needs.{needs}
-use Rattle.lines.proofs.lines.put_column.Statement.{statement}
-use Rattle.lines.proofs.lines.put_column.Tie as tie
+use Rattle.columns.proofs.put_column.Statement.{statement}
+use Rattle.columns.proofs.put_column.Tie as tie
 
 put-byte-requires : tie.Need-put-byte-requires
 put-byte-requires c κs = search needs

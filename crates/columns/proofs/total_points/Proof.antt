@@ -1,4 +1,4 @@
--- `lines::lines::total_points` meets its contract. The loop's invariant: t is the sum of the points passed.
+-- `columns::total_points` meets its contract. The loop's invariant: t is the sum of the points passed.
 -- Assumes nothing.
 use mathlib.Core.Path.{_≡_, refl}
 use Prim.Native.Nat.{_-_, _≤_}
@@ -6,9 +6,9 @@ use native.Mathlib.Omega.{arith}
 use lib.ListN.{length}
 use borrow.Author.Needs.{needs}
 use Rattle.indicators.specs.Points.{pointPlaces}
-use Rattle.lines.proofs.SumLaws.{Summing, summing-none, summing-most, summing-more, summing-all}
-use Rattle.lines.proofs.lines.total_points.Statement.{statement}
-use Rattle.lines.proofs.lines.total_points.Tie as tie
+use Rattle.columns.proofs.SumLaws.{Summing, summing-none, summing-most, summing-more, summing-all}
+use Rattle.columns.proofs.total_points.Statement.{statement}
+use Rattle.columns.proofs.total_points.Tie as tie
 
 abbrev Inv-loop : tie.InvT-loop
 Inv-loop points t₀ i₀ t i = (i ≤ pointPlaces) × Summing points i t

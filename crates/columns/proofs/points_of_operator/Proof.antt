@@ -1,13 +1,13 @@
--- `lines::lines::points_of_operator` meets its contract. The loop's invariant: t is the sum of the points passed.
+-- `columns::points_of_operator` meets its contract. The loop's invariant: t is the sum of the points passed.
 -- Assumes nothing.
 use Prim.Native.Nat.{_-_, _≤_}
 use native.Mathlib.Omega.{arith}
 use borrow.Author.Needs.{needs}
 use Rattle.calls.specs.Limits.{indicatorCount}
-use Rattle.lines.specs.Lines.{pointsOfOperator}
-use Rattle.lines.proofs.SumLaws.{Summing, summing-none, summing-most, summing-more, summing-all, operatorsPoints, six, point-at, points-most}
-use Rattle.lines.proofs.lines.points_of_operator.Statement.{statement}
-use Rattle.lines.proofs.lines.points_of_operator.Tie as tie
+use Rattle.columns.specs.Columns.{pointsOfOperator}
+use Rattle.columns.proofs.SumLaws.{Summing, summing-none, summing-most, summing-more, summing-all, operatorsPoints, six, point-at, points-most}
+use Rattle.columns.proofs.points_of_operator.Statement.{statement}
+use Rattle.columns.proofs.points_of_operator.Tie as tie
 
 abbrev Inv-loop : tie.InvT-loop
 Inv-loop operator points t₀ number₀ t number = (number ≤ indicatorCount) × Summing (operatorsPoints points operator) number t

@@ -1,0 +1,2 @@
+-- The definitions of `columns`.
+pub mod Columns
