@@ -1,9 +1,9 @@
 -- The definitions of `calls`, and of the crates that they rest on, opened by one name, for cases that are computed.
 -- Assumes nothing.
 use Rattle.calls.specs.Answers.{onAnswer, isRefused, firstOf}
-use Rattle.calls.specs.Call.{timesInRange, weightInRange, detailsInRange, secondsOf, yearOf, outcome, interruptionEntries, factsOf}
+use Rattle.calls.specs.Call.{timesInRange, weightInRange, detailsInRange, secondsOf, yearOf, outcome, measuredEntries, countFigure, interruptionEntries, factsOf}
 use Rattle.calls.specs.Masks.{has, including, excluding, remasked}
 
 unfoldable pub calls-opened : Unit {0}
-unfolding onAnswer isRefused firstOf timesInRange weightInRange detailsInRange secondsOf yearOf outcome interruptionEntries factsOf has including excluding remasked
+unfolding onAnswer isRefused firstOf timesInRange weightInRange detailsInRange secondsOf yearOf outcome measuredEntries countFigure interruptionEntries factsOf has including excluding remasked
 calls-opened = tt

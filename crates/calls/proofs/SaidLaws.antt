@@ -2,7 +2,7 @@
 -- Assumes nothing.
 use Prim.Native.Nat.{ℕ, _-_, _<_}
 use mathlib.Core.Logic.{inl, inr}
-use mathlib.Core.Bool.{false}
+use mathlib.Core.Bool.{false, true≢false}
 use native.Mathlib.Omega.{arith}
 use types.Run.{OneOf}
 use denote.Enum.Declared.{tagOf}
@@ -76,3 +76,10 @@ told-accepted Yes tag = refl
 told-accepted (Counted year) tag = refl
 told-accepted (LeftOut reason) tag = refl
 told-accepted (Refused refusal) tag = absurd (omega (arith, first-three 3 tag))
+
+-- of two values the first is kept where a call is refused
+module _ {A B : Type 0} (refused otherwise : B) where
+  pub otherwise-given : (answer : Said A) → isRefused answer ≡ false → onAnswer (λ (number : ℕ). refused) (λ (value : A). otherwise) answer ≡ otherwise
+  unfolding isRefused onAnswer
+  otherwise-given (refused-by number) e = absurd (true≢false e)
+  otherwise-given (accepted value) e = refl

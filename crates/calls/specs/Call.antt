@@ -2,13 +2,13 @@
 -- Assumes nothing.
 use Prim.Native.Nat.{ℕ, _+_, _*_, _/_}
 use mathlib.Core.Bool.{Bool, true, false, cond, _&&_}
-use mathlib.Core.List.{List, [], _∷_}
+use mathlib.Core.List.{List, [], _∷_, _++_}
 use lib.Dec.{ltb, leb, eqb}
 use lib.IntN.{ℤ, pos, negℤ, natAbs, _-ℤ_}
 use lib.Signed.{leZ}
 use Rattle.calls.specs.declared.Call.{Call}
 use Rattle.calls.specs.declared.Call.the-variants.{Join, Setting, Interruption, Amount, Mark, Rates, Index}
-use Rattle.calls.specs.Limits.{years, figureCount, settingCount, indicatorCount, indexCount, settingLimit, rateLimit, indexLeast, indexMost, yearLength, lastEnd, startBefore, weightLimit, shortMost}
+use Rattle.calls.specs.Limits.{years, firstCount, figureCount, settingCount, indicatorCount, indexCount, settingLimit, rateLimit, indexLeast, indexMost, yearLength, lastEnd, startBefore, weightLimit, shortMost}
 use Rattle.calls.specs.Answers.{Acceptance, yes-said, counted-in, left-out-as-short, left-out-under}
 
 -- "A join therefore sets all six marks of the operator" (02, point 1): whether it sets the one at an indicator; book, history and writer go by
@@ -51,13 +51,27 @@ pub record Entry : Type 0 where
 abbrev pub entry : ℕ → ℕ → ℕ → ℕ → ℕ → Entry
 entry operator year figure sign value = record { operator = operator; year = year; figure = figure; sign = sign; value = value }
 
--- "Counted: weight, and weight times seconds, are added or subtracted. Left out: the book stays."; figures 0 and 1 of MV, 2 and 3 of LV
-unfoldable pub interruptionEntries : ℕ → ℕ → ℕ → ℕ → ℕ → Acceptance → List Entry
-interruptionEntries operator sign level weight seconds (counted-in year) =
+-- "Counted: weight, and weight times seconds, are added or subtracted. Left out: the book stays."; figures 0 and 1 of MV, 2 and 3 of LV.
+-- Since 02, point 2, what stays are figures 0 to 7
+unfoldable pub measuredEntries : ℕ → ℕ → ℕ → ℕ → ℕ → Acceptance → List Entry
+measuredEntries operator sign level weight seconds (counted-in year) =
     entry operator year (2 * level) sign weight ∷ entry operator year (2 * level + 1) sign (weight * seconds) ∷ []
-interruptionEntries operator sign level weight seconds yes-said = []
-interruptionEntries operator sign level weight seconds left-out-as-short = []
-interruptionEntries operator sign level weight seconds (left-out-under cause) = []
+measuredEntries operator sign level weight seconds yes-said = []
+measuredEntries operator sign level weight seconds left-out-as-short = []
+measuredEntries operator sign level weight seconds (left-out-under cause) = []
+
+-- "how many interruptions counted, and how many were left out as short, planned, coupled or exceptional" (02, point 2): the figure of each
+-- outcome, 8 to 12 in that order; causes 1, 2 and 3 are planned, coupled and exceptional. No interruption is answered by a plain yes
+unfoldable pub countFigure : Acceptance → ℕ
+countFigure (counted-in year) = firstCount
+countFigure left-out-as-short = firstCount + 1
+countFigure (left-out-under cause) = firstCount + 1 + cause
+countFigure yes-said = firstCount
+
+-- "Every accepted interruption adds or subtracts 1 in one of them" (02, point 2), in the year of its end, besides what it measures
+unfoldable pub interruptionEntries : ℕ → ℕ → ℕ → ℕ → ℕ → ℕ → Acceptance → List Entry
+interruptionEntries operator sign level weight seconds year answer =
+    measuredEntries operator sign level weight seconds answer ++ (entry operator year (countFigure answer) sign 1 ∷ [])
 
 -- what is to be known of a call
 pub record Facts : Type 0 where
@@ -80,7 +94,7 @@ factsOf (Setting operator which value) = facts [] (operator ∷ []) (ltb which s
 factsOf (Interruption operator sign level cause start end weight) =
     let answer : Acceptance = outcome cause (secondsOf start end) (yearOf end) in
     facts [] (operator ∷ []) (detailsInRange sign level cause weight && timesInRange start end)
-    (interruptionEntries operator sign level weight (secondsOf start end) answer) answer
+    (interruptionEntries operator sign level weight (secondsOf start end) (yearOf end) answer) answer
 factsOf (Amount operator year figure sign value) =
     facts [] (operator ∷ []) (ltb year years && ltb figure figureCount && leb sign 1) (entry operator year figure sign value ∷ []) yes-said
 factsOf (Mark operator indicator mark) = facts [] (operator ∷ []) (ltb indicator indicatorCount && leb mark 1) [] yes-said

@@ -9,8 +9,15 @@ operators = 16
 abbrev pub years : ℕ
 years = 3
 
+-- "Five count figures, 8 to 12 in that order, join the eight in the book" (02, point 2): the first of them, and how many they are
+abbrev pub firstCount : ℕ
+firstCount = 8
+
+abbrev pub countFigures : ℕ
+countFigures = 5
+
 abbrev pub figureCount : ℕ
-figureCount = 8
+figureCount = firstCount + countFigures
 
 -- cabins, active access points, income
 abbrev pub settingCount : ℕ

@@ -7,15 +7,15 @@ use mathlib.Core.Bool.{Bool, true, false, cond, not, _&&_, _||_, true≢false}
 use mathlib.Core.List.{List, [], _∷_, _++_}
 use native.Mathlib.Omega.{arith}
 use lib.Dec.{leb}
-use borrow.Author.Tests.{leb-false}
+use borrow.Author.Tests.{leb-true, leb-false}
 use Rattle.calls.specs.declared.Call.{Call}
 use Rattle.calls.specs.declared.Call.the-variants.{Join, Setting, Interruption, Amount, Mark, Rates, Index}
 use Rattle.calls.specs.Limits.{operators, years, figureCount, shortMost}
 use Rattle.calls.specs.Answers.{Acceptance, counted-in, left-out-as-short, left-out-under}
-use Rattle.calls.specs.Call.{Entry, yearOf, secondsOf, outcome, interruptionEntries, factsOf}
+use Rattle.calls.specs.Call.{Entry, yearOf, secondsOf, outcome, measuredEntries, countFigure, interruptionEntries, factsOf}
 use Rattle.ledger.specs.Table.{some}
 use Rattle.ledger.proofs.AdmissionLaws.{isUnknown, lacksOperator}
-use Rattle.calls.proofs.Flags.{or-false-right}
+use Rattle.calls.proofs.Flags.{and-right, or-false-right}
 use Rattle.calls.proofs.RangeLaws.{Ranges}
 
 -- what holds of every element of a list
@@ -48,28 +48,30 @@ module _ (operator sign level weight seconds year cause : ℕ) where
   abbrev judged : Bool → Bool → Acceptance
   judged short excused = cond short left-out-as-short (cond excused (left-out-under cause) (counted-in year))
 
-  judged-within : (t u : Bool) → operator < operators → sign ≤ 1 → level ≤ 1 → year < years
-      → All Within (interruptionEntries operator sign level weight seconds (judged t u))
-  unfolding interruptionEntries
-  judged-within true u lo ls ll ly = tt
-  judged-within false true lo ls ll ly = tt
-  judged-within false false lo ls ll ly = (
+  abbrev judgedEntries : Bool → Bool → List Entry
+  judgedEntries short excused = interruptionEntries operator sign level weight seconds year (judged short excused)
+
+  judged-within : (t u : Bool) → (u ≡ true → cause ≤ 3) → operator < operators → sign ≤ 1 → level ≤ 1 → year < years → All Within (judgedEntries t u)
+  unfolding interruptionEntries measuredEntries countFigure
+  judged-within true u most lo ls ll ly = (record { operator-lt = lo; year-lt = ly; figure-lt = omega arith; sign-le = ls }, tt)
+  judged-within false true most lo ls ll ly = (record { operator-lt = lo; year-lt = ly; figure-lt = omega (arith, most refl); sign-le = ls }, tt)
+  judged-within false false most lo ls ll ly = (
     record { operator-lt = lo; year-lt = ly; figure-lt = omega arith; sign-le = ls },
-    (record { operator-lt = lo; year-lt = ly; figure-lt = omega arith; sign-le = ls }, tt),
+    (record { operator-lt = lo; year-lt = ly; figure-lt = omega arith; sign-le = ls },
+        (record { operator-lt = lo; year-lt = ly; figure-lt = omega arith; sign-le = ls }, tt)),
   )
 
-  judged-distinct : (t u : Bool) → Distinct (interruptionEntries operator sign level weight seconds (judged t u))
-  unfolding interruptionEntries
-  judged-distinct true u = tt
-  judged-distinct false true = tt
-  judged-distinct false false = (((λ e. omega (arith, e)), tt), (tt, tt))
+  judged-distinct : (t u : Bool) → level ≤ 1 → Distinct (judgedEntries t u)
+  unfolding interruptionEntries measuredEntries countFigure
+  judged-distinct true u ll = (tt, tt)
+  judged-distinct false true ll = (tt, tt)
+  judged-distinct false false ll = (((λ e. omega (arith, e)), ((λ e. omega (arith, e, ll)), tt)), (((λ e. omega (arith, e, ll)), tt), (tt, tt)))
 
-  judged-joined : (joined : ℕ → Bool) (t u : Bool) → joined operator ≡ true
-      → All (λ (entry : Entry). joined (entry .operator) ≡ true) (interruptionEntries operator sign level weight seconds (judged t u))
-  unfolding interruptionEntries
-  judged-joined joined true u there = tt
-  judged-joined joined false true there = tt
-  judged-joined joined false false there = (there, (there, tt))
+  judged-joined : (joined : ℕ → Bool) (t u : Bool) → joined operator ≡ true → All (λ (entry : Entry). joined (entry .operator) ≡ true) (judgedEntries t u)
+  unfolding interruptionEntries measuredEntries
+  judged-joined joined true u there = (there, tt)
+  judged-joined joined false true there = (there, tt)
+  judged-joined joined false false there = (there, (there, (there, tt)))
 
 pub entries-within : (call : Call) → isUnknown call ≡ false → Ranges call → All Within (factsOf call .entries)
 unfolding factsOf some outcome
@@ -77,23 +79,23 @@ entries-within (Join operator) known r = tt
 entries-within (Setting operator which value) known r = tt
 entries-within (Interruption operator sign level cause start end weight) known r =
     judged-within operator sign level weight (secondsOf start end) (yearOf end) cause (leb (secondsOf start end) shortMost) (leb 1 cause && leb cause 3)
-    (known-lt operator known) (r .0) (r .1) (r .2)
+    (λ e. leb-true cause 3 (and-right (leb 1 cause) _ e)) (known-lt operator known) (r .0) (r .1) (r .2)
 entries-within (Amount operator year figure sign value) known r =
     (record { operator-lt = known-lt operator known; year-lt = r .0; figure-lt = r .1; sign-le = r .2 }, tt)
 entries-within (Mark operator indicator mark) known r = tt
 entries-within (Rates pot cap) known r = tt
 entries-within (Index number value) known r = tt
 
-pub entries-distinct : (call : Call) → Distinct (factsOf call .entries)
+pub entries-distinct : (call : Call) → Ranges call → Distinct (factsOf call .entries)
 unfolding factsOf outcome
-entries-distinct (Join operator) = tt
-entries-distinct (Setting operator which value) = tt
-entries-distinct (Interruption operator sign level cause start end weight) =
-    judged-distinct operator sign level weight (secondsOf start end) (yearOf end) cause (leb (secondsOf start end) shortMost) (leb 1 cause && leb cause 3)
-entries-distinct (Amount operator year figure sign value) = (tt, tt)
-entries-distinct (Mark operator indicator mark) = tt
-entries-distinct (Rates pot cap) = tt
-entries-distinct (Index number value) = tt
+entries-distinct (Join operator) r = tt
+entries-distinct (Setting operator which value) r = tt
+entries-distinct (Interruption operator sign level cause start end weight) r =
+    judged-distinct operator sign level weight (secondsOf start end) (yearOf end) cause (leb (secondsOf start end) shortMost) (leb 1 cause && leb cause 3) (r .1)
+entries-distinct (Amount operator year figure sign value) r = (tt, tt)
+entries-distinct (Mark operator indicator mark) r = tt
+entries-distinct (Rates pot cap) r = tt
+entries-distinct (Index number value) r = tt
 
 pub entries-joined : (joined : ℕ → Bool) (call : Call) → lacksOperator joined call ≡ false
     → All (λ (entry : Entry). joined (entry .operator) ≡ true) (factsOf call .entries)

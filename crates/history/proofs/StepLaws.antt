@@ -252,10 +252,10 @@ module _ (b : Book) (h : History) (now : Agrees b h) where
       }
   changed-agrees (Interruption operator sign level cause start end weight) passed =
       let call : Call = Interruption operator sign level cause start end weight in
-      entries-agree (factsOf call .entries) b h now (entries-distinct call) (call-enters (h .joined) (total h) call passed)
+      entries-agree (factsOf call .entries) b h now (entries-distinct call (passed .in-range)) (call-enters (h .joined) (total h) call passed)
   changed-agrees (Amount operator year figure sign value) passed =
       let call : Call = Amount operator year figure sign value in
-      entries-agree (factsOf call .entries) b h now (entries-distinct call) (call-enters (h .joined) (total h) call passed)
+      entries-agree (factsOf call .entries) b h now (entries-distinct call (passed .in-range)) (call-enters (h .joined) (total h) call passed)
   changed-agrees (Mark operator indicator mark) passed =
       let lt = known-lt operator (passed .known) in
       record {

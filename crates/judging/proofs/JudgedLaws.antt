@@ -1,40 +1,35 @@
--- What a left-out and a counted interruption enter and answer.
+-- What a left-out interruption enters, and the causes under which none is left out.
 -- Assumes nothing.
 use mathlib.Core.Path.{_≡_, refl}
 use mathlib.Core.Bool.{false, _&&_}
-use mathlib.Core.List.{[]}
-use Prim.Native.Nat.{ℕ, zero, suc}
+use mathlib.Core.List.{[], _∷_}
+use Prim.Native.Nat.{ℕ, zero, suc, _<_}
 use native.Mathlib.Omega.{arith}
 use lib.Dec.{leb}
-use lib.IntN.{ℤ}
 use borrow.Author.Tests.{lt-leb}
-use Rattle.calls.specs.declared.Call.{Call}
-use Rattle.calls.specs.declared.Call.the-variants.{Interruption}
 use Rattle.calls.specs.declared.Reason.{Reason}
 use Rattle.calls.specs.declared.Reason.the-variants.{Short, Planned, Coupled, Exceptional}
-use Rattle.judging.specs.declared.Judged.{Judged}
+use Rattle.calls.specs.Limits.{figureCount}
 use Rattle.calls.specs.Answers.{leftOutAs}
-use Rattle.calls.specs.Call.{secondsOf, yearOf, interruptionEntries, factsOf}
-use Rattle.judging.specs.Steps.{judgedSays, JudgedAs}
+use Rattle.calls.specs.Call.{entry, measuredEntries, countFigure, interruptionEntries}
 use Rattle.calls.proofs.Flags.{and-false-right}
 
-module _ (operator sign level cause weight : ℕ) (start end : ℤ) where
-  abbrev pub interruptionCall : Call
-  interruptionCall = Interruption operator sign level cause start end weight
+-- a left-out interruption enters its count, and nothing else
+pub left-out-counted : (operator sign level weight seconds year : ℕ) (reason : Reason)
+    → interruptionEntries operator sign level weight seconds year (leftOutAs reason) ≡ entry operator year (countFigure (leftOutAs reason)) sign 1 ∷ []
+unfolding interruptionEntries measuredEntries
+left-out-counted operator sign level weight seconds year Short = refl
+left-out-counted operator sign level weight seconds year Planned = refl
+left-out-counted operator sign level weight seconds year Coupled = refl
+left-out-counted operator sign level weight seconds year Exceptional = refl
 
-  -- what is judged decides what is entered: nothing where the interruption is left out
-  pub entries-judged : (judged : Judged) → JudgedAs cause (secondsOf start end) judged
-      → factsOf interruptionCall .entries ≡ interruptionEntries operator sign level weight (secondsOf start end) (judgedSays (yearOf end) judged)
-  unfolding factsOf
-  entries-judged judged agrees = rw (← agrees (yearOf end)) refl
-
-pub left-out-none : (operator sign level weight seconds : ℕ) (reason : Reason)
-    → interruptionEntries operator sign level weight seconds (leftOutAs reason) ≡ []
-unfolding interruptionEntries
-left-out-none operator sign level weight seconds Short = refl
-left-out-none operator sign level weight seconds Planned = refl
-left-out-none operator sign level weight seconds Coupled = refl
-left-out-none operator sign level weight seconds Exceptional = refl
+-- its count is a figure of the book
+pub left-out-known : (reason : Reason) → countFigure (leftOutAs reason) < figureCount
+unfolding countFigure
+left-out-known Short = omega arith
+left-out-known Planned = omega arith
+left-out-known Coupled = omega arith
+left-out-known Exceptional = omega arith
 
 -- any cause but 1, 2 and 3
 pub other-cause : (cause : ℕ) → (cause ≡ 1 → ⊥) → (cause ≡ 2 → ⊥) → (cause ≡ 3 → ⊥) → leb 1 cause && leb cause 3 ≡ false

@@ -1,9 +1,11 @@
-// An interruption that is in range: its year and length, and whether it counts or is left out and why.
+// An interruption that is in range: its year and length, whether it counts or is left out and why, and the figure that counts it.
 ghost use mathlib.Core.Path.{_≡_};
 ghost use mathlib.Core.Bool.{true};
-ghost use Rattle.calls.specs.Call.{timesInRange, yearOf, secondsOf};
+ghost use Rattle.calls.specs.Answers.{leftOutAs};
+ghost use Rattle.calls.specs.Call.{timesInRange, yearOf, secondsOf, countFigure};
 ghost use Rattle.judging.specs.Steps.{JudgedAs};
 use crate::Judged;
+use calls::FIRST_COUNT;
 use calls::Reason;
 
 const YEAR_LENGTH: u64 = 31536000;
@@ -45,4 +47,16 @@ pub fn judge(cause: u8, seconds: u64) -> Judged
         return Judged::LeftOut(Reason::Exceptional);
     }
     Judged::Counts
+}
+
+// The figure that counts those left out for a reason; figure FIRST_COUNT counts those that count.
+pub fn count_figure(reason: Reason) -> u8
+    ensures { λ r. ⌜ r ≡ countFigure (leftOutAs reason) ⌝ }
+{
+    match reason {
+        Reason::Short => FIRST_COUNT + 1,
+        Reason::Planned => FIRST_COUNT + 2,
+        Reason::Coupled => FIRST_COUNT + 3,
+        Reason::Exceptional => FIRST_COUNT + 4,
+    }
 }

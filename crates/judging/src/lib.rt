@@ -1,9 +1,11 @@
-// What is judged before anything is entered: an interruption's year and length and whether it counts, and whether a figure takes a value.
+// What is judged before anything is entered: an interruption's year and length, whether it counts and in which figure it is counted, and
+// whether a figure takes a value.
 mod figures;
 mod interruptions;
 
 use calls::Reason;
 pub use figures::move_figure;
+pub use interruptions::count_figure;
 pub use interruptions::judge;
 pub use interruptions::seconds_of;
 pub use interruptions::year_of;

@@ -6,9 +6,9 @@ use mathlib.Core.Bool.{Bool, true, false, _||_, false≢true}
 use mathlib.Core.List.{List, [], _∷_, _++_}
 use Prim.Native.Nat.{ℕ}
 use lib.ListN.{getD, set}
-use lib.Seq.{getD-set-other}
+use lib.Seq.{getD-set-other, set-getD}
 use Rattle.book.specs.declared.Book.{Book}
-use Rattle.calls.specs.Answers.{isRefused, onAnswer, firstOf, Acceptance}
+use Rattle.calls.specs.Answers.{Said, isRefused, onAnswer, firstOf, Acceptance}
 use Rattle.calls.specs.Call.{Entry}
 use Rattle.calls.proofs.Flags.{or-false-right}
 use Rattle.book.specs.Book.{withFigures, figureSlot, figureOf}
@@ -16,7 +16,7 @@ use Rattle.ledger.specs.Table.{some, passesLimit, fallsBelow}
 use Rattle.ledger.specs.Calls.{Outcome, entered, enterAll, outcomeOf}
 use Rattle.ledger.specs.Steps.{entering}
 use Rattle.ledger.proofs.AdmissionLaws.{refusedCall, acceptedCall}
-use Rattle.ledger.proofs.MoveLaws.{passes, falls, no-limit, none-passes, Signed, placed, figureAt, MovesAt}
+use Rattle.ledger.proofs.MoveLaws.{passes, falls, no-limit, none-passes, Signed, placed, figureAt, MovesAt, refused-above, refused-below, entered-all}
 
 -- none of a list's entries is of a place
 abbrev pub Apart : List Entry → ℕ → Type 0
@@ -121,3 +121,32 @@ module _ (b : Book) (list : List Entry) (entry : Entry) (value : Acceptance) whe
         go true t same = absurd (false≢true (sym (ap (λ (o : Outcome). isRefused (o .said)) same)))
         go false true same = absurd (false≢true (sym (ap (λ (o : Outcome). isRefused (o .said)) same)))
         go false false same = ap (λ (o : Outcome). acceptedCall (stored (o .book)) value) same
+
+    -- after what the others are answered and leave: the last one's figure moves, or stays where they are refused
+    pub last-follows : Apart list (placed b entry) → (told : Said Acceptance) (after : Book) → told ≡ entering b list value .said → after ≡ entering b list value .book
+        → (told ≡ entering b both value .said)
+        × (withFigures after (set (after .figures) (placed b entry) (onAnswer (λ (number : ℕ). figureAt b entry) (λ (v : Acceptance). new) told)) ≡ entering b both value .book)
+    unfolding onAnswer figureOf
+    last-follows apart told after told-is after-is =
+        rw (told-is, after-is) (go (some (passesLimit (figureOf b)) list) (some (fallsBelow (figureOf b)) list) refl refl)
+      where
+        follows : Outcome → Outcome
+        follows o =
+            record {
+              book = withFigures (o .book) (set (o .book .figures) (placed b entry) (onAnswer (λ (number : ℕ). figureAt b entry) (λ (v : Acceptance). new) (o .said)));
+              said = o .said;
+            }
+
+        same : entering b both value ≡ follows (entering b list value) → (entering b list value .said ≡ entering b both value .said) × (follows (entering b list value) .book ≡ entering b both value .book)
+        same e = rw e (refl, refl)
+
+        stayed : (number : ℕ) → entering b list value ≡ refusedCall b number → entering b both value ≡ follows (entering b list value)
+        stayed number e = rw (last-refused number e, e, set-getD (b .figures) (placed b entry) 0) refl
+
+        go : (s t : Bool) → some (passesLimit (figureOf b)) list ≡ s → some (fallsBelow (figureOf b)) list ≡ t
+            → (entering b list value .said ≡ entering b both value .said) × (follows (entering b list value) .book ≡ entering b both value .book)
+        go true t p f = same (stayed 8 (refused-above b list value p))
+        go false true p f = same (stayed 9 (refused-below b list value p f))
+        go false false p f =
+            let e = entered-all b list value p f in
+            same (last-moved (enterAll b list) apart e ∙ rw e refl)

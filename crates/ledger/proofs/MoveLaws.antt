@@ -166,7 +166,7 @@ pub nothing-entered : (b : Book) (value : Acceptance) → entering b [] value �
 unfolding enterAll
 nothing-entered b value = entered-all b [] value (some-none _) (some-none _)
 
--- a figure and the next one stand apart
-pub slots-apart : (operator year figure : ℕ) → figureSlot operator year figure ≢ figureSlot operator year (figure + 1)
+-- figures of one operator and year stand apart
+pub slots-apart : (operator year figure other : ℕ) → figure ≢ other → figureSlot operator year figure ≢ figureSlot operator year other
 unfolding figureSlot
-slots-apart operator year figure same = omega (arith, same)
+slots-apart operator year figure other differ same = differ (omega (arith, same))

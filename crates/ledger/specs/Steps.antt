@@ -8,7 +8,7 @@ use lib.Dec.{leb}
 use Rattle.calls.specs.declared.Answer.{Answer}
 use Rattle.calls.specs.Limits.{operators, years, figureCount, weightLimit, longest}
 use Rattle.calls.specs.Masks.{has}
-use Rattle.calls.specs.Answers.{firstOf, Acceptance, said}
+use Rattle.calls.specs.Answers.{accepted, firstOf, Acceptance, said}
 use Rattle.calls.specs.Call.{Entry}
 use Rattle.book.specs.declared.Book.{Book}
 use Rattle.book.specs.Book.{withFigures, figureOf}
@@ -19,8 +19,8 @@ use Rattle.ledger.specs.Calls.{Outcome, enterAll, outcomeOf}
 unfoldable pub memberLines : ℕ → ℕ → Bool → List (ℕ × Bool)
 memberLines joined operator valid = (4, leb operators operator) ∷ (5, not valid) ∷ (7, not (has joined operator)) ∷ []
 
--- an amount's values other than its u64
-pub record AmountInRange (operator year figure sign : ℕ) : Type 0 where
+-- an entry's values other than its u64
+pub record EntryInRange (operator year figure sign : ℕ) : Type 0 where
   pub operator-known : operator < operators
   pub year-known : year < years
   pub figure-known : figure < figureCount
@@ -45,3 +45,7 @@ entering b list value =
 abbrev pub Enters : List ℕ → List Entry → Acceptance → Answer → List ℕ → Type 0
 Enters old list value answer new =
     (b : Book) → (said answer ≡ entering (withFigures b old) list value .said) × (withFigures b new ≡ entering (withFigures b old) list value .book)
+
+-- one entry, of a call that is answered so where nothing refuses it
+abbrev pub EntersOne : List ℕ → Entry → Answer → Answer → List ℕ → Type 0
+EntersOne old one unless-refused answer new = (value : Acceptance) → said unless-refused ≡ accepted value → Enters old (one ∷ []) value answer new

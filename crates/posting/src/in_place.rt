@@ -27,10 +27,11 @@ use calls::rates_in_range;
 use calls::remask;
 use calls::setting_in_range;
 use judging::Judged;
+use judging::count_figure;
 use judging::judge;
 use judging::seconds_of;
 use judging::year_of;
-use ledger::enter_amount;
+use ledger::enter;
 use ledger::enter_counted;
 
 pub fn join(joined: &mut u16, marks: &mut [u16; INDICATORS], operator: u8) -> Answer
@@ -61,8 +62,8 @@ fn mark_unattested(marks: &mut [u16], operator: u8)
     }
 }
 
-// The checks that setting, interruption, amount and mark share: 4, 5 and 7, in the order of the table.
-fn admit(joined: u16, operator: u8, valid: bool) -> Admission
+// The checks that setting, interruption, amount, mark and a yearly sheet share: 4, 5 and 7, in the order of the table.
+pub fn admit(joined: u16, operator: u8, valid: bool) -> Admission
     ensures { λ r. ⌜ admissionSaid r ≡ firstOf (memberLines joined operator valid) tt ⌝ }
 {
     if LAST_OPERATOR < operator {
@@ -95,7 +96,7 @@ pub fn setting(
     Answer::Yes
 }
 
-// Level: 0 MV, 1 LV.
+// Level: 0 MV, 1 LV. One that is left out is counted, too.
 pub fn interruption(
     joined: u16,
     figures: &mut [u64; FIGURE_PLACES],
@@ -114,12 +115,13 @@ pub fn interruption(
         return Answer::Refused(refusal);
     }
     let seconds = seconds_of(start, end);
+    let year = year_of(start, end);
     match judge(cause, seconds) {
-        Judged::Counts => {
-            let year = year_of(start, end);
-            enter_counted(figures, operator, sign, level, year, weight, seconds)
+        Judged::Counts => enter_counted(figures, operator, sign, level, year, weight, seconds),
+        Judged::LeftOut(reason) => {
+            let count = count_figure(reason);
+            enter(figures, operator, year, count, sign, 1, Answer::LeftOut(reason))
         }
-        Judged::LeftOut(reason) => Answer::LeftOut(reason),
     }
 }
 
@@ -142,7 +144,7 @@ pub fn amount(
     ) {
         return Answer::Refused(refusal);
     }
-    enter_amount(figures, operator, year, figure, sign, value)
+    enter(figures, operator, year, figure, sign, value, Answer::Yes)
 }
 
 // Mark: 1 unreliable, 0 not.

@@ -2,6 +2,7 @@
 mod in_place;
 
 use calls::Refusal;
+pub use in_place::admit;
 pub use in_place::amount;
 pub use in_place::index;
 pub use in_place::interruption;
@@ -11,7 +12,7 @@ pub use in_place::rates;
 pub use in_place::setting;
 
 // Whether a call passes the checks that it shares with others.
-pub(crate) enum Admission {
+pub enum Admission {
     Admitted,
     Refused(Refusal),
 }

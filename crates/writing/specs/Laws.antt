@@ -19,9 +19,9 @@ abbrev pub NoneRefused : List (Said Acceptance) → Type 0
 NoneRefused [] = Unit {0}
 NoneRefused (answer ∷ rest) = (isRefused answer ≡ false) × NoneRefused rest
 
--- "at most 7,067 bytes"
+-- "the most a writer needs grows to 10,667 bytes" (02, point 2)
 abbrev pub writtenMost : ℕ
-writtenMost = 7067
+writtenMost = 10667
 
 pub record WrittenOut (b : Book) (ranged : inRange b ≡ true) : Type 0 where
   -- filing the written calls one by one, none is refused, and they lead to the book

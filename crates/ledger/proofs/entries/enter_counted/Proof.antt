@@ -1,39 +1,47 @@
 -- `ledger::entries::enter_counted` meets its contract.
 -- Assumes nothing.
-use Prim.Native.Nat.{_+_, _*_}
 use mathlib.Core.Path.{refl}
-use mathlib.Core.List.{[], _∷_}
+use mathlib.Core.List.{List}
+use Prim.Native.Nat.{ℕ, _+_, _*_}
 use native.Mathlib.Omega.{arith}
-use native.Mathlib.Nat.{mul-le-mul}
-use Rattle.book.specs.Book.{withFigures, figureOf}
-use Rattle.calls.specs.Answers.{counted-in}
-use Rattle.calls.specs.Call.{entry, interruptionEntries}
-use Rattle.ledger.proofs.MoveLaws.{moved-as, one-moved, first-above, first-below, slots-apart}
-use Rattle.ledger.proofs.LastEntry.{last-above, last-below, last-moved}
+use Rattle.calls.specs.Limits.{firstCount}
+use Rattle.calls.specs.Answers.{said, counted-in}
+use Rattle.calls.specs.Call.{Entry, entry, measuredEntries, countFigure, interruptionEntries}
+use Rattle.book.specs.Book.{withFigures, figureSlot, figureOf}
+use Rattle.ledger.proofs.MoveLaws.{moved-as, slots-apart}
+use Rattle.ledger.proofs.LastEntry.{Apart, last-above, last-below, last-follows}
 use borrow.Author.Needs.{needs}
 use Rattle.ledger.proofs.entries.enter_counted.Statement.{statement}
 use Rattle.ledger.proofs.entries.enter_counted.Tie as tie
+use Rattle.book.proofs.figure_slot.Reads as figure-slot-reads
+use Rattle.judging.proofs.move_figure.Reads as move-figure-reads
+use Rattle.ledger.proofs.entries.count_after.Reads as count-after-reads
+use Rattle.ledger.proofs.entries.enter_measured.Reads as enter-measured-reads
 
-mul-figure-slot : tie.Need-mul-figure-slot
-mul-figure-slot c = search needs
+-- what is measured, and the count after it
+abbrev measured : tie.Start → List Entry
+measured start =
+    measuredEntries (start .args .operator) (start .args .sign) (start .args .level) (start .args .weight) (start .args .seconds) (counted-in (start .args .year))
+
+abbrev count : tie.Start → Entry
+count start = entry (start .args .operator) (start .args .year) firstCount (start .args .sign) 1
+
+-- figures 0 to 3 are not the count
+apart : (start : tie.Start) → Apart (measured start) (figureSlot (start .args .operator) (start .args .year) firstCount)
+unfolding measuredEntries
+apart start = (
+  slots-apart (start .args .operator) (start .args .year) (2 * start .args .level) firstCount (λ e. omega (arith, e, start .pre .level-most)),
+  (slots-apart (start .args .operator) (start .args .year) (2 * start .args .level + 1) firstCount (λ e. omega (arith, e, start .pre .level-most)), tt),
+)
 
 figure-slot-requires : tie.Need-figure-slot-requires
 figure-slot-requires c κs = search needs
 
-mul-figure-slot-2 : tie.Need-mul-figure-slot-2
-mul-figure-slot-2 c = search needs
+mul-held : tie.Need-mul-held
+mul-held c = search needs
 
-add-figure-slot : tie.Need-add-figure-slot
-add-figure-slot c = search needs
-
-figure-slot-requires-2 : tie.Need-figure-slot-requires-2
-figure-slot-requires-2 c κs = search needs
-
-mul-move-figure : tie.Need-mul-move-figure
-mul-move-figure c = search needs
-
-element-copy-out-move-figure : tie.Need-element-copy-out-move-figure
-element-copy-out-move-figure c = search needs
+element-copy-out-held : tie.Need-element-copy-out-held
+element-copy-out-held c = search needs
 
 move-figure-requires : tie.Need-move-figure-requires
 move-figure-requires c κs = search needs
@@ -41,23 +49,11 @@ move-figure-requires c κs = search needs
 enum-known-moved : tie.Need-enum-known-moved
 enum-known-moved c = search needs
 
-mul-move-figure-2 : tie.Need-mul-move-figure-2
-mul-move-figure-2 c =
-    let start = c .before .before .before .before .before .before .before in
-    let product = mul-le-mul (start .pre .weight-most) (start .pre .seconds-most) in
-    record { fits = omega (arith, product) }
+enter-measured-requires : tie.Need-enter-measured-requires
+enter-measured-requires c κs = search needs
 
-mul-move-figure-3 : tie.Need-mul-move-figure-3
-mul-move-figure-3 c = search needs
-
-element-copy-out-move-figure-2 : tie.Need-element-copy-out-move-figure-2
-element-copy-out-move-figure-2 c = search needs
-
-move-figure-requires-2 : tie.Need-move-figure-requires-2
-move-figure-requires-2 c κs = search needs
-
-enum-known-moved-seconds : tie.Need-enum-known-moved-seconds
-enum-known-moved-seconds c = search needs
+count-after-requires : tie.Need-count-after-requires
+count-after-requires c κs = search needs
 
 mul-figures : tie.Need-mul-figures
 mul-figures c = search needs
@@ -65,105 +61,56 @@ mul-figures c = search needs
 element-write-figures : tie.Need-element-write-figures
 element-write-figures c = search needs
 
-mul-figures-2 : tie.Need-mul-figures-2
-mul-figures-2 c = search needs
-
-element-write-figures-2 : tie.Need-element-write-figures-2
-element-write-figures-2 c = search needs
-
 enum-told : tie.Need-enum-told
 enum-told c = search needs
 
 enum-told-2 : tie.Need-enum-told-2
 enum-told-2 c = search needs
 
-enum-told-3 : tie.Need-enum-told-3
-enum-told-3 c = search needs
-
-enum-told-4 : tie.Need-enum-told-4
-enum-told-4 c = search needs
-
--- both figures move
+-- counted where what is measured is entered, and left where that is refused
 returns : tie.Need-returns
-unfolding interruptionEntries figureOf
+unfolding interruptionEntries measuredEntries countFigure figureOf
 returns c = λ b.
-    let start = c .before .before .before .before .before .before .before .before .before .before .before .before in
-    let weight-slot = c .before .before .before .before .before .before .before .before .before .before .before .figure-slot .ensures .0 in
-    let seconds-slot = c .before .before .before .before .before .before .before .before .before .before .figure-slot2 .ensures .0 in
-    let weight = moved-as (start .args .sign) (start .args .weight) _ (start .pre .sign-most) (c .before .before .before .before .before .before .moved .given .1) (rw weight-slot at (c .before .before .before .before .before .before .before .before .move-figure .ensures)) in
-    let seconds = moved-as (start .args .sign) (start .args .weight * start .args .seconds) _ (start .pre .sign-most) (c .before .moved-seconds .given .1) (rw seconds-slot at (c .before .before .before .move-figure2 .ensures)) in
-    rw (weight-slot, seconds-slot, last-moved (withFigures b (start .args .figures .now)) ((entry (start .args .operator) (start .args .year) (2 * start .args .level) (start .args .sign) (start .args .weight)) ∷ []) (entry (start .args .operator) (start .args .year) (2 * start .args .level + 1) (start .args .sign) (start .args .weight * start .args .seconds)) (counted-in (start .args .year)) _ seconds _ (slots-apart (start .args .operator) (start .args .year) (2 * start .args .level), tt) (one-moved (withFigures b (start .args .figures .now)) (entry (start .args .operator) (start .args .year) (2 * start .args .level) (start .args .sign) (start .args .weight)) (counted-in (start .args .year)) _ weight)) (refl, refl)
+    let start = c .before .before .before .before .before .before .before .before .before in
+    let slot = c .before .before .before .before .before .before .before .before .figure-slot .ensures .0 in
+    let moves = moved-as (start .args .sign) 1 _ (start .pre .sign-most) (c .before .before .before .before .moved .given .1) (rw slot at (c .before .before .before .before .before .before .move-figure .ensures)) in
+    let others = c .before .enter-measured .ensures b in
+    let follows = last-follows (withFigures b (start .args .figures .now)) (measured start) (count start) (counted-in (start .args .year)) _ moves (apart start) (said (c .before .enter-measured .result)) (withFigures b (c .before .enter-measured .last .0)) (others .0) (others .1) in
+    (follows .0, rw (c .count-after .ensures, slot) (follows .1))
 
--- 8, by the seconds
+-- 8, by the count
 returns-2 : tie.Need-returns-2
-unfolding interruptionEntries figureOf
+unfolding interruptionEntries measuredEntries countFigure figureOf
 returns-2 c = λ b.
-    let start = c .before .before .before .before .before .before .before .before .before .before .before in
-    let weight-slot = c .before .before .before .before .before .before .before .before .before .before .figure-slot .ensures .0 in
-    let seconds-slot = c .before .before .before .before .before .before .before .before .before .figure-slot2 .ensures .0 in
-    let weight = moved-as (start .args .sign) (start .args .weight) _ (start .pre .sign-most) (c .before .before .before .before .before .moved .given .1) (rw weight-slot at (c .before .before .before .before .before .before .before .move-figure .ensures)) in
-    let seconds = moved-as (start .args .sign) (start .args .weight * start .args .seconds) _ (start .pre .sign-most) (c .enum-told .given .1) (rw seconds-slot at (c .before .before .move-figure2 .ensures)) in
-    rw (last-above (withFigures b (start .args .figures .now)) ((entry (start .args .operator) (start .args .year) (2 * start .args .level) (start .args .sign) (start .args .weight)) ∷ []) (entry (start .args .operator) (start .args .year) (2 * start .args .level + 1) (start .args .sign) (start .args .weight * start .args .seconds)) (counted-in (start .args .year)) seconds) (refl, refl)
+    let start = c .before .before .before .before .before in
+    let slot = c .before .before .before .before .figure-slot .ensures .0 in
+    let above = moved-as (start .args .sign) 1 _ (start .pre .sign-most) (c .enum-told .given .1) (rw slot at (c .before .before .move-figure .ensures)) in
+    rw (last-above (withFigures b (start .args .figures .now)) (measured start) (count start) (counted-in (start .args .year)) above) (refl, refl)
 
--- 9, by the seconds
+-- 9, by the count
 returns-3 : tie.Need-returns-3
-unfolding interruptionEntries figureOf
+unfolding interruptionEntries measuredEntries countFigure figureOf
 returns-3 c = λ b.
-    let start = c .before .before .before .before .before .before .before .before .before .before .before in
-    let weight-slot = c .before .before .before .before .before .before .before .before .before .before .figure-slot .ensures .0 in
-    let seconds-slot = c .before .before .before .before .before .before .before .before .before .figure-slot2 .ensures .0 in
-    let weight = moved-as (start .args .sign) (start .args .weight) _ (start .pre .sign-most) (c .before .before .before .before .before .moved .given .1) (rw weight-slot at (c .before .before .before .before .before .before .before .move-figure .ensures)) in
-    let seconds = moved-as (start .args .sign) (start .args .weight * start .args .seconds) _ (start .pre .sign-most) (c .enum-told2 .given .1) (rw seconds-slot at (c .before .before .move-figure2 .ensures)) in
-    rw (last-below (withFigures b (start .args .figures .now)) ((entry (start .args .operator) (start .args .year) (2 * start .args .level) (start .args .sign) (start .args .weight)) ∷ []) (entry (start .args .operator) (start .args .year) (2 * start .args .level + 1) (start .args .sign) (start .args .weight * start .args .seconds)) (counted-in (start .args .year)) (refl, tt) seconds) (refl, refl)
-
--- 8, by the weight
-returns-4 : tie.Need-returns-4
-unfolding interruptionEntries figureOf
-returns-4 c = λ b.
-    let start = c .before .before .before .before .before .before in
-    let weight-slot = c .before .before .before .before .before .figure-slot .ensures .0 in
-    let seconds-slot = c .before .before .before .before .figure-slot2 .ensures .0 in
-    let weight = moved-as (start .args .sign) (start .args .weight) _ (start .pre .sign-most) (c .enum-told3 .given .1) (rw weight-slot at (c .before .before .move-figure .ensures)) in
-    rw (first-above (withFigures b (start .args .figures .now)) (entry (start .args .operator) (start .args .year) (2 * start .args .level) (start .args .sign) (start .args .weight)) (counted-in (start .args .year)) ((entry (start .args .operator) (start .args .year) (2 * start .args .level + 1) (start .args .sign) (start .args .weight * start .args .seconds)) ∷ []) weight) (refl, refl)
-
--- 9, by the weight
-returns-5 : tie.Need-returns-5
-unfolding interruptionEntries figureOf
-returns-5 c = λ b.
-    let start = c .before .before .before .before .before .before in
-    let weight-slot = c .before .before .before .before .before .figure-slot .ensures .0 in
-    let seconds-slot = c .before .before .before .before .figure-slot2 .ensures .0 in
-    let weight = moved-as (start .args .sign) (start .args .weight) _ (start .pre .sign-most) (c .enum-told4 .given .1) (rw weight-slot at (c .before .before .move-figure .ensures)) in
-    rw (first-below (withFigures b (start .args .figures .now)) (entry (start .args .operator) (start .args .year) (2 * start .args .level) (start .args .sign) (start .args .weight)) (counted-in (start .args .year)) ((entry (start .args .operator) (start .args .year) (2 * start .args .level + 1) (start .args .sign) (start .args .weight * start .args .seconds)) ∷ []) (refl, tt) weight) (refl, refl)
+    let start = c .before .before .before .before .before in
+    let slot = c .before .before .before .before .figure-slot .ensures .0 in
+    let below = moved-as (start .args .sign) 1 _ (start .pre .sign-most) (c .enum-told2 .given .1) (rw slot at (c .before .before .move-figure .ensures)) in
+    rw (last-below (withFigures b (start .args .figures .now)) (measured start) (count start) (counted-in (start .args .year)) (refl, (refl, tt)) below) (refl, refl)
 
 pub enter-counted-spec : {M : Type 1} → statement M
 enter-counted-spec =
     tie.close
     (tie.spec
-    mul-figure-slot
     figure-slot-requires
-    mul-figure-slot-2
-    add-figure-slot
-    figure-slot-requires-2
-    mul-move-figure
-    element-copy-out-move-figure
+    mul-held
+    element-copy-out-held
     move-figure-requires
     enum-known-moved
-    mul-move-figure-2
-    mul-move-figure-3
-    element-copy-out-move-figure-2
-    move-figure-requires-2
-    enum-known-moved-seconds
+    enter-measured-requires
+    count-after-requires
     mul-figures
     element-write-figures
-    mul-figures-2
-    element-write-figures-2
     enum-told
     enum-told-2
-    enum-told-3
-    enum-told-4
     returns
     returns-2
-    returns-3
-    returns-4
-    returns-5)
+    returns-3)

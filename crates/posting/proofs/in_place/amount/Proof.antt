@@ -2,6 +2,7 @@
 -- Assumes nothing.
 use mathlib.Core.Path.{refl, sym, ap, _∙_}
 use Rattle.calls.specs.declared.Call.the-variants.{Amount}
+use Rattle.calls.specs.Answers.{yes-said}
 use Rattle.calls.specs.Call.{factsOf}
 use Rattle.book.specs.Book.{withJoined, withFigures, freshBook}
 use Rattle.posting.specs.Parts.{admissionSaid}
@@ -31,9 +32,9 @@ returns c = λ b.
 enum-told : tie.Need-enum-told
 enum-told c = search needs
 
-enter-amount-requires : tie.Need-enter-amount-requires
+enter-requires : tie.Need-enter-requires
 unfolding factsOf
-enter-amount-requires c κs =
+enter-requires c κs =
     let start = c .before .before .before .before .before in
     let passed = member-decided (withJoined freshBook (start .args .joined)) (Amount (start .args .operator) (start .args .year) (start .args .figure) (start .args .sign) (start .args .value)) (start .args .operator) _ refl refl (sym (c .before .before .before .before .amount-in-range .ensures)) _ (sym (c .before .before .before .admit .ensures) ∙ ap admissionSaid (c .before .enum-told .given .1)) in
     let in-range = ranges (Amount (start .args .operator) (start .args .year) (start .args .figure) (start .args .sign) (start .args .value)) (sym (c .before .before .before .before .amount-in-range .ensures) ∙ passed .in-range) in
@@ -45,7 +46,7 @@ unfolding factsOf changed
 returns-2 c = λ b.
     let start = c .before .before .before .before .before .before in
     let passed = member-decided (withFigures (withJoined b (start .args .joined)) (start .args .figures .now)) (Amount (start .args .operator) (start .args .year) (start .args .figure) (start .args .sign) (start .args .value)) (start .args .operator) _ refl refl (sym (c .before .before .before .before .before .amount-in-range .ensures)) _ (sym (c .before .before .before .before .admit .ensures) ∙ ap admissionSaid (c .before .before .enum-told .given .1)) in
-    rw (passed .entered refl) (c .enter-amount .ensures (withJoined b (start .args .joined)))
+    rw (passed .entered refl) (c .enter .ensures yes-said refl (withJoined b (start .args .joined)))
 
 pub amount-spec : {M : Type 1} → statement M
 amount-spec =
@@ -56,5 +57,5 @@ amount-spec =
     enum-known-refusal
     returns
     enum-told
-    enter-amount-requires
+    enter-requires
     returns-2)

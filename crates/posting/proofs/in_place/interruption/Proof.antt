@@ -1,22 +1,45 @@
 -- `posting::in_place::interruption` meets its contract.
 -- Assumes nothing.
 use mathlib.Core.Path.{_≡_, refl, sym, ap, _∙_}
-use Prim.Native.Nat.{ℕ}
+use mathlib.Core.Bool.{Bool, true, _&&_}
+use Prim.Native.Nat.{ℕ, _≤_, _<_}
+use Rattle.calls.specs.declared.Call.{Call}
 use Rattle.calls.specs.declared.Call.the-variants.{Interruption}
+use Rattle.calls.specs.Limits.{operators, years, longest}
+use Rattle.calls.specs.Answers.{leftOutAs}
 use Rattle.calls.specs.Call.{detailsInRange, timesInRange, secondsOf, yearOf, factsOf}
 use Rattle.judging.specs.Steps.{JudgedAs}
+use Rattle.book.specs.declared.Book.{Book}
 use Rattle.book.specs.Book.{withJoined, withFigures, freshBook}
-use Rattle.ledger.specs.Calls.{changed}
+use Rattle.ledger.specs.Calls.{changed, apply}
+use Rattle.ledger.specs.Steps.{entering}
 use Rattle.posting.specs.Parts.{admissionSaid}
 use Rattle.calls.proofs.Flags.{and-left, and-right}
 use Rattle.calls.proofs.Times.{back, timed, year-lt, seconds-most}
 use Rattle.calls.proofs.RangeLaws.{details}
-use Rattle.judging.proofs.JudgedLaws.{left-out-none}
-use Rattle.ledger.proofs.AdmissionLaws.{member-decided}
-use Rattle.ledger.proofs.MoveLaws.{nothing-entered}
+use Rattle.judging.proofs.JudgedLaws.{left-out-counted, left-out-known}
+use Rattle.ledger.proofs.AdmissionLaws.{refusedCall, member-decided}
 use borrow.Author.Needs.{needs}
 use Rattle.posting.proofs.in_place.interruption.Statement.{statement}
 use Rattle.posting.proofs.in_place.interruption.Tie as tie
+
+-- the call, and a book with the parts that are lent to it
+abbrev call : tie.Start → Call
+call start = Interruption (start .args .operator) (start .args .sign) (start .args .level) (start .args .cause) (start .args .start) (start .args .end) (start .args .weight)
+
+abbrev lent : tie.Start → Book → Book
+lent start b = withFigures (withJoined b (start .args .joined)) (start .args .figures .now)
+
+-- the two tests of 5
+abbrev detailed : tie.Start → Bool
+detailed start = detailsInRange (start .args .sign) (start .args .level) (start .args .cause) (start .args .weight)
+
+abbrev inTime : tie.Start → Bool
+inTime start = timesInRange (start .args .start) (start .args .end)
+
+ranged : (m : tie.After-interruption-in-range) → factsOf (call (m .before)) .in-range ≡ m .interruption-in-range .result
+unfolding factsOf
+ranged m = sym (rw (back (m .before .fits .start), back (m .before .fits .end)) at (m .interruption-in-range .ensures))
 
 interruption-in-range-requires : tie.Need-interruption-in-range-requires
 interruption-in-range-requires c κs = search needs
@@ -32,80 +55,103 @@ returns : tie.Need-returns
 unfolding factsOf
 returns c = λ b.
     let start = c .before .before .before .before .before in
-    let ranged = sym (rw (back (start .fits .start), back (start .fits .end)) at (c .before .before .before .before .interruption-in-range .ensures)) in
-    rw (member-decided (withFigures (withJoined b (start .args .joined)) (start .args .figures .now)) (Interruption (start .args .operator) (start .args .sign) (start .args .level) (start .args .cause) (start .args .start) (start .args .end) (start .args .weight)) (start .args .operator) _ refl refl ranged _ (sym (c .before .before .before .admit .ensures) ∙ ap admissionSaid (c .before .refusal .given .1))) (refl, refl)
+    rw (member-decided (lent start b) (call start) (start .args .operator) _ refl refl (ranged (c .before .before .before .before)) _ (sym (c .before .before .before .admit .ensures) ∙ ap admissionSaid (c .before .refusal .given .1))) (refl, refl)
 
 enum-told : tie.Need-enum-told
 enum-told c = search needs
 
+-- what is known once 4, 5 and 7 are passed
+abbrev begun : tie.After-enum-told → tie.Start
+begun m = m .before .before .before .before
+
+module _ (m : tie.After-enum-told) where
+  admitted : (b : Book)
+      → (begun m .args .operator < operators)
+      × (detailed (begun m) && inTime (begun m) ≡ true)
+      × (apply (lent (begun m) b) (call (begun m)) ≡ entering (lent (begun m) b) (factsOf (call (begun m)) .entries) (factsOf (call (begun m)) .answer))
+  unfolding factsOf changed
+  admitted b =
+      let passed = member-decided (lent (begun m) b) (call (begun m)) (begun m .args .operator) _ refl refl (ranged (m .before .before .before)) _ (sym (m .before .before .admit .ensures) ∙ ap admissionSaid (m .enum-told .given .1)) in
+      (passed .small, ranged (m .before .before .before) ∙ passed .in-range, passed .entered refl)
+
+  in-time : inTime (begun m) ≡ true
+  in-time = and-right (detailed (begun m)) _ (admitted freshBook .1)
+
 seconds-of-requires : tie.Need-seconds-of-requires
-unfolding factsOf
-seconds-of-requires c κs =
-    let start = c .before .before .before .before in
-    let ranged = sym (rw (back (start .fits .start), back (start .fits .end)) at (c .before .before .before .interruption-in-range .ensures)) in
-    let passed = member-decided (withJoined freshBook (start .args .joined)) (Interruption (start .args .operator) (start .args .sign) (start .args .level) (start .args .cause) (start .args .start) (start .args .end) (start .args .weight)) (start .args .operator) _ refl refl ranged _ (sym (c .before .before .admit .ensures) ∙ ap admissionSaid (c .enum-told .given .1)) in
-    rw (back (start .fits .start), back (start .fits .end)) (and-right (detailsInRange (start .args .sign) (start .args .level) (start .args .cause) (start .args .weight)) _ (ranged ∙ passed .in-range))
+seconds-of-requires c κs = rw (back (begun c .fits .start), back (begun c .fits .end)) (in-time c)
+
+year-of-requires : tie.Need-year-of-requires
+year-of-requires c κs = rw (back (begun (c .before) .fits .start), back (begun (c .before) .fits .end)) (in-time (c .before))
 
 judge-requires : tie.Need-judge-requires
 judge-requires c κs = search needs
 
+-- what the leaves give
+seconds-is : (m : tie.After-seconds-of) → m .seconds-of .result ≡ secondsOf (begun (m .before) .args .start) (begun (m .before) .args .end)
+seconds-is m = rw (back (begun (m .before) .fits .start), back (begun (m .before) .fits .end)) at (m .seconds-of .ensures)
+
+year-is : (m : tie.After-year-of) → m .year-of .result ≡ yearOf (begun (m .before .before) .args .end)
+year-is m = rw (back (begun (m .before .before) .fits .end)) at (m .year-of .ensures)
+
+module _ (m : tie.After-judge) where
+  abbrev asked : tie.Start
+  asked = begun (m .before .before .before)
+
+  judged : JudgedAs (asked .args .cause) (secondsOf (asked .args .start) (asked .args .end)) (m .judge .result)
+  judged = rw (seconds-is (m .before .before)) at (m .judge .ensures)
+
 enum-told-2 : tie.Need-enum-told-2
 enum-told-2 c = search needs
 
-year-of-requires : tie.Need-year-of-requires
-unfolding factsOf
-year-of-requires c κs =
-    let start = c .before .before .before .before .before .before .before .before in
-    let ranged = sym (rw (back (start .fits .start), back (start .fits .end)) at (c .before .before .before .before .before .before .before .interruption-in-range .ensures)) in
-    let passed = member-decided (withJoined freshBook (start .args .joined)) (Interruption (start .args .operator) (start .args .sign) (start .args .level) (start .args .cause) (start .args .start) (start .args .end) (start .args .weight)) (start .args .operator) _ refl refl ranged _ (sym (c .before .before .before .before .before .before .admit .ensures) ∙ ap admissionSaid (c .before .before .before .before .enum-told .given .1)) in
-    rw (back (start .fits .start), back (start .fits .end)) (and-right (detailsInRange (start .args .sign) (start .args .level) (start .args .cause) (start .args .weight)) _ (ranged ∙ passed .in-range))
-
 enter-counted-requires : tie.Need-enter-counted-requires
-unfolding factsOf
 enter-counted-requires c κs =
-    let start = c .before .before .before .before .before .before .before .before .before .before in
-    let ranged = sym (rw (back (start .fits .start), back (start .fits .end)) at (c .before .before .before .before .before .before .before .before .before .interruption-in-range .ensures)) in
-    let passed = member-decided (withJoined freshBook (start .args .joined)) (Interruption (start .args .operator) (start .args .sign) (start .args .level) (start .args .cause) (start .args .start) (start .args .end) (start .args .weight)) (start .args .operator) _ refl refl ranged _ (sym (c .before .before .before .before .before .before .before .before .admit .ensures) ∙ ap admissionSaid (c .before .before .before .before .before .before .enum-told .given .1)) in
-    let valid = ranged ∙ passed .in-range in
-    let in-range = details (start .args .sign) (start .args .level) (start .args .cause) (start .args .weight) (and-left _ (timesInRange (start .args .start) (start .args .end)) valid) in
-    let times = timed (start .args .start) (start .args .end) (and-right (detailsInRange (start .args .sign) (start .args .level) (start .args .cause) (start .args .weight)) _ (ranged ∙ passed .in-range)) in
-    let year = rw (back (start .fits .end)) at (c .before .year-of .ensures) in
-    let seconds = rw (back (start .fits .start), back (start .fits .end)) at (c .before .before .before .before .before .seconds-of .ensures) in
+    let told = c .before .before .before .before .before .before in
+    let passed = admitted told freshBook in
+    let in-range = details (begun told .args .sign) (begun told .args .level) (begun told .args .cause) (begun told .args .weight) (and-left _ (inTime (begun told)) (passed .1)) in
+    let times = timed (begun told .args .start) (begun told .args .end) (in-time told) in
     record {
-      operator-known = passed .small;
+      operator-known = passed .0;
       sign-most = in-range .sign-most;
       level-most = in-range .level-most;
-      year-known = rw year (year-lt times);
+      year-known = rw (year-is (c .before .before .before .before)) (year-lt times);
       weight-most = in-range .weight-most;
-      seconds-most = rw seconds (seconds-most times);
+      seconds-most = rw (seconds-is (c .before .before .before .before .before)) (seconds-most times);
     }
 
 enum-known-reason : tie.Need-enum-known-reason
 enum-known-reason c = search needs
 
+count-figure-requires : tie.Need-count-figure-requires
+count-figure-requires c κs = search needs
+
+enter-requires : tie.Need-enter-requires
+enter-requires c κs =
+    let told = c .before .before .before .before .before .before .before .before in
+    let passed = admitted told freshBook in
+    let in-range = details (begun told .args .sign) (begun told .args .level) (begun told .args .cause) (begun told .args .weight) (and-left _ (inTime (begun told)) (passed .1)) in
+    let times = timed (begun told .args .start) (begun told .args .end) (in-time told) in
+    record {
+      operator-known = passed .0;
+      year-known = rw (year-is (c .before .before .before .before .before .before)) (year-lt times);
+      figure-known = rw (c .before .count-figure .ensures) (left-out-known (c .before .before .before .reason .given .0 .0));
+      sign-most = in-range .sign-most;
+    }
+
 -- counted
 returns-2 : tie.Need-returns-2
-unfolding factsOf changed
+unfolding factsOf
 returns-2 c = λ b.
-    let start = c .before .before .before .before .before .before .before .before .before .before .before in
-    let ranged = sym (rw (back (start .fits .start), back (start .fits .end)) at (c .before .before .before .before .before .before .before .before .before .before .interruption-in-range .ensures)) in
-    let passed = member-decided (withFigures (withJoined b (start .args .joined)) (start .args .figures .now)) (Interruption (start .args .operator) (start .args .sign) (start .args .level) (start .args .cause) (start .args .start) (start .args .end) (start .args .weight)) (start .args .operator) _ refl refl ranged _ (sym (c .before .before .before .before .before .before .before .before .before .admit .ensures) ∙ ap admissionSaid (c .before .before .before .before .before .before .before .enum-told .given .1)) in
-    let year = rw (back (start .fits .end)) at (c .before .before .year-of .ensures) in
-    let seconds = rw (back (start .fits .start), back (start .fits .end)) at (c .before .before .before .before .before .before .seconds-of .ensures) in
-    let judged : JudgedAs (start .args .cause) (secondsOf (start .args .start) (start .args .end)) (c .before .before .before .before .before .judge .result) = rw seconds at (c .before .before .before .before .before .judge .ensures) in
-    rw (passed .entered refl, ← judged (yearOf (start .args .end)), c .before .before .before .enum-told2 .given .1)
-    (rw (year, seconds) at (c .enter-counted .ensures (withJoined b (start .args .joined))))
+    let told = c .before .before .before .before .before .before .before in
+    rw (admitted told b .2, ← judged (c .before .before .before .before) (yearOf (begun told .args .end)), c .before .before .enum-told2 .given .1)
+    (rw (year-is (c .before .before .before .before .before), seconds-is (c .before .before .before .before .before .before)) at (c .enter-counted .ensures (withJoined b (begun told .args .joined))))
 
--- left out: nothing is entered
+-- left out
 returns-3 : tie.Need-returns-3
-unfolding factsOf changed
+unfolding factsOf
 returns-3 c = λ b.
-    let start = c .before .before .before .before .before .before .before .before .before in
-    let ranged = sym (rw (back (start .fits .start), back (start .fits .end)) at (c .before .before .before .before .before .before .before .before .interruption-in-range .ensures)) in
-    let passed = member-decided (withFigures (withJoined b (start .args .joined)) (start .args .figures .now)) (Interruption (start .args .operator) (start .args .sign) (start .args .level) (start .args .cause) (start .args .start) (start .args .end) (start .args .weight)) (start .args .operator) _ refl refl ranged _ (sym (c .before .before .before .before .before .before .before .admit .ensures) ∙ ap admissionSaid (c .before .before .before .before .before .enum-told .given .1)) in
-    let seconds = rw (back (start .fits .start), back (start .fits .end)) at (c .before .before .before .before .seconds-of .ensures) in
-    let judged : JudgedAs (start .args .cause) (secondsOf (start .args .start) (start .args .end)) (c .before .before .before .judge .result) = rw seconds at (c .before .before .before .judge .ensures) in
-    rw (passed .entered refl, ← judged (yearOf (start .args .end)), c .before .reason .given .1, left-out-none, nothing-entered) (refl, refl)
+    let told = c .before .before .before .before .before .before .before .before .before in
+    rw (admitted told b .2, ← judged (c .before .before .before .before .before .before) (yearOf (begun told .args .end)), c .before .before .before .before .reason .given .1, left-out-counted)
+    (rw (year-is (c .before .before .before .before .before .before .before), c .before .before .count-figure .ensures) at (c .enter .ensures _ refl (withJoined b (begun told .args .joined))))
 
 pub interruption-spec : {M : Type 1} → statement M
 interruption-spec =
@@ -117,10 +163,12 @@ interruption-spec =
     returns
     enum-told
     seconds-of-requires
+    year-of-requires
     judge-requires
     enum-told-2
-    year-of-requires
     enter-counted-requires
     enum-known-reason
+    count-figure-requires
+    enter-requires
     returns-2
     returns-3)

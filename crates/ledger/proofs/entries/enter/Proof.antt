@@ -1,13 +1,12 @@
--- `ledger::entries::enter_amount` meets its contract.
+-- `ledger::entries::enter` meets its contract.
 -- Assumes nothing.
 use mathlib.Core.Path.{refl}
-use Rattle.calls.specs.Answers.{yes-said}
 use Rattle.calls.specs.Call.{entry}
 use Rattle.book.specs.Book.{withFigures, figureOf}
 use Rattle.ledger.proofs.MoveLaws.{moved-as, one-moved, one-above, one-below}
 use borrow.Author.Needs.{needs}
-use Rattle.ledger.proofs.entries.enter_amount.Statement.{statement}
-use Rattle.ledger.proofs.entries.enter_amount.Tie as tie
+use Rattle.ledger.proofs.entries.enter.Statement.{statement}
+use Rattle.ledger.proofs.entries.enter.Tie as tie
 
 figure-slot-requires : tie.Need-figure-slot-requires
 figure-slot-requires c κs = search needs
@@ -39,32 +38,32 @@ enum-told-2 c = search needs
 -- the figure moves
 returns : tie.Need-returns
 unfolding figureOf
-returns c = λ b.
+returns c = λ value told b.
     let start = c .before .before .before .before .before .before in
     let slot = c .before .before .before .before .before .figure-slot .ensures .0 in
     let moved = moved-as (start .args .sign) (start .args .value) _ (start .pre .sign-most) (c .before .moved .given .1) (rw slot at (c .before .before .before .move-figure .ensures)) in
-    rw (slot, one-moved (withFigures b (start .args .figures .now)) (entry (start .args .operator) (start .args .year) (start .args .figure) (start .args .sign) (start .args .value)) yes-said _ moved) (refl, refl)
+    rw (slot, one-moved (withFigures b (start .args .figures .now)) (entry (start .args .operator) (start .args .year) (start .args .figure) (start .args .sign) (start .args .value)) value _ moved) (told, refl)
 
 -- 8
 returns-2 : tie.Need-returns-2
 unfolding figureOf
-returns-2 c = λ b.
+returns-2 c = λ value told b.
     let start = c .before .before .before .before .before in
     let slot = c .before .before .before .before .figure-slot .ensures .0 in
     let moved = moved-as (start .args .sign) (start .args .value) _ (start .pre .sign-most) (c .enum-told .given .1) (rw slot at (c .before .before .move-figure .ensures)) in
-    rw (one-above (withFigures b (start .args .figures .now)) (entry (start .args .operator) (start .args .year) (start .args .figure) (start .args .sign) (start .args .value)) yes-said moved) (refl, refl)
+    rw (one-above (withFigures b (start .args .figures .now)) (entry (start .args .operator) (start .args .year) (start .args .figure) (start .args .sign) (start .args .value)) value moved) (refl, refl)
 
 -- 9
 returns-3 : tie.Need-returns-3
 unfolding figureOf
-returns-3 c = λ b.
+returns-3 c = λ value told b.
     let start = c .before .before .before .before .before in
     let slot = c .before .before .before .before .figure-slot .ensures .0 in
     let moved = moved-as (start .args .sign) (start .args .value) _ (start .pre .sign-most) (c .enum-told2 .given .1) (rw slot at (c .before .before .move-figure .ensures)) in
-    rw (one-below (withFigures b (start .args .figures .now)) (entry (start .args .operator) (start .args .year) (start .args .figure) (start .args .sign) (start .args .value)) yes-said moved) (refl, refl)
+    rw (one-below (withFigures b (start .args .figures .now)) (entry (start .args .operator) (start .args .year) (start .args .figure) (start .args .sign) (start .args .value)) value moved) (refl, refl)
 
-pub enter-amount-spec : {M : Type 1} → statement M
-enter-amount-spec =
+pub enter-spec : {M : Type 1} → statement M
+enter-spec =
     tie.close
     (tie.spec
     figure-slot-requires
