@@ -5,7 +5,10 @@ pub const OPERATORS: usize = 16;
 pub const SETTINGS: usize = 3;
 pub const INDICATORS: usize = 6;
 pub const YEARS: usize = 3;
-pub const FIGURES: usize = 8;
+pub const FIGURES: usize = 13;
+/// The first of the figures that count interruptions; all after it do so too.
+pub const FIRST_COUNT: usize = 8;
+pub const COUNTS: usize = FIGURES - FIRST_COUNT;
 pub const INDICES: usize = 4;
 
 pub const MOST_CABINS: u128 = 100_000;
@@ -169,7 +172,7 @@ mod tests {
                 cabins: 100_000,
                 access_points: 4_000_000,
                 income: 100_000_000_000,
-                figures: vec![vec![100_000_000_000; 8]; 3],
+                figures: vec![vec![100_000_000_000; 13]; 3],
             };
         }
         book.pot_rate = 20_000;
@@ -200,7 +203,7 @@ mod tests {
             cabins: 0,
             access_points: 0,
             income: 0,
-            figures: vec![vec![0; 8]; 3],
+            figures: vec![vec![0; 13]; 3],
         };
         assert!(fresh.is_fresh());
         let book = Book::fresh();
@@ -213,10 +216,11 @@ mod tests {
     #[test]
     fn places_of_the_figures() {
         let places: Vec<(usize, usize)> = figure_places().collect();
-        assert_eq!(places.len(), 24);
+        assert_eq!(places.len(), 39);
         assert_eq!(places[..2], [(0, 0), (0, 1)]);
-        assert_eq!(places[7..9], [(0, 7), (1, 0)]);
-        assert_eq!(places[23], (2, 7));
+        assert_eq!(places[7..9], [(0, 7), (0, 8)]);
+        assert_eq!(places[12..14], [(0, 12), (1, 0)]);
+        assert_eq!(places[38], (2, 12));
     }
 
     #[test]

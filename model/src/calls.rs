@@ -2,8 +2,8 @@
 //! Every call first judges the book, then its own values, then alters the book.
 
 use crate::book::{
-    Book, FIGURES, INDICATORS, INDICES, LEAST_INDEX, MOST_FIGURE, MOST_INDEX, MOST_RATE,
-    MOST_SETTINGS, OPERATORS, YEARS,
+    Book, FIGURES, FIRST_COUNT, INDICATORS, INDICES, LEAST_INDEX, MOST_FIGURE, MOST_INDEX,
+    MOST_RATE, MOST_SETTINGS, OPERATORS, YEARS,
 };
 
 #[cfg(test)]
@@ -32,7 +32,7 @@ pub enum Reason {
     Exceptional,
 }
 
-/// The answer to a filing call, or to settling.
+/// The answer to a filing call, to settling or to the call for a sheet.
 #[derive(Clone, Copy, Debug, PartialEq, Eq)]
 pub enum Answer {
     Yes,
@@ -91,14 +91,21 @@ pub fn setting(book: &mut Book, operator: u8, which: u8, value: u64) -> Answer {
 }
 
 /// Files or withdraws an interruption.
+/// Follows 01: "The year is that of the end; each has 31,536,000 seconds."
 pub fn interruption(book: &mut Book, filed: &Interruption) -> Answer {
     let in_range = interruption_in_range(filed);
     if let Some(number) = operator_refusal(book, filed.operator, in_range) {
         return Answer::Refused(number);
     }
-    match left_out(filed) {
-        Some(reason) => Answer::LeftOut(reason),
-        None => count(book, filed),
+    let year = (filed.end / YEAR_SECONDS) as usize;
+    let (outcome, entries) = match left_out(filed) {
+        Some(reason) => (Answer::LeftOut(reason), vec![(count_of(reason), 1)]),
+        None => (Answer::Counted { year }, counted_entries(filed)),
+    };
+    let figures = &mut book.operators[usize::from(filed.operator)].figures[year];
+    match change(figures, filed.sign, &entries) {
+        Some(number) => Answer::Refused(number),
+        None => outcome,
     }
 }
 
@@ -117,23 +124,32 @@ fn left_out(filed: &Interruption) -> Option<Reason> {
     }
 }
 
-/// Brings an interruption that counts into the figures.
-/// Follows 01: "The year is that of the end; each has 31,536,000 seconds." and
-/// "Counted: weight, and weight times seconds, are added or subtracted."
-fn count(book: &mut Book, filed: &Interruption) -> Answer {
-    let year = (filed.end / YEAR_SECONDS) as usize;
+/// The count of those left out for that reason.
+/// Follows 02, point 2: "how many were left out as short, planned, coupled or
+/// exceptional. Five count figures, 8 to 12 in that order"; the first of the five
+/// counts the interruptions that count.
+fn count_of(reason: Reason) -> usize {
+    match reason {
+        Reason::Short => 9,
+        Reason::Planned => 10,
+        Reason::Coupled => 11,
+        Reason::Exceptional => 12,
+    }
+}
+
+/// What an interruption that counts brings into the figures of its year.
+/// Follows 01: "Counted: weight, and weight times seconds, are added or
+/// subtracted."; and 02, point 2: "Every accepted interruption adds or subtracts 1
+/// in one of them", whatever its weight.
+fn counted_entries(filed: &Interruption) -> Vec<(usize, i128)> {
     let weight_figure = if filed.level == 0 { 0 } else { 2 };
     let weight = i128::from(filed.weight);
     let seconds = i128::from(filed.end - filed.start);
-    let values = [
+    vec![
         (weight_figure, weight),
         (weight_figure + 1, weight * seconds),
-    ];
-    let figures = &mut book.operators[usize::from(filed.operator)].figures[year];
-    match change(figures, filed.sign, &values) {
-        Some(number) => Answer::Refused(number),
-        None => Answer::Counted { year },
-    }
+        (FIRST_COUNT, 1),
+    ]
 }
 
 /// Adds an amount to a figure, or with sign 1 subtracts it.
@@ -200,7 +216,7 @@ fn refusal(book: &Book, conditions: &[(u8, bool)]) -> Option<u8> {
 
 /// The refusal of a call of a joined operator, all other values of which are in
 /// range or not.
-fn operator_refusal(book: &Book, operator: u8, in_range: bool) -> Option<u8> {
+pub fn operator_refusal(book: &Book, operator: u8, in_range: bool) -> Option<u8> {
     let conditions = [
         (4, above_15(operator)),
         (5, !in_range),

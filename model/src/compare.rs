@@ -59,10 +59,9 @@ impl Comparison {
 
     /// Has the tasks of one filing done, and keeps the filing on a mismatch.
     fn mismatch_at(&self, number: u64) -> Result<Option<Mismatch>, String> {
-        let filing = generator::filing(self.seed, number);
-        for task in self.programs.tasks(&filing) {
+        for task in self.programs.tasks(self.seed, number) {
             if let Some(difference) = self.difference(task)? {
-                let kept = self.keep(number, &filing)?;
+                let kept = self.keep(number)?;
                 return Ok(Some(Mismatch {
                     number,
                     difference,
@@ -73,9 +72,10 @@ impl Comparison {
         Ok(None)
     }
 
-    fn keep(&self, number: u64, filing: &[u8]) -> Result<PathBuf, String> {
+    fn keep(&self, number: u64) -> Result<PathBuf, String> {
         let name = format!("mismatch-{}-{number}.q", self.seed);
         let kept = self.folder.join(name);
+        let filing = generator::filing(self.seed, number);
         fs::write(&kept, filing).map_err(of_file(&kept))?;
         Ok(kept)
     }
@@ -84,7 +84,7 @@ impl Comparison {
     fn difference(&self, task: Task) -> Result<Option<Difference>, String> {
         let file = self.folder.join("filing.q");
         fs::write(&file, &task.filing).map_err(of_file(&file))?;
-        let (status, given) = run(&task.program, &self.folder)?;
+        let (status, given) = run(&task, &self.folder)?;
         let failed = fails(status, &task.expected);
         if !failed && given == task.expected {
             return Ok(None);
@@ -134,13 +134,14 @@ impl Difference {
     }
 }
 
-/// How a program ends that is run in the folder, and what it puts out.
-fn run(program: &Path, folder: &Path) -> Result<(ExitStatus, Streams), String> {
-    let given = Command::new(program)
+/// How the program of a task ends that is run in the folder, and what it puts out.
+fn run(task: &Task, folder: &Path) -> Result<(ExitStatus, Streams), String> {
+    let given = Command::new(&task.program)
+        .args(&task.arguments)
         .current_dir(folder)
         .stdin(Stdio::null())
         .output()
-        .map_err(of_file(program))?;
+        .map_err(of_file(&task.program))?;
     let streams = Streams {
         output: given.stdout,
         error: given.stderr,

@@ -479,6 +479,7 @@ mod tests {
         operator.income = 100_000_000_000;
         operator.figures[0][0] = 258;
         operator.figures[0][1] = 258 * 31_536_000;
+        operator.figures[0][8] = 1;
         operator.figures[2][7] = 0x04_0506_0700;
         operator.marks = vec![true, true, true, true, true, false];
         expected.pot_rate = 5000;
@@ -503,6 +504,7 @@ mod tests {
         let start = [255, 255, 255, 255, 255, 255, 255, 75];
         let book = taken(&field(start, zero), 2);
         assert_eq!(book.operators[0].figures[0][2..4], [1, 181]);
+        assert_eq!(book.operators[0].figures[0][8..], [1, 0, 0, 0, 0]);
         // The least and the greatest number.
         let least = [128, 0, 0, 0, 0, 0, 0, 0];
         let most = [127, 255, 255, 255, 255, 255, 255, 255];
@@ -517,8 +519,9 @@ mod tests {
         assert_eq!(signed(&zero), 0);
     }
 
-    /// A filing with an interruption that is left out, between two joins.
-    fn is_left_out(cause: u8, seconds: u8) {
+    /// A filing with an interruption that is left out, between two joins: it moves
+    /// only that figure.
+    fn is_left_out(cause: u8, seconds: u8, figure: usize) {
         let filing = joined(&[
             &JOIN_0,
             &[3, 0, 24, 0, 0, 1, cause],
@@ -527,17 +530,18 @@ mod tests {
             &[0, 0, 0, 1],
             &JOIN_1,
         ]);
-        let both = taken(&joined(&[&JOIN_0, &JOIN_1]), 2);
-        assert_eq!(taken(&filing, 3), both);
+        let mut expected = taken(&joined(&[&JOIN_0, &JOIN_1]), 2);
+        expected.operators[0].figures[0][figure] = 1;
+        assert_eq!(taken(&filing, 3), expected);
     }
 
     #[test]
     fn interruptions_left_out_are_applied() {
-        is_left_out(0, 180);
-        is_left_out(1, 181);
-        is_left_out(2, 181);
-        is_left_out(3, 181);
-        is_left_out(4, 0);
+        is_left_out(0, 180, 9);
+        is_left_out(1, 181, 10);
+        is_left_out(2, 181, 11);
+        is_left_out(3, 181, 12);
+        is_left_out(4, 0, 9);
     }
 
     #[test]

@@ -1,6 +1,8 @@
 //! Filings made from a seed, of many kinds by turns, to compare programs with.
 //! A filing depends on the seed and its number only; most of them settle.
 
+mod asked;
+mod counts;
 mod damage;
 mod draft;
 mod plan;
@@ -10,6 +12,7 @@ mod tests;
 
 use crate::program::MOST_READ;
 use crate::random::Random;
+pub use asked::asked_sheet;
 use draft::Draft;
 
 /// What a filing is made for.
@@ -32,6 +35,8 @@ pub enum Kind {
     Interruptions,
     /// Figures of which much is withdrawn.
     Withdrawals,
+    /// Interruptions left out, and amounts on the counts; filed and withdrawn.
+    LeftOut,
     /// Some marks are kept, of some operators all six; some are set again.
     Marked,
     /// Few marks are cleared in the whole book.
@@ -42,11 +47,13 @@ pub enum Kind {
     Damaged,
     /// A field that gets 4 to 9.
     Refused,
+    /// A field that is refused because of a count.
+    RefusedByCount,
     /// About the longest filing that the program reads.
     Long,
 }
 
-const TURNS: [Kind; 20] = [
+const TURNS: [Kind; 23] = [
     Kind::Small,
     Kind::Wide,
     Kind::Ends,
@@ -67,6 +74,9 @@ const TURNS: [Kind; 20] = [
     Kind::Digits,
     Kind::Incomplete,
     Kind::Refused,
+    Kind::LeftOut,
+    Kind::RefusedByCount,
+    Kind::LeftOut,
 ];
 
 /// One filing in so many is a long one.
@@ -99,6 +109,7 @@ pub fn filing(seed: u64, number: u64) -> Vec<u8> {
         Kind::Incomplete => draft.incomplete(),
         Kind::Damaged => return draft.damaged(),
         Kind::Refused => draft.refused(),
+        Kind::RefusedByCount => draft.refused_by_count(),
         Kind::Long => {
             let turn = number / LONG_TURN % LONG_LENGTHS.len() as u64;
             draft.long(LONG_LENGTHS[turn as usize]);

@@ -241,17 +241,23 @@ fn put_points(answer: &mut Points, book: &Book, number: usize, indicator: &Indic
 #[cfg(test)]
 mod tests {
     use super::*;
-    use crate::book::{FIGURES, INDICATORS};
+    use crate::book::{COUNTS, FIGURES, INDICATORS};
 
     const FRESH: [u128; 4] = [10_000; 4];
 
+    /// The figures of a year: those that the indicators read, and counts that none
+    /// of them reads.
+    fn year_of(figures: [u128; 8]) -> Vec<u128> {
+        [&figures[..], &[999; COUNTS]].concat()
+    }
+
     /// A joined operator with the given figures in year 0, all marks cleared.
-    fn operator(cabins: u128, access_points: u128, figures: [u128; FIGURES]) -> Operator {
+    fn operator(cabins: u128, access_points: u128, figures: [u128; 8]) -> Operator {
         let mut operator = Operator::fresh();
         operator.joined = true;
         operator.cabins = cabins;
         operator.access_points = access_points;
-        operator.figures[0] = figures.to_vec();
+        operator.figures[0] = year_of(figures);
         operator
     }
 
@@ -270,6 +276,20 @@ mod tests {
         assert_eq!(list.len(), INDICATORS);
         let points: Vec<u128> = list.iter().map(|indicator| indicator.points).collect();
         assert_eq!(points, [154, 126, 66, 54, 20, 5]);
+    }
+
+    /// Whether the values of the year are others with another figure there.
+    fn is_read(figure: usize) -> bool {
+        let one = operator(3, 7, [2, 7, 5, 3, 11, 13, 23, 19]);
+        let mut other = one.clone();
+        other.figures[0][figure] += 100;
+        values(&other, &FRESH) != values(&one, &FRESH)
+    }
+
+    #[test]
+    fn the_counts_are_not_read() {
+        let read: Vec<usize> = (0..FIGURES).filter(|&figure| is_read(figure)).collect();
+        assert_eq!(read, [0, 1, 2, 3, 4, 5, 6, 7]);
     }
 
     #[test]
@@ -299,7 +319,7 @@ mod tests {
     #[test]
     fn every_year_has_its_figures_and_its_index() {
         let mut one = operator(10, 10, [0; 8]);
-        one.figures = vec![vec![10; 8], vec![11; 8], vec![12; 8]];
+        one.figures = vec![year_of([10; 8]), year_of([11; 8]), year_of([12; 8])];
         let indices = [100, 200, 400, 1000];
         let list = indicators();
         let of = |number: usize| -> Vec<u128> {
@@ -324,7 +344,7 @@ mod tests {
     fn each_year_is_rounded_before_the_sum() {
         let mut one = operator(3, 3, [0; 8]);
         for year in 0..3 {
-            one.figures[year] = vec![1, 0, 1, 0, 1, 3, 1, 3];
+            one.figures[year] = year_of([1, 0, 1, 0, 1, 3, 1, 3]);
         }
         // 333333.33 and 3.33 each year.
         let list = indicators();
@@ -366,7 +386,7 @@ mod tests {
                 10
             ]
         );
-        one.figures[0] = vec![1, most, 1, most, most, 1, most, 1];
+        one.figures[0] = year_of([1, most, 1, most, most, 1, most, 1]);
         assert_eq!(
             values(&one, &[1, 1, 1, 100_000]),
             [

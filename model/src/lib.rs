@@ -1,5 +1,5 @@
 //! The independent reference model, written from the requirement alone: 01, and
-//! point 1 of 02 where it speaks. This file only declares the modules.
+//! points 1 and 2 of 02 where they speak. This file only declares the modules.
 
 pub mod book;
 pub mod calls;
@@ -20,5 +20,6 @@ pub mod report;
 pub mod script;
 pub mod settlement;
 pub mod sharing;
+pub mod sheet;
 pub mod walk;
 pub mod writer;

@@ -12,8 +12,10 @@ use std::ops::Range;
 use std::process::ExitCode;
 
 const SUBCOMMANDS: &str = "expected one of: share, product, table, calls, encode, walk, \
-    program FILE, rewrite FILE, compare QUALITY DIR SEED FIRST COUNT, \
-    compare-rewrite REWRITE QUALITY DIR SEED FIRST COUNT";
+    program FILE, rewrite FILE, sheet FILE OPERATOR YEAR, \
+    compare QUALITY DIR SEED FIRST COUNT, \
+    compare-rewrite REWRITE QUALITY DIR SEED FIRST COUNT, \
+    compare-sheet SHEET DIR SEED FIRST COUNT";
 
 const DONE: u8 = 0;
 /// The exit status of `rewrite` when nothing is written.
@@ -54,12 +56,17 @@ fn dispatch(words: &[&str], output: &mut impl Write) -> Result<u8, String> {
         ["walk"] => for_lines(input, output, as_line(walk::answer)),
         ["program", file] => print_program(file, output),
         ["rewrite", file] => rewrite(file, output),
+        ["sheet", file, operator, year] => print_sheet(file, operator, year, output),
         ["compare", quality, folder, seed, first, count] => {
             let programs = Programs::settling(quality)?;
             compare(programs, [folder, seed, first, count], output)
         }
         ["compare-rewrite", rewrite, quality, folder, seed, first, count] => {
             let programs = Programs::rewriting(rewrite, quality)?;
+            compare(programs, [folder, seed, first, count], output)
+        }
+        ["compare-sheet", sheet, folder, seed, first, count] => {
+            let programs = Programs::printing_sheets(sheet)?;
             compare(programs, [folder, seed, first, count], output)
         }
         _ => Err(SUBCOMMANDS.to_string()),
@@ -91,6 +98,20 @@ fn encode(input: impl BufRead, output: &mut impl Write) -> Result<u8, String> {
 fn print_program(file: &str, output: &mut impl Write) -> Result<u8, String> {
     let bytes = read_if_present(file)?;
     print(output, &program::printed(bytes.as_deref()))?;
+    Ok(DONE)
+}
+
+/// Prints the sheet of an operator and year in the book that a file makes.
+fn print_sheet(
+    file: &str,
+    operator: &str,
+    year: &str,
+    output: &mut impl Write,
+) -> Result<u8, String> {
+    let (operator, year) = (number(operator)?, number(year)?);
+    let bytes = read_if_present(file)?;
+    let printed = program::sheet_printed(bytes.as_deref(), operator, year);
+    print(output, &printed)?;
     Ok(DONE)
 }
 
@@ -253,9 +274,14 @@ mod tests {
             &["encode", "a"],
             &["walk", "a"],
             &["rewrite", "a", "b"],
+            &["sheet"],
+            &["sheet", "a", "0"],
+            &["sheet", "a", "0", "0", "0"],
             &["compare", "quality", "folder", "1", "2"],
             &["compare", "quality", "folder", "1", "2", "3", "4"],
             &["compare-rewrite", "rewrite", "folder", "1", "2", "3"],
+            &["compare-sheet", "sheet", "folder", "1", "2"],
+            &["compare-sheet", "sheet", "folder", "1", "2", "3", "4"],
         ] {
             assert_eq!(dispatch(words, &mut output), refused, "{words:?}");
         }

@@ -2,8 +2,10 @@
 //! for a missing file.
 
 use crate::book::Book;
+use crate::calls::Answer;
 use crate::filing::read;
 use crate::report::report;
+use crate::sheet::{sheet, NAMES};
 use crate::writer::written;
 
 /// The longest filing that the programs read, in bytes.
@@ -29,6 +31,27 @@ pub fn rewritten(file: Option<&[u8]>) -> Result<Vec<u8>, Vec<u8>> {
     Ok(written(&book_of(file)?))
 }
 
+/// What the program that prints a sheet puts on standard output. What stops it from
+/// reading the file is told as by the program that settles.
+pub fn sheet_printed(file: Option<&[u8]>, operator: u8, year: u8) -> Vec<u8> {
+    match book_of(file) {
+        Ok(book) => sheet_lines(&book, operator, year),
+        Err(line) => line,
+    }
+}
+
+/// The five counts, each on a line with its name; or the line of the refusal.
+fn sheet_lines(book: &Book, operator: u8, year: u8) -> Vec<u8> {
+    let (answer, counts) = sheet(book, operator, year);
+    if let Answer::Refused(number) = answer {
+        return refused_line(number);
+    }
+    let lines = NAMES.iter().zip(counts);
+    lines
+        .flat_map(|(name, count)| format!("{name} {count}\n").into_bytes())
+        .collect()
+}
+
 /// The book that a file makes of a fresh one, or the line that tells why not.
 /// Follows 01: "The program reads `filing.q`, at most 65,536 bytes (a longer
 /// file prints `too long`, a missing one counts as empty)".
@@ -52,8 +75,12 @@ fn reported(book: &Book) -> Vec<u8> {
             buffer.truncate(length);
             buffer
         }
-        Err(number) => format!("refused {number}\n").into_bytes(),
+        Err(number) => refused_line(number),
     }
+}
+
+fn refused_line(number: u8) -> Vec<u8> {
+    format!("refused {number}\n").into_bytes()
 }
 
 #[cfg(test)]
@@ -143,6 +170,7 @@ mod tests {
                 "amount 2 0 6 0 8",
                 "amount 9 0 0 0 3",
                 "amount 9 0 1 0 600",
+                "amount 9 0 8 0 1",
                 "amount 9 2 7 0 5",
                 "mark 2 3 0",
                 "mark 9 0 0",
@@ -173,9 +201,78 @@ mod tests {
                 "amount 0 1 4 1 9",
                 "interruption 0 1 1 0 0 181 1",
                 "interruption 0 0 1 0 0 180 1",
+                "interruption 0 1 0 1 0 179 7",
             ],
             &["join 0"],
         );
+    }
+
+    #[test]
+    fn counts_are_rewritten_as_amounts() {
+        rewrites(
+            &[
+                "join 3",
+                "interruption 3 0 0 3 0 181 5",
+                "interruption 3 0 0 0 31536000 31536181 5",
+                "interruption 3 0 1 2 0 181 1",
+                "interruption 3 0 0 2 0 181 9",
+                "interruption 3 0 0 1 0 181 5",
+                "interruption 3 0 0 1 0 180 5",
+            ],
+            &[
+                "join 3",
+                "amount 3 0 9 0 1",
+                "amount 3 0 10 0 1",
+                "amount 3 0 11 0 2",
+                "amount 3 0 12 0 1",
+                "amount 3 1 0 0 5",
+                "amount 3 1 1 0 905",
+                "amount 3 1 8 0 1",
+            ],
+        );
+    }
+
+    /// The sheet of operator 3 and that year is printed so.
+    fn prints_sheet(filing: &[u8], year: u8, expected: &str) {
+        let printed = sheet_printed(Some(filing), 3, year);
+        assert_eq!(String::from_utf8(printed).unwrap(), expected);
+    }
+
+    #[test]
+    fn printed_sheets() {
+        let filing = encoded(&[
+            "join 3",
+            "interruption 3 0 0 0 31535900 31536081 5",
+            "interruption 3 0 0 1 31536000 31536180 5",
+            "amount 3 1 10 0 100000000000",
+            "amount 3 1 12 0 7",
+            "interruption 3 0 1 2 0 181 1",
+        ]);
+        let of_year_1 = "counted 1\nshort 1\nplanned 100000000000\ncoupled 0\nexceptional 7\n";
+        prints_sheet(&filing, 1, of_year_1);
+        let of_year_0 = "counted 0\nshort 0\nplanned 0\ncoupled 1\nexceptional 0\n";
+        prints_sheet(&filing, 0, of_year_0);
+        prints_sheet(&filing, 3, "refused 5\n");
+        prints_sheet(&filing[..0], 0, "refused 7\n");
+        assert_eq!(sheet_printed(None, 3, 0), b"refused 7\n");
+        assert_eq!(sheet_printed(Some(&filing), 16, 3), b"refused 4\n");
+    }
+
+    #[test]
+    fn sheets_of_filings_that_are_not_read() {
+        let filing = encoded(&["join 3", "amount 3 0 8 1 1"]);
+        prints_sheet(&filing, 0, "refused 9 at 4\n");
+        // Before the sheet itself is looked at.
+        prints_sheet(&filing, 3, "refused 9 at 4\n");
+        prints_sheet(
+            &encoded(&["join 3", "amount 3 0 13 0 1"]),
+            0,
+            "refused 5 at 4\n",
+        );
+        prints_sheet(&[0; 65_536], 0, "refused 2 at 0\n");
+        prints_sheet(&[0; 65_537], 0, "too long\n");
+        prints_sheet(&filled(65_536), 0, "refused 7\n");
+        prints_sheet(&filled(65_537), 0, "too long\n");
     }
 
     #[test]

@@ -1,11 +1,13 @@
 //! The text commands of the subcommands `calls` and `encode`: filing calls, raw
-//! values put into the book, and the book or its settlement printed on one line.
+//! values put into the book, and the book, its settlement or a sheet of it printed
+//! on one line.
 
 use crate::book::{Book, Operator, FIGURES, INDICATORS, INDICES, OPERATORS, YEARS};
 use crate::calls::{Answer, Interruption, Reason};
 use crate::filing::{self, Field};
 use crate::numbers::{number, signed_number};
 use crate::settlement;
+use crate::sheet;
 use std::fmt::Display;
 
 /// Answer to one command; filing calls, `fresh` and `store` alter the book. These
@@ -29,6 +31,10 @@ pub fn answer(book: &mut Book, line: &str) -> Result<String, String> {
         "settle" => {
             let [] = after(&words)?;
             Ok(settle(book))
+        }
+        "sheet" => {
+            let [operator, year] = after(&words)?;
+            Ok(show_sheet(book, number(operator)?, number(year)?))
         }
         _ => Ok(answer_words(filing::apply(book, &field(&words)?))),
     }
@@ -231,6 +237,13 @@ fn settle(book: &Book) -> String {
     format!("{} {}{}", answer_words(answer), money.pot, lists.concat())
 }
 
+/// The answer and the five counts, which are shown even if they are 0.
+fn show_sheet(book: &Book, operator: u8, year: u8) -> String {
+    let (answer, counts) = sheet::sheet(book, operator, year);
+    let counts = counts.map(|count| format!(" {count}"));
+    format!("{}{}", answer_words(answer), counts.concat())
+}
+
 /// The numbers of a list that are not 0, each with its place.
 fn list(numbers: impl IntoIterator<Item = impl Display>) -> String {
     let shown = |(place, number): (usize, String)| match number.as_str() {
@@ -322,6 +335,9 @@ mod tests {
             ("amount 2 0 7 0 12", "yes"),
             ("amount 2 1 0 0 13", "yes"),
             ("amount 2 2 7 0 14", "yes"),
+            ("amount 2 0 8 0 15", "yes"),
+            ("amount 2 0 12 0 16", "yes"),
+            ("amount 2 2 12 0 17", "yes"),
             ("mark 15 0 0", "yes"),
             ("mark 2 5 0", "yes"),
             ("mark 2 4 0", "yes"),
@@ -332,7 +348,8 @@ mod tests {
             (
                 "show",
                 "32772 5000 10000 | 0:4 1:32772 2:32772 3:32772 4:32772 5:32768 \
-                 | 0:1 1:10000 2:10000 3:4 | 6:7 7:8 8:9 | 48:11 55:12 56:13 71:14",
+                 | 0:1 1:10000 2:10000 3:4 | 6:7 7:8 8:9 \
+                 | 78:11 85:12 86:15 90:16 91:13 111:14 116:17",
             ),
         ]);
     }
@@ -347,6 +364,7 @@ mod tests {
             ("store income 1 3", STORED),
             ("store figure 1 2 7 4", STORED),
             ("store figure 14 0 0 5", STORED),
+            ("store figure 14 1 12 18446744073709551615", STORED),
             ("store pot 4294967295", STORED),
             ("store cap 6", STORED),
             ("store index 2 0", STORED),
@@ -364,6 +382,7 @@ mod tests {
         expected.operators[1].income = 3;
         expected.operators[1].figures[2][7] = 4;
         expected.operators[14].figures[0][0] = 5;
+        expected.operators[14].figures[1][12] = 18_446_744_073_709_551_615;
         expected.pot_rate = 4_294_967_295;
         expected.cap_rate = 6;
         expected.indices[2] = 0;
@@ -382,13 +401,41 @@ mod tests {
                 "0 0 0 | 3:8 | 0:10000 1:10000 2:10000 3:10000 | 3:5 |",
             ),
             (
-                "store figure 15 2 7 6",
-                "0 0 0 | 3:8 | 0:10000 1:10000 2:10000 3:10000 | 3:5 | 383:6",
+                "store figure 15 2 12 6",
+                "0 0 0 | 3:8 | 0:10000 1:10000 2:10000 3:10000 | 3:5 | 623:6",
             ),
             (
                 "store joined 2",
-                "2 0 0 | 3:8 | 0:10000 1:10000 2:10000 3:10000 | 3:5 | 383:6",
+                "2 0 0 | 3:8 | 0:10000 1:10000 2:10000 3:10000 | 3:5 | 623:6",
             ),
+        ]);
+    }
+
+    #[test]
+    fn shown_sheets() {
+        run(&[
+            ("sheet 0 0", "refused 7 0 0 0 0 0"),
+            ("sheet 16 3", "refused 4 0 0 0 0 0"),
+            ("sheet 255 255", "refused 4 0 0 0 0 0"),
+            ("sheet 0 3", "refused 5 0 0 0 0 0"),
+            ("join 0", "yes"),
+            ("sheet 0 0", "yes 0 0 0 0 0"),
+            ("sheet 0 255", "refused 5 0 0 0 0 0"),
+            ("interruption 0 0 0 0 0 181 9", "counted 0"),
+            ("interruption 0 0 0 0 0 180 9", "left out short"),
+            ("interruption 0 0 0 1 0 181 9", "left out planned"),
+            ("amount 0 0 11 0 100000000000", "yes"),
+            ("amount 0 1 12 0 5", "yes"),
+            ("amount 0 0 13 0 5", "refused 5"),
+            ("interruption 0 0 0 2 0 181 9", "refused 8"),
+            ("interruption 0 1 0 3 0 181 9", "refused 9"),
+            ("sheet 0 0", "yes 1 1 1 100000000000 0"),
+            ("sheet 0 1", "yes 0 0 0 0 5"),
+            ("interruption 0 1 1 4 0 20 1", "left out short"),
+            ("sheet 0 0", "yes 1 0 1 100000000000 0"),
+            ("store pot 20001", STORED),
+            ("sheet 0 0", "refused 5 0 0 0 0 0"),
+            ("sheet 16 0", "refused 5 0 0 0 0 0"),
         ]);
     }
 
@@ -508,7 +555,7 @@ mod tests {
 
     #[test]
     fn only_filing_calls_are_fields() {
-        for command in ["fresh", "show", "settle", "store pot 1"] {
+        for command in ["fresh", "show", "settle", "store pot 1", "sheet 0 0"] {
             assert!(encode(command).is_err(), "{command}");
         }
     }
@@ -531,6 +578,13 @@ mod tests {
         "join\t0",
         "fresh 0",
         "show 0",
+        "sheet",
+        "sheet 0",
+        "sheet 0 0 0",
+        "sheet 256 0",
+        "sheet 0 256",
+        "sheet 0 -1",
+        "Sheet 0 0",
         "settle 0",
         "settle ",
         "Settle",
@@ -566,7 +620,7 @@ mod tests {
         "store income 16 0",
         "store cabins 0 18446744073709551616",
         "store figure 0 3 0 0",
-        "store figure 0 0 8 0",
+        "store figure 0 0 13 0",
         "store figure 16 0 0 0",
         "store figure 0 0 0",
         "store pot 4294967296",

@@ -136,7 +136,7 @@ mod tests {
     /// Operator k of which everything is written.
     fn full_operator(k: u128) -> Operator {
         let year = |year: u128| {
-            (0..8)
+            (0..13)
                 .map(|figure| 1 + k * 1000 + year * 100 + figure)
                 .collect()
         };
@@ -189,8 +189,8 @@ mod tests {
     /// Reading the written filing gives the book back, which is written the same.
     fn round_trip(book: &Book) {
         let filing = written(book);
-        // Follows 01: "at most 7,067 bytes".
-        assert!(filing.len() <= 7067);
+        // Follows 02, point 2: "the most a writer needs grows to 10,667 bytes".
+        assert!(filing.len() <= 10_667);
         let mut again = Book::fresh();
         let reading = read(&mut again, &filing);
         assert_eq!(reading.refusal, None);
@@ -249,8 +249,11 @@ mod tests {
         operator.access_points = 2;
         operator.income = 3;
         operator.figures[0][7] = 4;
+        operator.figures[0][8] = 7;
+        operator.figures[0][12] = 8;
         operator.figures[2][0] = 5;
         operator.figures[2][1] = 6;
+        operator.figures[2][10] = 9;
         operator.marks = vec![false, true, true, true, true, false];
         operator
     }
@@ -265,8 +268,11 @@ mod tests {
     fn some_amounts(operator: u8) -> Vec<u8> {
         [
             [4, 0, 12, operator, 0, 7, 0, 0, 0, 0, 0, 0, 0, 0, 4],
+            [4, 0, 12, operator, 0, 8, 0, 0, 0, 0, 0, 0, 0, 0, 7],
+            [4, 0, 12, operator, 0, 12, 0, 0, 0, 0, 0, 0, 0, 0, 8],
             [4, 0, 12, operator, 2, 0, 0, 0, 0, 0, 0, 0, 0, 0, 5],
             [4, 0, 12, operator, 2, 1, 0, 0, 0, 0, 0, 0, 0, 0, 6],
+            [4, 0, 12, operator, 2, 10, 0, 0, 0, 0, 0, 0, 0, 0, 9],
         ]
         .concat()
     }
@@ -317,29 +323,29 @@ mod tests {
 
     #[test]
     fn longest_filing() {
-        // 16 joins, 48 settings, 384 amounts, 96 cleared marks, 4 indices and the
+        // 16 joins, 48 settings, 624 amounts, 96 cleared marks, 4 indices and the
         // rates.
         let book = full();
         assert!(book.in_range());
-        assert_eq!(fields(&book).len(), 16 + 48 + 384 + 96 + 4 + 1);
+        assert_eq!(fields(&book).len(), 16 + 48 + 624 + 96 + 4 + 1);
         let filing = written(&book);
-        assert_eq!(filing.len(), 7067);
+        assert_eq!(filing.len(), 10_667);
         writes(&book, &filing);
         round_trip(&book);
         // Any value back at its fresh one, and any mark set again, makes it shorter.
         let mut other = book.clone();
         other.indices[2] = 10_000;
-        assert_eq!(written(&other).len(), 7067 - 8);
+        assert_eq!(written(&other).len(), 10_667 - 8);
         other.operators[3].marks[2] = true;
-        assert_eq!(written(&other).len(), 7067 - 8 - 6);
-        other.operators[15].figures[2][7] = 0;
-        assert_eq!(written(&other).len(), 7067 - 8 - 6 - 15);
+        assert_eq!(written(&other).len(), 10_667 - 8 - 6);
+        other.operators[15].figures[2][12] = 0;
+        assert_eq!(written(&other).len(), 10_667 - 8 - 6 - 15);
         other.operators[0].income = 0;
-        assert_eq!(written(&other).len(), 7067 - 8 - 6 - 15 - 13);
+        assert_eq!(written(&other).len(), 10_667 - 8 - 6 - 15 - 13);
         other.pot_rate = 0;
-        assert_eq!(written(&other).len(), 7067 - 8 - 6 - 15 - 13);
+        assert_eq!(written(&other).len(), 10_667 - 8 - 6 - 15 - 13);
         other.cap_rate = 0;
-        assert_eq!(written(&other).len(), 7067 - 8 - 6 - 15 - 13 - 11);
+        assert_eq!(written(&other).len(), 10_667 - 8 - 6 - 15 - 13 - 11);
         round_trip(&other);
     }
 
@@ -349,12 +355,12 @@ mod tests {
         for operator in &mut book.operators {
             operator.marks = vec![true; 6];
         }
-        assert_eq!(written(&book).len(), 7067 - 96 * 6);
+        assert_eq!(written(&book).len(), 10_667 - 96 * 6);
         round_trip(&book);
     }
 
     fn refuses_every_buffer(book: &Book) {
-        for length in [0, 3, 7066, 7067, 8000] {
+        for length in [0, 3, 10_666, 10_667, 12_000] {
             leaves_buffer(book, length, 5);
         }
     }
@@ -362,7 +368,7 @@ mod tests {
     #[test]
     fn book_out_of_range() {
         let mut past = full();
-        past.operators[15].figures[2][7] = 100_000_000_001;
+        past.operators[15].figures[2][12] = 100_000_000_001;
         let mut not_joined = full();
         not_joined.operators[15].joined = false;
         let mut marked = Book::fresh();
@@ -391,6 +397,6 @@ mod tests {
         books.iter().for_each(round_trip);
         assert!(books.len() > 1300, "{}", books.len());
         let longest = books.iter().map(|book| written(book).len()).max();
-        assert!(longest > Some(5000), "{longest:?}");
+        assert!(longest > Some(8000), "{longest:?}");
     }
 }

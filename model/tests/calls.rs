@@ -12,7 +12,7 @@ fn run(input: &str) -> (i32, String, String) {
 fn one_book_is_kept_over_the_commands() {
     let input = "# a filing\njoin 0\n\njoin 0\ninterruption 0 0 1 0 0 181 1\nshow\nfresh\njoin 0";
     let output = "yes\nrefused 6\ncounted 0\n\
-        1 0 0 | 0:1 1:1 2:1 3:1 4:1 5:1 | 0:10000 1:10000 2:10000 3:10000 | | 2:1 3:181\n\
+        1 0 0 | 0:1 1:1 2:1 3:1 4:1 5:1 | 0:10000 1:10000 2:10000 3:10000 | | 2:1 3:181 8:1\n\
         0 0 0 | | 0:10000 1:10000 2:10000 3:10000 | |\nyes\n";
     assert_eq!(run(input), (0, output.to_string(), String::new()));
 }

@@ -1,5 +1,5 @@
-//! The subcommands `compare` and `compare-rewrite` as a program, with small
-//! scripts as the programs under test.
+//! The subcommands `compare`, `compare-rewrite` and `compare-sheet` as a program,
+//! with small scripts as the programs under test.
 
 #[path = "common/folder.rs"]
 mod folder;
@@ -21,6 +21,8 @@ const QUALITY: &str = concat!(env!("CARGO_MANIFEST_DIR"), "/tests/common/quality
 const SETTLES: &str = concat!(env!("CARGO_BIN_EXE_model"), " program filing.q");
 /// Writes what the model writes.
 const REWRITES: &str = concat!(env!("CARGO_BIN_EXE_model"), " rewrite filing.q");
+/// Prints the sheet that the model prints; the script has the two arguments.
+const PRINTS_SHEETS: &str = concat!(env!("CARGO_BIN_EXE_model"), " sheet filing.q $1 $2");
 /// How many filings are compared: some of them are refused.
 const COUNT: &str = "10";
 /// True from the second run of a program on, which is on what it wrote first.
@@ -29,6 +31,7 @@ const IS_LATER: &str = "echo run >>runs; [ $(wc -l <runs) -gt 1 ]";
 /// The words of a comparison before the folder.
 const SETTLING: &[&str] = &["compare", PROGRAM];
 const REWRITING: &[&str] = &["compare-rewrite", PROGRAM, QUALITY];
+const SHEETS: &[&str] = &["compare-sheet", PROGRAM];
 
 /// A comparison in a folder of its own.
 struct Compared {
@@ -75,6 +78,11 @@ fn settling(name: &str, behaviour: &str) -> Compared {
 /// A comparison of a program that rewrites, beside one that settles rightly.
 fn rewriting(name: &str, behaviour: &str) -> Compared {
     compared(name, REWRITING, behaviour, SETTLES)
+}
+
+/// A comparison of a program that prints sheets.
+fn sheets(name: &str, behaviour: &str) -> Compared {
+    compared(name, SHEETS, behaviour, "")
 }
 
 /// The names of the filings kept in a folder.
@@ -129,6 +137,17 @@ impl Compared {
         });
     }
 
+    /// The program under test is noticed at the sheet that is asked of a filing.
+    fn is_noticed_at_sheet(&self, number: u64, told: &str) {
+        let (operator, year) = generator::asked_sheet(SEED, number);
+        self.has(&Noticed {
+            number,
+            program: PROGRAM,
+            subject: &format!("the filing, sheet of operator {operator} and year {year}"),
+            told,
+        });
+    }
+
     /// The program is noticed on what was written for the first filing.
     fn is_noticed_on_written(&self, program: &str, told: &str) {
         self.has(&Noticed {
@@ -160,6 +179,23 @@ fn printed(number: u64) -> String {
     String::from_utf8(program::printed(Some(&filing))).unwrap()
 }
 
+/// What the model prints for the sheet that is asked of the filing with that number.
+fn sheet_printed(number: u64) -> String {
+    let filing = generator::filing(SEED, number);
+    let (operator, year) = generator::asked_sheet(SEED, number);
+    String::from_utf8(program::sheet_printed(Some(&filing), operator, year)).unwrap()
+}
+
+/// The first filing of which a sheet is printed that isn't all zeros.
+fn first_sheet() -> u64 {
+    let zeros = "counted 0\nshort 0\nplanned 0\ncoupled 0\nexceptional 0\n";
+    let is_sheet = |&number: &u64| {
+        let printed = sheet_printed(number);
+        printed.starts_with("counted") && printed != zeros
+    };
+    (0..COUNT.parse().unwrap()).find(is_sheet).unwrap()
+}
+
 /// How many bytes the model writes for the first filing.
 fn written() -> usize {
     let filing = generator::filing(SEED, 0);
@@ -179,6 +215,7 @@ fn first_refused() -> (u64, String) {
 fn right_programs_are_taken() {
     settling("settles", SETTLES).is_taken();
     rewriting("rewrites", REWRITES).is_taken();
+    sheets("sheets", PRINTS_SHEETS).is_taken();
 }
 
 #[test]
@@ -251,6 +288,8 @@ fn a_program_that_cannot_be_run_is_no_mismatch() {
         cannot_be_run(name, &["compare"], program);
         let settling = format!("{name}_beside");
         cannot_be_run(&settling, &["compare-rewrite", PROGRAM], program);
+        let sheets = format!("{name}_sheets");
+        cannot_be_run(&sheets, &["compare-sheet"], program);
     }
 }
 
@@ -305,4 +344,40 @@ fn the_status_of_a_refused_field_is_free() {
     let killed = format!("{REWRITES} || kill -9 $$");
     let told = "it fails: signal: 9 (SIGKILL)\n";
     rewriting("refused_and_killed", &killed).is_noticed_at(number, told);
+}
+
+#[test]
+fn other_sheets_are_noticed() {
+    let right = sheet_printed(0);
+    let told = text("output", &right, "", 0);
+    sheets("no_sheet", ":").is_noticed_at_sheet(0, &told);
+    let failing = format!("{PRINTS_SHEETS}; exit 3");
+    sheets("failing_sheet", &failing).is_noticed_at_sheet(0, "it fails: exit status: 3\n");
+    let complaining = format!("{PRINTS_SHEETS}; echo beware >&2");
+    let told = text("error", "", "beware\n", 0);
+    sheets("complaining_sheet", &complaining).is_noticed_at_sheet(0, &told);
+    // The settlement is no sheet.
+    let compared = sheets("settled_sheet", SETTLES);
+    assert_eq!(compared.given.0, 1);
+}
+
+#[test]
+fn a_wrong_count_is_noticed_and_can_be_repeated() {
+    let number = first_sheet();
+    let emptied = format!("{PRINTS_SHEETS} | sed '/^refused/!s/ [0-9]*$/ 0/'");
+    let compared = sheets("wrong_count", &emptied);
+    assert_eq!(compared.given.0, 1);
+    let (_, told, _) = &compared.given;
+    assert!(
+        told.starts_with(&format!("filing {number} of seed {SEED} is kept")),
+        "{told}"
+    );
+    let (operator, year) = generator::asked_sheet(SEED, number);
+    assert!(
+        told.contains(&format!("sheet of operator {operator} and year {year}\n")),
+        "{told}"
+    );
+    let repeat = told.lines().nth(1).unwrap();
+    let words: Vec<&str> = repeat.split(' ').skip(3).collect();
+    assert_eq!(run(&words, ""), compared.given);
 }

@@ -48,7 +48,15 @@ fn encoded_commands() {
     let bytes = [1, 0, 1, 16, 5, 0, 3, 0, 6, 1, 7, 0, 5, 3, 0, 0, 0, 1];
     assert_eq!(run(&["encode"], input), done(bytes));
     assert_eq!(run(&["encode"], b"\n# nothing\n"), done([]));
-    for command in ["settle", "show", "fresh", "store pot 1", "join 256", "join"] {
+    for command in [
+        "settle",
+        "show",
+        "fresh",
+        "store pot 1",
+        "sheet 0 0",
+        "join 256",
+        "join",
+    ] {
         assert_eq!(run(&["encode"], command.as_bytes()).0, 2, "{command}");
     }
 }
@@ -117,7 +125,7 @@ fn refused_files() {
 fn largest_book() -> Vec<String> {
     let joins = (0..16).map(|operator| format!("join {operator}"));
     let settings = places(&[16, 3]).map(|place| format!("setting {place} 1"));
-    let amounts = places(&[16, 3, 8]).map(|place| format!("amount {place} 0 1"));
+    let amounts = places(&[16, 3, 13]).map(|place| format!("amount {place} 0 1"));
     let marks = places(&[16, 6]).map(|place| format!("mark {place} 0"));
     let indices = (0..4).map(|number| format!("index {number} 1"));
     let rates = ["rates 1 1".to_string()];
@@ -146,7 +154,7 @@ fn places(counts: &[u32]) -> impl Iterator<Item = String> {
 fn largest_book_is_rewritten() {
     let calls = largest_book();
     let (_, expected, _) = run(&["encode"], calls.join("\n").as_bytes());
-    assert_eq!(expected.len(), 7067);
+    assert_eq!(expected.len(), 10_667);
     // The joins, then the other calls from the last to the first.
     let others = calls[16..].iter().rev();
     let turned: Vec<String> = calls[..16].iter().chain(others).cloned().collect();

@@ -364,7 +364,7 @@ fn two_refusals_at_once() {
 fn has_everything(k: usize) {
     let mut book = Book::fresh();
     book.operators[k] = operator(10, 20, 123_456_789);
-    book.operators[k].figures = vec![vec![3; 8]; 3];
+    book.operators[k].figures = vec![vec![3; 13]; 3];
     book.pot_rate = 20_000;
     book.cap_rate = 20_000;
     let settlement = settled(&book);
@@ -387,7 +387,7 @@ fn single_operator() {
 /// over go to the lower operators.
 fn is_shared_alike(figure: u128) {
     let mut one = operator(5, 6, 1_000_000);
-    one.figures = vec![vec![figure; 8]; 3];
+    one.figures = vec![vec![figure; 13]; 3];
     let mut book = Book::fresh();
     book.operators[1..8].fill(one);
     let settlement = settled(&book);
@@ -464,7 +464,7 @@ fn everyone_marked_at_one_indicator() {
 /// pool that is left.
 fn has_what_is_left(k: usize, number: usize) {
     let mut one = operator(10, 1000, 1_000_000);
-    one.figures = vec![vec![7; 8]; 3];
+    one.figures = vec![vec![7; 13]; 3];
     one.marks[number] = true;
     let mut book = Book::fresh();
     book.operators[..3].fill(one);
@@ -565,7 +565,8 @@ fn two_pairs(incomes: [u128; 4]) -> Book {
     let one = |k: usize| {
         let mut one = operator(1, 1000, incomes[k]);
         if k >= 2 {
-            one.figures[0] = vec![0, 0, 0, 0, 100, 1, 0, 0];
+            one.figures[0][4] = 100;
+            one.figures[0][5] = 1;
         }
         one
     };
@@ -652,7 +653,7 @@ fn sixteen(one: Operator) -> Book {
 #[test]
 fn sixteen_operators_at_the_largest_settings() {
     let mut one = operator(100_000, 4_000_000, MOST);
-    one.figures = vec![vec![MOST; 8]; 3];
+    one.figures = vec![vec![MOST; 13]; 3];
     let mut book = sixteen(one);
     book.indices = vec![100_000; 4];
     let settlement = settled(&book);
@@ -687,9 +688,10 @@ fn sixteen_operators_at_the_largest_settings() {
 /// operator has no interruptions and no fees.
 fn largest_sums() -> Book {
     let mut one = operator(1, 1, MOST);
-    one.figures = vec![vec![MOST, MOST, 1, MOST, MOST, 1, MOST, 1]; 3];
+    let read = [MOST, MOST, 1, MOST, MOST, 1, MOST, 1];
+    one.figures = vec![[&read[..], &[MOST; 5]].concat(); 3];
     let mut book = sixteen(one);
-    book.operators[15].figures = vec![vec![0; 8]; 3];
+    book.operators[15].figures = vec![vec![0; 13]; 3];
     book.indices = vec![1, 1, 1, 100_000];
     book
 }
@@ -815,4 +817,40 @@ fn sums_of_many_books() {
     assert!(counts.settled > 2500, "{counts:?}");
     assert!(counts.moved > 1000, "{counts:?}");
     assert!(counts.moved_and_cut > 500, "{counts:?}");
+}
+
+/// Other counts settle in the same way.
+fn settles_alike_with_other_counts(random: &mut Random) {
+    let book = random_book(random);
+    let mut other = book.clone();
+    for operator in other.operators.iter_mut().filter(|one| one.joined) {
+        for count in operator.figures.iter_mut().flat_map(|year| &mut year[8..]) {
+            *count = uneven(random, MOST as u64);
+        }
+    }
+    assert_eq!(settle(&other), settle(&book));
+}
+
+#[test]
+fn the_settlement_does_not_depend_on_the_counts() {
+    for number in 0..1000 {
+        settles_alike_with_other_counts(&mut Random::new(8, number));
+    }
+}
+
+#[test]
+fn left_out_interruptions_leave_the_settlement() {
+    let mut book = case_m();
+    let of_m = settled(&book);
+    for call in [
+        "interruption 0 0 0 1 0 1000000 100000",
+        "interruption 0 0 0 2 0 1000000 100000",
+        "interruption 1 0 1 3 0 1000000 1",
+        "interruption 1 0 0 0 0 180 100000",
+    ] {
+        let answer = script::answer(&mut book, call).unwrap();
+        assert!(answer.starts_with("left out"), "{call}");
+    }
+    assert_ne!(book, case_m());
+    assert_eq!(settled(&book), of_m);
 }

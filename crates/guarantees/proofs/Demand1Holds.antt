@@ -1,18 +1,24 @@
 -- Demand 1 holds, as specs/Demand1.antt says: one law turns the lowest line of a table into what a call says and leaves.
 -- Assumes nothing.
-use Prim.Native.Nat.{ℕ}
+use Prim.Native.Nat.{ℕ, _≤_, _<_}
 use mathlib.Core.Path.{_≡_, refl}
-use mathlib.Core.Bool.{Bool, true, false}
+use mathlib.Core.Bool.{Bool, true, false, not}
 use mathlib.Core.List.{List, [], _∷_}
+use native.Mathlib.Omega.{arith}
+use lib.Dec.{leb, ltb, eqb}
 use lib.ListN.{length}
+use borrow.Author.Tests.{ne-eqb, le-leb, lt-ltb}
 use Rattle.calls.specs.declared.Call.{Call}
+use Rattle.calls.specs.declared.Call.the-variants.{Amount}
+use Rattle.calls.specs.Limits.{operators, years, figureCount}
 use Rattle.calls.specs.Answers.{onAnswer, firstOf, yes-said}
 use Rattle.calls.specs.Call.{factsOf}
-use Rattle.calls.specs.Laws.{risesFrom, Lowest}
+use Rattle.calls.specs.Laws.{applies, risesFrom, Lowest}
+use Rattle.calls.proofs.Flags.{and-true-right, and-false-right, or-false-right}
 use Rattle.calls.proofs.Lowest.{lowest}
 use Rattle.book.specs.declared.Book.{Book}
 use Rattle.book.specs.Book.{isJoined, figureOf, inRange}
-use Rattle.ledger.specs.Table.{linesFor, answerTo}
+use Rattle.ledger.specs.Table.{some, linesFor, answerTo}
 use Rattle.ledger.specs.Calls.{outcomeOf, changed, apply, file}
 use Rattle.ledger.proofs.LowestOfCalls.{lowest-of-calls}
 use Rattle.fields.proofs.LowestOfFields.{lowest-of-fields, field-answered}
@@ -21,6 +27,8 @@ use Rattle.filing.proofs.ReadLaws.{read-as-calls}
 use Rattle.values.specs.Indicator.{Indicator, electricity}
 use Rattle.settlement.specs.Settlement.{settlingLines, nothing, settlementBy, settledBy, settled}
 use Rattle.settlement.proofs.SettledLaws.{lowest-of-settling}
+use Rattle.sheets.specs.Sheet.{countsOf, noCounts, sheetOf, sheetLines}
+use Rattle.sheets.proofs.SheetLaws.{sheet-by-lines, lowest-of-sheets}
 use Rattle.text.specs.Buffer.{putInto, bufferAfter}
 use Rattle.report.specs.Report.{textOf, reportLines, reportAnswer, reportBuffer}
 use Rattle.report.proofs.AnswerLaws.{lowest-of-reports}
@@ -59,6 +67,33 @@ unfolding settledBy
 settling-judged b indicators =
     judged (settlingLines b indicators) yes-said nothing (settlementBy b indicators) (lowest-of-settling b indicators)
 
+sheets-judged : (b : Book) (operator year : ℕ)
+    → Judged (sheetLines b operator year) yes-said (sheetOf b operator year .said) (sheetOf b operator year .counts) noCounts (countsOf b operator year)
+unfolding sheetOf onAnswer
+sheets-judged b operator year =
+    rw (sheet-by-lines b operator year) (judged (sheetLines b operator year) yes-said noCounts (countsOf b operator year) (lowest-of-sheets b operator year))
+
+-- the lines 4 to 7 of an amount are those of a sheet
+module _ (b : Book) (operator year figure sign value : ℕ) (lf : figure < figureCount) (ls : sign ≤ 1) (n : ℕ) (low : n ≤ 7) where
+  as-amount : (ranged : Bool) → inRange b ≡ ranged
+      → applies (sheetLines b operator year) n ≡ applies (callLines b (Amount operator year figure sign value)) n
+  unfolding sheetLines callLines linesFor factsOf some applies
+  as-amount false out = rw out refl
+  as-amount true ranged =
+      rw (
+        ranged,
+        lt-ltb figure figureCount lf,
+        le-leb sign 1 ls,
+        and-true-right (ltb year years),
+        and-true-right (ltb year years),
+        or-false-right (leb operators operator),
+        or-false-right (not (isJoined b operator)),
+        ne-eqb 8 n (λ e. omega (arith, low, e)),
+        ne-eqb 9 n (λ e. omega (arith, low, e)),
+        and-false-right (eqb 6 n),
+      )
+      refl
+
 pub demand-1 : Demand1
 unfolding read readFrom settled writerAnswer writerBuffer reportAnswer reportBuffer bufferAfter
 demand-1 =
@@ -72,6 +107,8 @@ demand-1 =
       reads-out-of-range = λ b bytes out. rw out refl;
       settles = λ b. settling-judged b electricity;
       settles-by-list = settling-judged;
+      sheets = sheets-judged;
+      sheets-as-amounts = λ b operator year figure sign value lf ls n low. as-amount b operator year figure sign value lf ls n low (inRange b) refl;
       writes = λ b buffer. judged (writerLines b buffer) (length (written b)) buffer (putInto buffer (written b)) (lowest-of-writing b buffer);
       reports = λ b buffer. judged (reportLines b buffer) (length (textOf b)) buffer (putInto buffer (textOf b)) (lowest-of-reports b buffer);
     }

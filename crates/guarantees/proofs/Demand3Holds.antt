@@ -20,6 +20,7 @@ use Rattle.writer.specs.Writer.{writerLines, writerAnswer, writerBuffer}
 use Rattle.history.specs.History.{heldIn}
 use Rattle.history.specs.Demand.{bookOf, historyOf}
 use Rattle.history.proofs.Kept.{kept, equal-as-histories}
+use Rattle.sheets.proofs.TotalLaws.{sheets-add-up}
 use Rattle.values.specs.Indicator.{electricity}
 use Rattle.settlement.specs.Settlement.{settled}
 use Rattle.settlement.proofs.SettledLaws.{settling, worth-electricity}
@@ -57,6 +58,7 @@ one-list calls =
       held = λ run. rw (leaves calls run) (kept calls .held);
       covered = kept calls .covered;
       in-range = λ run. rw (leaves calls run) (kept calls .in-range);
+      sheets = λ run operator known. rw (leaves calls run) (sheets-add-up calls operator known);
       has-run = record { answers = run .0; last = bookOf calls; in-turn = run .1 };
       last-defined = leaves calls;
       answers-defined = kept calls .answers;

@@ -2,14 +2,16 @@
 -- proofs/Demand1Holds.antt. The contracts of the calls say that the code answers and leaves what is defined here; every call ends, since
 -- the prover takes no other.
 -- Assumes nothing.
-use Prim.Native.Nat.{ℕ, _<_}
+use Prim.Native.Nat.{ℕ, _≤_, _<_}
 use mathlib.Core.Path.{_≡_}
 use mathlib.Core.Logic.{_↔_}
 use mathlib.Core.Bool.{Bool, true, false, cond}
 use mathlib.Core.List.{List, [], _∷_}
 use lib.ListN.{length}
 use Rattle.calls.specs.declared.Call.{Call}
+use Rattle.calls.specs.declared.Call.the-variants.{Amount}
 use Rattle.calls.specs.declared.Answer.{Answer}
+use Rattle.calls.specs.Limits.{figureCount}
 use Rattle.calls.specs.Answers.{Said, refused-by, accepted, yes-said, said}
 use Rattle.calls.specs.Call.{factsOf}
 use Rattle.calls.specs.Laws.{applies, Lowest}
@@ -24,6 +26,7 @@ use Rattle.filing.specs.Reader.{reading, read}
 use Rattle.filing.specs.Laws.{ReadAsCallsIfInRange}
 use Rattle.values.specs.Indicator.{Indicator, electricity}
 use Rattle.settlement.specs.Settlement.{settlingLines, nothing, settlementBy, settledBy, settled}
+use Rattle.sheets.specs.Sheet.{countsOf, noCounts, sheetOf, sheetLines}
 use Rattle.text.specs.Buffer.{putInto}
 use Rattle.report.specs.Report.{textOf, reportLines, reportAnswer, reportBuffer}
 use Rattle.writing.specs.Written.{written}
@@ -66,6 +69,12 @@ pub record Demand1 : Type 0 where
   -- the same over any list of indicators
   pub settles-by-list : (b : Book) (indicators : List Indicator)
       → Judged (settlingLines b indicators) yes-said (settledBy b indicators .said) (settledBy b indicators .settlement) nothing (settlementBy b indicators)
+  -- the sheet of an operator and year, by `sheet` (02, point 2); "and five zeros with it"
+  pub sheets : (b : Book) (operator year : ℕ)
+      → Judged (sheetLines b operator year) yes-said (sheetOf b operator year .said) (sheetOf b operator year .counts) noCounts (countsOf b operator year)
+  -- "4, 5 or 7 as an amount field with that operator and year would", whatever else that field says within its range
+  pub sheets-as-amounts : (b : Book) (operator year figure sign value : ℕ) → figure < figureCount → sign ≤ 1 → (n : ℕ) → n ≤ 7
+      → applies (sheetLines b operator year) n ≡ applies (callLines b (Amount operator year figure sign value)) n
   -- "a refused writer or report leaves the buffer. Accepted, these two answer with the number of bytes written and leave all bytes after
   -- their output"
   pub writes : (b : Book) (buffer : List ℕ)

@@ -10,11 +10,13 @@
 --   6. crates/ledger/specs/Filed.antt: `Files`, which the contract of each of the seven calls says, by value (crates/bookkeeping/src/by_value.rt) and
 --      with the book lent (crates/lent/src/lending.rt, held.rt); so a run of calls in turn, `FiledInTurn`, may mix them
 --   7. crates/history/specs/Demand.antt: `bookOf` and `historyOf` of a list
---   8. crates/writing/specs/Written.antt: `written`; crates/writer/specs/Writer.antt: what `write` answers and puts into a buffer
---   9. crates/settlement/specs/Settlement.antt: `settled`, the contract of `settle`; crates/settlement/specs/Laws.antt: `Settles`, `Balanced`,
+--   8. crates/sheets/specs/Sheet.antt: `sheetOf`, the contract of `sheet`; crates/sheets/specs/Total.antt: `SheetsAddUp`, which counts and adds
+--      from the calls and the history's answers alone
+--   9. crates/writing/specs/Written.antt: `written`; crates/writer/specs/Writer.antt: what `write` answers and puts into a buffer
+--  10. crates/settlement/specs/Settlement.antt: `settled`, the contract of `settle`; crates/settlement/specs/Laws.antt: `Settles`, `Balanced`,
 --      and `Settling`, the same over any list of indicators
 -- Assumes nothing.
-use Prim.Native.Nat.{ℕ, _≤_}
+use Prim.Native.Nat.{ℕ, _≤_, _<_}
 use mathlib.Core.Path.{_≡_}
 use mathlib.Core.Logic.{_↔_}
 use mathlib.Core.Bool.{true}
@@ -22,6 +24,7 @@ use mathlib.Core.List.{List, map}
 use lib.ListN.{take}
 use Rattle.calls.specs.declared.Call.{Call}
 use Rattle.calls.specs.declared.Answer.{Answer}
+use Rattle.calls.specs.Limits.{operators}
 use Rattle.calls.specs.Answers.{accepted, yes-said, said}
 use Rattle.calls.specs.Held.{Same}
 use Rattle.book.specs.declared.Book.{Book}
@@ -30,6 +33,7 @@ use Rattle.ledger.specs.Calls.{filedAnswers}
 use Rattle.ledger.specs.Filed.{FiledInTurn}
 use Rattle.history.specs.History.{plain, heldIn, notedAnswers}
 use Rattle.history.specs.Demand.{bookOf, historyOf}
+use Rattle.sheets.specs.Total.{SheetsAddUp}
 use Rattle.values.specs.Indicator.{Indicator, electricity}
 use Rattle.settlement.specs.Settlement.{settled}
 use Rattle.settlement.specs.Laws.{Worth, Settles, Balanced, Settling}
@@ -51,6 +55,9 @@ pub record OneList (calls : List Call) : Type 0 where
   pub covered : (operator year figure : ℕ) → historyOf calls .withdrawn operator year figure ≤ historyOf calls .filed operator year figure
   -- 5 never applies to the book of a list: it is in range
   pub in-range : (run : CodeRun calls) → inRange (run .last) ≡ true
+  -- for each operator the fifteen numbers of its three sheets are the accepted interruptions filed less those withdrawn, plus what accepted
+  -- amounts filed there less what they withdrew (02, point 2)
+  pub sheets : (run : CodeRun calls) (operator : ℕ) → operator < operators → SheetsAddUp (run .last) calls operator
   -- a list has a run; its last book is the defined one, so the rest may be said of `bookOf` as well
   pub has-run : CodeRun calls
   pub last-defined : (run : CodeRun calls) → run .last ≡ bookOf calls

@@ -1,6 +1,8 @@
 //! The seven filing calls: the marked cases, the ranges, the order of the
 //! refusals, and books out of range.
 
+mod counts;
+
 use super::*;
 use crate::book::{figure_places, Operator};
 use std::ops::RangeInclusive;
@@ -98,30 +100,61 @@ fn refuses_filed(book: &Book, number: u8, filed: Interruption) {
     refuses(book, number, |book| interruption(book, &filed));
 }
 
-/// Files the interruption and checks that it is left out and leaves the book.
-fn leaves_out(book: &Book, reason: Reason, filed: Interruption) {
+/// The count that an interruption left out for that reason moves.
+fn count_figure(reason: Reason) -> usize {
+    match reason {
+        Reason::Short => 9,
+        Reason::Planned => 10,
+        Reason::Coupled => 11,
+        Reason::Exceptional => 12,
+    }
+}
+
+/// Brings the figure up or down by so much.
+fn moved(figure: &mut u128, by: i128) {
+    *figure = (*figure as i128 + by) as u128;
+}
+
+/// 1 if the interruption is filed, -1 if it is withdrawn.
+fn one(filed: &Interruption) -> i128 {
+    [1, -1][usize::from(filed.sign)]
+}
+
+/// Files the interruption and checks that it is left out, and that it moves the
+/// count of its reason in that year by 1 and nothing else.
+fn leaves_out(book: &Book, year: usize, reason: Reason, filed: Interruption) {
     let mut after = book.clone();
     let answer = interruption(&mut after, &filed);
     assert_eq!(answer, Answer::LeftOut(reason), "{filed:?}");
-    assert_eq!(after, *book);
+    let mut expected = book.clone();
+    let figures = &mut expected.operators[usize::from(filed.operator)].figures[year];
+    moved(&mut figures[count_figure(reason)], one(&filed));
+    assert_eq!(after, expected, "{filed:?}");
 }
 
-/// The same for the interruption filed and withdrawn.
+/// The same for the interruption of year 0 filed and then withdrawn, which without
+/// any in its count is refused.
 fn leaves_out_both(book: &Book, reason: Reason, filed: Interruption) {
-    leaves_out(book, reason, filed);
-    leaves_out(book, reason, filed.withdrawn());
+    leaves_out(book, 0, reason, filed);
+    refuses_filed(book, 9, filed.withdrawn());
+    let mut with_one = book.clone();
+    interruption(&mut with_one, &filed);
+    leaves_out(&with_one, 0, reason, filed.withdrawn());
+    interruption(&mut with_one, &filed.withdrawn());
+    assert_eq!(with_one, *book);
 }
 
-/// Files the interruption and checks that it counts, in that year only and in
-/// those two figures only.
+/// Files the interruption and checks that it counts, in that year only, in those
+/// two figures by so much, by 1 in the count, and in no other figure.
 fn counts(book: &Book, year: usize, figure: usize, by: (i128, i128), filed: Interruption) {
     let mut after = book.clone();
     let answer = interruption(&mut after, &filed);
     assert_eq!(answer, Answer::Counted { year }, "{filed:?}");
     let mut expected = book.clone();
     let figures = &mut expected.operators[usize::from(filed.operator)].figures[year];
-    figures[figure] = (figures[figure] as i128 + by.0) as u128;
-    figures[figure + 1] = (figures[figure + 1] as i128 + by.1) as u128;
+    moved(&mut figures[figure], by.0);
+    moved(&mut figures[figure + 1], by.1);
+    moved(&mut figures[8], one(&filed));
     assert_eq!(after, expected, "{filed:?}");
 }
 
@@ -130,9 +163,9 @@ fn counts(book: &Book, year: usize, figure: usize, by: (i128, i128), filed: Inte
 #[test]
 fn seconds_180_are_short_and_181_count() {
     let book = with(&[0]);
-    leaves_out(&book, Reason::Short, mv(0, 180));
+    leaves_out(&book, 0, Reason::Short, mv(0, 180));
     counts(&book, 0, 0, (1, 181), mv(0, 181));
-    leaves_out(&book, Reason::Short, mv(1_000_000, 1_000_180));
+    leaves_out(&book, 0, Reason::Short, mv(1_000_000, 1_000_180));
     counts(&book, 0, 0, (1, 181), mv(1_000_000, 1_000_181));
 }
 
@@ -308,13 +341,6 @@ fn short_comes_before_the_cause() {
 }
 
 #[test]
-fn left_out_needs_no_room_in_the_figures() {
-    let book = with_amounts(&[(0, 0, MOST), (0, 1, MOST), (0, 2, MOST), (0, 3, MOST)]);
-    leaves_out(&book, Reason::Short, mv(0, 180));
-    leaves_out(&book, Reason::Planned, mv(0, 181).cause(1));
-}
-
-#[test]
 fn signs_and_levels_out_of_range() {
     let book = with(&[0]);
     let counted = mv(0, 1000);
@@ -355,12 +381,12 @@ fn bounds_of_the_times() {
     counts(&book, 2, 0, (1, 126_143_999), mv(-31_536_000, 94_607_999));
     refuses_filed(&book, 5, mv(-31_536_001, 0));
     refuses_filed(&book, 5, mv(i64::MIN, 0));
-    leaves_out(&book, Reason::Short, mv(5000, 5000));
+    leaves_out(&book, 0, Reason::Short, mv(5000, 5000));
     refuses_filed(&book, 5, mv(5001, 5000));
     refuses_filed(&book, 5, mv(i64::MAX, 5000));
     // End.
-    leaves_out(&book, Reason::Short, mv(0, 0));
-    leaves_out(&book, Reason::Short, mv(94_607_999, 94_607_999));
+    leaves_out(&book, 0, Reason::Short, mv(0, 0));
+    leaves_out(&book, 2, Reason::Short, mv(94_607_999, 94_607_999));
     refuses_filed(&book, 5, mv(-1000, -1));
     refuses_filed(&book, 5, mv(-1, -1));
     refuses_filed(&book, 5, mv(94_608_000, 94_608_000));
@@ -384,9 +410,9 @@ fn interruptions_add_up() {
         assert_eq!(interruption(&mut book, &filed), Answer::Counted { year });
     }
     let mut expected = with(&[0, 7]);
-    expected.operators[7].figures[0] = vec![13, 5000, 2, 681, 0, 0, 0, 0];
-    expected.operators[7].figures[2] = vec![2, 2000, 0, 0, 0, 0, 0, 0];
-    expected.operators[0].figures[0] = vec![1, 300, 0, 0, 0, 0, 0, 0];
+    expected.operators[7].figures[0] = vec![13, 5000, 2, 681, 0, 0, 0, 0, 4, 0, 0, 0, 0];
+    expected.operators[7].figures[2] = vec![2, 2000, 0, 0, 0, 0, 0, 0, 1, 0, 0, 0, 0];
+    expected.operators[0].figures[0] = vec![1, 300, 0, 0, 0, 0, 0, 0, 1, 0, 0, 0, 0];
     assert_eq!(book, expected);
 }
 
@@ -396,7 +422,7 @@ fn interruptions_are_withdrawn() {
     let filed = mv(0, 1000).weight(10);
     refuses_filed(&book, 9, filed.withdrawn());
     assert_eq!(interruption(&mut book, &filed), Answer::Counted { year: 0 });
-    // No earlier twin is needed, only enough in both figures.
+    // No earlier twin is needed, only enough in the three figures.
     let other = mv(0, 2500).weight(4).withdrawn();
     counts(&book, 0, 0, (-4, -10_000), other);
     // Too little weight, too few weighted seconds.
@@ -414,9 +440,16 @@ fn interruptions_are_withdrawn() {
 
 #[test]
 fn interruptions_and_amounts_share_the_figures() {
-    let book = with_amounts(&[(1, 2, 1), (1, 3, 500)]);
+    let book = with_amounts(&[(1, 2, 1), (1, 3, 500), (1, 8, 1)]);
     let withdrawn = mv(31_536_000, 31_536_500).lv().withdrawn();
     counts(&book, 1, 2, (-1, -500), withdrawn);
+    let book = with_amounts(&[(1, 11, 1)]);
+    leaves_out(&book, 1, Reason::Coupled, withdrawn.cause(2));
+    // The count of another year, or of another outcome.
+    for amount in [(0, 8, 1), (2, 8, 1), (1, 9, 1), (1, 12, 1)] {
+        let book = with_amounts(&[(1, 2, 1), (1, 3, 500), amount]);
+        refuses_filed(&book, 9, withdrawn);
+    }
 }
 
 #[test]
@@ -527,7 +560,7 @@ fn order_of_refusals_of_an_amount() {
     is_out_of_range(3..=255, |book, operator, year| {
         amount(book, operator, year, 0, 0, u64::MAX)
     });
-    is_out_of_range(8..=255, |book, operator, figure| {
+    is_out_of_range(13..=255, |book, operator, figure| {
         amount(book, operator, 0, figure, 1, 1)
     });
     let book = with(&[0]);

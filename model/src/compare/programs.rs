@@ -1,6 +1,7 @@
 //! The programs under test: what a filing asks of them, and what the model gives.
 
 use crate::files::of_file;
+use crate::generator;
 use crate::program;
 use std::fs;
 use std::path::{Path, PathBuf};
@@ -11,6 +12,8 @@ pub enum Programs {
     Settling { quality: PathBuf },
     /// One that rewrites a filing; what it writes is settled by the other.
     Rewriting { rewrite: PathBuf, quality: PathBuf },
+    /// One that prints the sheet of an operator and year in a filing.
+    Sheets { sheet: PathBuf },
 }
 
 /// What a program puts on standard output and on standard error.
@@ -23,8 +26,9 @@ pub struct Streams {
 /// One run that a filing asks for, and what the model gives for it.
 pub struct Task {
     pub program: PathBuf,
-    /// Which filing it is, in words.
-    pub subject: &'static str,
+    pub arguments: Vec<String>,
+    /// Which filing it is, in words, and what is asked of it.
+    pub subject: String,
     pub filing: Vec<u8>,
     pub expected: Streams,
 }
@@ -53,6 +57,11 @@ impl Programs {
         Ok(Programs::Rewriting { rewrite, quality })
     }
 
+    pub fn printing_sheets(sheet: &str) -> Result<Programs, String> {
+        let sheet = absolute(sheet)?;
+        Ok(Programs::Sheets { sheet })
+    }
+
     /// The subcommand of the comparison, and the programs that it names.
     pub fn words(&self) -> String {
         match self {
@@ -64,11 +73,13 @@ impl Programs {
                     quality.display()
                 )
             }
+            Programs::Sheets { sheet } => format!("compare-sheet {}", sheet.display()),
         }
     }
 
-    /// The runs that a filing asks for, in turn.
-    pub fn tasks(&self, filing: &[u8]) -> Vec<Task> {
+    /// The runs that the filing with that number of a seed asks for, in turn.
+    pub fn tasks(&self, seed: u64, number: u64) -> Vec<Task> {
+        let filing = &generator::filing(seed, number)[..];
         match self {
             Programs::Settling { quality } => {
                 let printed = Streams::output(program::printed(Some(filing)));
@@ -78,6 +89,10 @@ impl Programs {
                 Err(line) => vec![task(rewrite, "the filing", filing, Streams::error(line))],
                 Ok(written) => rewriting_tasks(rewrite, quality, filing, &written),
             },
+            Programs::Sheets { sheet } => {
+                let asked = generator::asked_sheet(seed, number);
+                vec![sheet_task(sheet, filing, asked)]
+            }
         }
     }
 }
@@ -94,10 +109,22 @@ fn rewriting_tasks(rewrite: &Path, quality: &Path, filing: &[u8], written: &[u8]
     ]
 }
 
-fn task(program: &Path, subject: &'static str, filing: &[u8], expected: Streams) -> Task {
+/// The sheet of one operator and year is printed, which are the two arguments.
+fn sheet_task(sheet: &Path, filing: &[u8], (operator, year): (u8, u8)) -> Task {
+    let printed = program::sheet_printed(Some(filing), operator, year);
+    let subject = format!("the filing, sheet of operator {operator} and year {year}");
+    Task {
+        arguments: vec![operator.to_string(), year.to_string()],
+        ..task(sheet, &subject, filing, Streams::output(printed))
+    }
+}
+
+/// A run without arguments.
+fn task(program: &Path, subject: &str, filing: &[u8], expected: Streams) -> Task {
     Task {
         program: program.to_path_buf(),
-        subject,
+        arguments: Vec::new(),
+        subject: subject.to_string(),
         filing: filing.to_vec(),
         expected,
     }

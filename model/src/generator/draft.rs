@@ -235,13 +235,7 @@ impl Draft {
         let end = self.end();
         let seconds = self.seconds(end);
         let level = self.random.place(2) as u8;
-        let weight = match self.random.up_to(5) {
-            _ if level == 1 => 1,
-            0 => 1,
-            1 => 100_000,
-            2 => 1 + self.random.up_to(99_999),
-            _ => 1 + self.random.up_to(300),
-        };
+        let weight = self.weight(level);
         Interruption {
             operator: self.joined_operator(),
             sign: u8::from(self.random.one_in(10)),
@@ -249,8 +243,20 @@ impl Draft {
             cause: self.random.pick(&[0, 0, 0, 1, 2, 3, 4, 4]),
             start: (end - seconds).max(EARLIEST_START),
             end,
-            weight: weight as u32,
+            weight,
         }
+    }
+
+    /// The weight of an interruption of that level, which only at MV is drawn.
+    pub fn weight(&mut self, level: u8) -> u32 {
+        let weight = match self.random.up_to(5) {
+            _ if level == 1 => 1,
+            0 => 1,
+            1 => 100_000,
+            2 => 1 + self.random.up_to(99_999),
+            _ => 1 + self.random.up_to(300),
+        };
+        weight as u32
     }
 
     /// The end of an interruption, often at or near the end of a year.

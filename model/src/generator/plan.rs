@@ -23,6 +23,8 @@ pub struct Plan {
     set_again: u64,
     interruptions: u64,
     withdrawals: u64,
+    /// How many steps move a count.
+    counts: u64,
     corrections: u64,
 }
 
@@ -100,6 +102,7 @@ impl Draft {
             set_again: self.random.pick(&[0, 0, 0, 2]),
             interruptions: 0,
             withdrawals: self.random.pick(&[0, 0, 2]),
+            counts: self.random.pick(&[0, 0, 2]),
             corrections: self.random.pick(&[0, 0, 3]),
         };
         self.suit(&mut plan, kind);
@@ -124,15 +127,7 @@ impl Draft {
                 plan.interruptions = self.random.pick(&[0, 10]);
             }
             Kind::Ties => self.suit_ties(plan),
-            Kind::Interruptions => {
-                plan.filled = self.random.pick(&[0, 20]);
-                plan.interruptions = 1 + self.random.up_to(120);
-                plan.withdrawals = self.random.up_to(20);
-            }
-            Kind::Withdrawals => {
-                plan.withdrawals = 10 + self.random.up_to(60);
-                plan.interruptions = self.random.pick(&[0, 30]);
-            }
+            Kind::Interruptions | Kind::Withdrawals | Kind::LeftOut => self.suit_moved(plan, kind),
             Kind::Marked => {
                 plan.marked = self.random.pick(&[5, 20, 50, 80]);
                 plan.unattested = self.random.pick(&[0, 30]);
@@ -147,6 +142,26 @@ impl Draft {
         }
     }
 
+    /// The kinds whose figures are moved, again and again.
+    fn suit_moved(&mut self, plan: &mut Plan, kind: Kind) {
+        match kind {
+            Kind::Interruptions => {
+                plan.filled = self.random.pick(&[0, 20]);
+                plan.interruptions = 1 + self.random.up_to(120);
+                plan.withdrawals = self.random.up_to(20);
+            }
+            Kind::Withdrawals => {
+                plan.withdrawals = 10 + self.random.up_to(60);
+                plan.interruptions = self.random.pick(&[0, 30]);
+            }
+            _ => {
+                plan.filled = self.random.pick(&[0, 20]);
+                plan.counts = 5 + self.random.up_to(60);
+                plan.withdrawals = self.random.up_to(10);
+            }
+        }
+    }
+
     fn suit_ties(&mut self, plan: &mut Plan) {
         let style = self.random.pick(&[Style::Equal, Style::Small, Style::Wide]);
         plan.settings = style;
@@ -157,15 +172,19 @@ impl Draft {
 
     /// A plan of few operators and few fields, now and then of any size.
     pub fn small_plan(&mut self) -> Plan {
-        let kind = self
-            .random
-            .pick(&[Kind::Digits, Kind::Interruptions, Kind::Marked]);
+        let kind = self.random.pick(&[
+            Kind::Digits,
+            Kind::Interruptions,
+            Kind::Marked,
+            Kind::LeftOut,
+        ]);
         let mut plan = self.plan(kind);
         if !self.random.one_in(5) {
             plan.operators = 1 + self.random.place(3);
             plan.filled = plan.filled.min(10);
             plan.interruptions = plan.interruptions.min(5);
             plan.withdrawals = plan.withdrawals.min(2);
+            plan.counts = plan.counts.min(5);
         }
         plan
     }
@@ -178,6 +197,7 @@ impl Draft {
         let fields = self.in_an_order(parts);
         self.file_all(fields);
         self.repeat(plan.interruptions, Draft::file_any_interruption);
+        self.repeat(plan.counts, Draft::move_count);
         self.repeat(plan.withdrawals, Draft::withdrawal);
         self.repeat(plan.corrections, Draft::file_correction);
         self.repeat(plan.set_again, Draft::set_mark_again);

@@ -1,7 +1,7 @@
 //! Filings with a field that gets 4 to 9.
 
 use super::draft::{amount, mark, most_setting, setting, Draft, Style, MOST};
-use crate::book::{INDICATORS, INDICES, OPERATORS, SETTINGS};
+use crate::book::{FIGURES, FIRST_COUNT, INDICATORS, INDICES, OPERATORS, SETTINGS};
 use crate::calls::{Interruption, EARLIEST_START, LATEST_END, YEAR_SECONDS};
 use crate::filing::Field;
 
@@ -146,7 +146,7 @@ impl Draft {
             1..=3 => self.setting_past_most(operator),
             way @ 4..=14 => self.interruption_out_of_range(way, interruption),
             15 => amount(operator, (self.past(3), figure), sign, value),
-            16 => amount(operator, (year, self.past(8)), sign, value),
+            16 => amount(operator, (year, self.past(FIGURES as u64)), sign, value),
             17 => amount(operator, (year, figure), self.past(2) as u8, value),
             18 => mark(operator, self.past(6), sign),
             19 => mark(operator, indicator, self.past(2) as u8),
@@ -265,12 +265,14 @@ impl Draft {
         }));
     }
 
-    /// The weight or the weighted seconds pass it by 1.
+    /// The weight, the weighted seconds or the count passes it by 1.
     fn interruption_past_most_by_1(&mut self, operator: u8, year: usize) {
         let level = self.random.place(2);
-        let which = self.random.place(2);
-        let place = (year, 2 * level + which);
-        let added = [1, 181][which];
+        let weight = 2 * level;
+        let (figure, added) = self
+            .random
+            .pick(&[(weight, 1), (weight + 1, 181), (FIRST_COUNT, 1)]);
+        let place = (year, figure);
         let room = MOST - self.figure(operator, place);
         self.file(amount(operator, place, 0, room.saturating_sub(added - 1)));
         let filed = just_counted(operator, year, level as u8);
@@ -310,12 +312,13 @@ impl Draft {
         self.add(Field::Interruption(filed));
     }
 
-    /// Enough weight and one second too few, or the other way round.
+    /// Enough of all but one of weight, weighted seconds and count.
     fn interruption_below_zero_by_1(&mut self, operator: u8, year: usize) {
         let level = self.random.place(2);
-        let [weight, seconds] = self.random.pick(&[[1, 180], [0, 181]]);
+        let [weight, seconds, count] = self.random.pick(&[[0, 181, 1], [1, 180, 1], [1, 181, 0]]);
         self.bring_to(operator, (year, 2 * level), weight);
         self.bring_to(operator, (year, 2 * level + 1), seconds);
+        self.bring_to(operator, (year, FIRST_COUNT), count);
         self.add(Field::Interruption(Interruption {
             sign: 1,
             cause: 4,

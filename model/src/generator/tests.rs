@@ -1,5 +1,7 @@
 //! The generated filings show what they are made for.
 
+mod asked;
+mod counts;
 mod marks;
 
 use super::draft::MOST;
@@ -148,11 +150,13 @@ fn kinds_by_turns() {
         Kind::Mean,
         Kind::Interruptions,
         Kind::Withdrawals,
+        Kind::LeftOut,
         Kind::Marked,
         Kind::NearlyAllMarked,
         Kind::Incomplete,
         Kind::Damaged,
         Kind::Refused,
+        Kind::RefusedByCount,
         Kind::Long,
     ] {
         assert!((0..500).any(|number| kind(number) == turn), "{turn:?}");
@@ -161,8 +165,12 @@ fn kinds_by_turns() {
 
 #[test]
 fn sound_kinds_are_read_whole() {
-    let is_sound =
-        |&number: &u64| !matches!(kind(number), Kind::Damaged | Kind::Refused | Kind::Long);
+    let is_sound = |&number: &u64| {
+        !matches!(
+            kind(number),
+            Kind::Damaged | Kind::Refused | Kind::RefusedByCount | Kind::Long
+        )
+    };
     let refusal = |number: u64| read(&mut Book::fresh(), &filing(3, number)).refusal;
     for number in (0..500).filter(is_sound) {
         assert_eq!(refusal(number), None, "{number}");
@@ -286,7 +294,11 @@ impl Notes {
     }
 
     fn left_out(&mut self, reason: Reason, filed: &Interruption) {
-        self.note(format!("left out {reason:?}"));
+        let Interruption { level, sign, .. } = filed;
+        let year = filed.end / YEAR_SECONDS;
+        self.note(format!(
+            "left out {reason:?} year {year} level {level} sign {sign}"
+        ));
         let longest = reason == Reason::Short && filed.end - filed.start == 180;
         self.note_if(longest, "left out at 180 seconds");
     }
@@ -369,6 +381,23 @@ fn expected_counts() -> Vec<String> {
     texts
 }
 
+/// Interruptions left out for every reason, in every year, of both levels and signs.
+fn expected_left_out() -> Vec<String> {
+    let mut texts = vec!["left out REASON year YEAR level LEVEL sign SIGN".to_string()];
+    for (place, values) in [
+        (
+            "REASON",
+            &["Short", "Planned", "Coupled", "Exceptional"][..],
+        ),
+        ("YEAR", &["0", "1", "2"]),
+        ("LEVEL", &["0", "1"]),
+        ("SIGN", &["0", "1"]),
+    ] {
+        texts = replaced_by_each(&texts, place, values);
+    }
+    texts
+}
+
 /// Each text once for each value in that place.
 fn replaced_by_each(texts: &[String], place: &str, values: &[&str]) -> Vec<String> {
     texts
@@ -393,7 +422,7 @@ fn expected_numbers() -> Vec<String> {
         numbered("index #", [1, 100_000]),
         numbered("rate #", [0, 20_000]),
         numbered("setting # fresh again", 0..=2),
-        numbered("figure # fresh again", 0..=7),
+        numbered("figure # fresh again", 0..=12),
         numbered("mark # from 1 to 0", 0..=5),
         numbered("mark # from 0 to 1", 0..=5),
         numbered("mark # from 0 to 0", 0..=5),
@@ -403,11 +432,7 @@ fn expected_numbers() -> Vec<String> {
     .concat()
 }
 
-const EXPECTED_TEXTS: [&str; 18] = [
-    "left out Short",
-    "left out Planned",
-    "left out Coupled",
-    "left out Exceptional",
+const EXPECTED_TEXTS: [&str; 14] = [
     "left out at 180 seconds",
     "counted at 181 seconds",
     "counted over a year's end",
@@ -431,10 +456,15 @@ fn filings_show_every_case() {
         notes.filing(&filing(1, number));
     }
     let texts = EXPECTED_TEXTS.map(String::from).to_vec();
-    let expected: BTreeSet<String> = [expected_counts(), expected_numbers(), texts]
-        .concat()
-        .into_iter()
-        .collect();
+    let expected: BTreeSet<String> = [
+        expected_counts(),
+        expected_left_out(),
+        expected_numbers(),
+        texts,
+    ]
+    .concat()
+    .into_iter()
+    .collect();
     let missing: Vec<&String> = expected.difference(&notes.seen).collect();
     assert!(
         missing.is_empty(),
@@ -442,4 +472,5 @@ fn filings_show_every_case() {
         notes.seen
     );
     assert_eq!(expected_counts().len(), 24);
+    assert_eq!(expected_left_out().len(), 48);
 }

@@ -1,0 +1,3 @@
+-- The laws of `sheets`.
+pub mod SheetLaws
+pub mod TotalLaws

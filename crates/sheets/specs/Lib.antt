@@ -1,0 +1,3 @@
+-- The definitions of `sheets`.
+pub mod Sheet
+pub mod Total

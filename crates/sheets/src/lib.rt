@@ -1,0 +1,71 @@
+// The yearly sheet of an operator, by value: the five figures that count interruptions, or a refusal.
+ghost use mathlib.Core.Path.{_≡_};
+ghost use Prim.Native.Nat.{_<_};
+ghost use mathlib.Core.List.{map};
+ghost use Rattle.calls.specs.Limits.{operators, years};
+ghost use Rattle.calls.specs.Answers.{said, refused-by, numberOf};
+ghost use Rattle.book.specs.Book.{figureOf, withFigures, freshBook};
+ghost use Rattle.sheets.specs.Sheet.{sheetOf, sheetFigures, noCounts};
+use book::Book;
+use book::figure_slot;
+use book::in_range;
+use calls::Answer;
+use calls::COUNT_FIGURES;
+use calls::FIGURE_PLACES;
+use calls::FIRST_COUNT;
+use calls::Refusal;
+use calls::amount_in_range;
+use posting::Admission;
+use posting::admit;
+
+// Of interruptions in a year: how many counted, and how many were left out as short, planned, coupled, exceptional. All 0 on refusal.
+pub struct YearlySheet {
+    pub answer: Answer,
+    pub counts: [u64; COUNT_FIGURES],
+}
+
+// Refused as an amount field with that operator and year would be.
+pub fn sheet(b: Book, operator: u8, year: u8) -> YearlySheet
+    ensures { λ r. ⌜ said (r .answer) ≡ sheetOf b operator year .said ⌝ }
+    ensures { λ r. ⌜ r .counts ≡ sheetOf b operator year .counts ⌝ }
+{
+    let ranged = in_range(b);
+    let valid = amount_in_range(year, FIRST_COUNT, 0);
+    if !ranged {
+        return refused(Refusal::OutOfRange);
+    }
+    match admit(b.joined, operator, valid) {
+        Admission::Refused(refusal) => refused(refusal),
+        Admission::Admitted => {
+            let figures = b.figures;
+            let counts = counts_of(figures, operator, year);
+            YearlySheet {
+                answer: Answer::Yes,
+                counts,
+            }
+        }
+    }
+}
+
+fn refused(refusal: Refusal) -> YearlySheet
+    ensures { λ r. ⌜ said (r .answer) ≡ refused-by (numberOf refusal) ⌝ }
+    ensures { λ r. ⌜ r .counts ≡ noCounts ⌝ }
+{
+    YearlySheet {
+        answer: Answer::Refused(refusal),
+        counts: [0u64; COUNT_FIGURES],
+    }
+}
+
+// They stand one after the other.
+fn counts_of(
+    figures: [u64; FIGURE_PLACES],
+    operator: u8,
+    year: u8,
+) -> [u64; COUNT_FIGURES]
+    requires { ⌜ (operator < operators) × (year < years) ⌝ }
+    ensures { λ r. ⌜ r ≡ map (figureOf (withFigures freshBook figures) operator year) sheetFigures ⌝ }
+{
+    let at = figure_slot(operator, year, FIRST_COUNT);
+    [figures[at], figures[at + 1], figures[at + 2], figures[at + 3], figures[at + 4]]
+}
