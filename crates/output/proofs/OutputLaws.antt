@@ -1,16 +1,22 @@
 -- What is printed for a filing, case by case: too long, refused at a field, or read to its end.
 -- Assumes nothing.
 use Prim.Native.Nat.{ℕ, _≤_, _<_}
-use mathlib.Core.Path.{_≡_, refl, sym}
+use mathlib.Core.Path.{_≡_, refl, sym, ap, _∙_}
 use mathlib.Core.Bool.{false, false≢true}
 use mathlib.Core.List.{List}
 use lib.ListN.{length}
 use borrow.Author.Tests.{lt-ltb, le-ltb}
-use Rattle.calls.specs.Answers.{Said, refused-by, accepted, onAnswer, isRefused}
+use Rattle.calls.specs.declared.Refusal.{Refusal}
+use Rattle.calls.specs.declared.Answer.{Answer}
+use Rattle.calls.specs.declared.Answer.the-variants.{Refused}
+use Rattle.calls.specs.Answers.{Said, refused-by, accepted, onAnswer, isRefused, numberOf, said}
+use Rattle.book.specs.declared.Book.{Book}
 use Rattle.book.specs.Book.{freshBook}
-use Rattle.filing.specs.Reader.{Reached, read}
+use Rattle.filing.specs.declared.Reading.{Reading}
+use Rattle.filing.specs.Reader.{Reached, read, told}
 use Rattle.text.specs.Text.{bytesOf}
-use Rattle.output.specs.Output.{refusedField, settlementText, readingText, outputOf}
+use Rattle.text.specs.Buffer.{putInto}
+use Rattle.output.specs.Output.{refusedField, readingText, printedOf}
 
 -- what follows from an answer that is no refusal
 pub fine-text : {A : Type 0} (answer : Said A) → isRefused answer ≡ false → (refused : ℕ → List ℕ) (text : List ℕ)
@@ -19,22 +25,40 @@ unfolding isRefused onAnswer
 fine-text (refused-by number) fine refused text = absurd (false≢true (sym fine))
 fine-text (accepted value) fine refused text = refl
 
-module _ (filing : List ℕ) where
-  pub output-long : 65536 < length filing → bytesOf "too long\n" ≡ outputOf filing
-  unfolding outputOf
-  output-long long = rw (lt-ltb 65536 (length filing) long) refl
+-- a program that prints a text of the book
+module _ (text : Book → List ℕ) (filing : List ℕ) where
+  pub printed-long : 65536 < length filing → bytesOf "too long\n" ≡ printedOf text filing
+  unfolding printedOf
+  printed-long long = rw (lt-ltb 65536 (length filing) long) refl
 
   module _ (short : length filing ≤ 65536) where
-    pub output-refused : (number : ℕ) → read freshBook filing .said ≡ refused-by number → refusedField number (read freshBook filing .offset) ≡ outputOf filing
-    unfolding outputOf readingText onAnswer
-    output-refused number refused = rw (le-ltb 65536 (length filing) short, refused) refl
+    pub printed-refused : (number : ℕ) → read freshBook filing .said ≡ refused-by number
+        → refusedField number (read freshBook filing .offset) ≡ printedOf text filing
+    unfolding printedOf readingText onAnswer
+    printed-refused number refused = rw (le-ltb 65536 (length filing) short, refused) refl
 
-    pub output-read : isRefused (read freshBook filing .said) ≡ false → settlementText (read freshBook filing .book) ≡ outputOf filing
-    unfolding outputOf readingText
-    output-read fine =
+    pub printed-read : isRefused (read freshBook filing .said) ≡ false → text (read freshBook filing .book) ≡ printedOf text filing
+    unfolding printedOf readingText
+    printed-read fine =
         let r : Reached = read freshBook filing in
         rw (
           le-ltb 65536 (length filing) short,
-          fine-text (r .said) fine (λ (number : ℕ). refusedField number (r .offset)) (settlementText (r .book)),
+          fine-text (r .said) fine (λ (number : ℕ). refusedField number (r .offset)) (text (r .book)),
         )
         refl
+
+    -- by what reading gave
+    module _ (reading : Reading) (same : told reading ≡ read freshBook filing) where
+      pub at-field : {answer : Answer} (refusal : Refusal) (number : ℕ) → reading .progress .answer ≡ answer → answer ≡ Refused refusal → number ≡ numberOf refusal
+          → refusedField number (reading .progress .offset) ≡ printedOf text filing
+      at-field refusal number is refused given =
+          (λ i. refusedField (given i) (same i .offset))
+          ∙ printed-refused (numberOf refusal) (ap (λ (r : Reached). r .said) (sym same) ∙ ap said (is ∙ refused))
+
+      pub at-end : isRefused (said (reading .progress .answer)) ≡ false → text (reading .book) ≡ printedOf text filing
+      at-end fine = ap (λ (r : Reached). text (r .book)) same ∙ printed-read (ap (λ (r : Reached). isRefused (r .said)) (sym same) ∙ fine)
+
+-- a text at the front of a buffer is another that it is equal to
+pub as-printed : (old : List ℕ) {count : ℕ} {new text other : List ℕ} → (count ≡ length text) × (new ≡ putInto old text) → text ≡ other
+    → (count ≡ length other) × (new ≡ putInto old other)
+as-printed old put same = (put .0 ∙ ap length same, put .1 ∙ ap (putInto old) same)

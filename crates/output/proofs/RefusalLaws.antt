@@ -10,24 +10,20 @@ use Rattle.text.specs.Buffer.{putInto}
 use Rattle.text.proofs.DigitLaws.{decimal-length}
 use Rattle.text.proofs.WrittenLaws.{Put}
 use Rattle.text.proofs.FittingLaws.{written-front}
-use Rattle.output.specs.Output.{refusedBy, refusedField}
+use Rattle.output.specs.Output.{refusedBy, refusedLine, refusedField}
 
 -- a number of 64 bits has at most twenty digits
 pub digits-few : (n : ℕ) → n < 2 ^ 64 → length (decimal n) ≤ 20
 digits-few n small = decimal-length 19 n (omega arith)
-
--- "a refused settlement `refused 10`"
-abbrev pub refusedSettlement : ℕ → List ℕ
-refusedSettlement number = refusedBy number ++ bytesOf "\n"
 
 module _ (number : ℕ) (small : number < 2 ^ 64) where
   pub by-length : length (refusedBy number) ≤ 28
   unfolding refusedBy bytesOf
   by-length = omega (arith, length-append (bytesOf "refused ") (decimal number), digits-few number small)
 
-  pub settlement-length : length (refusedSettlement number) ≤ 29
-  unfolding bytesOf
-  settlement-length = omega (arith, length-append (refusedBy number) (bytesOf "\n"), by-length)
+  pub line-length : length (refusedLine number) ≤ 29
+  unfolding refusedLine bytesOf
+  line-length = omega (arith, length-append (refusedBy number) (bytesOf "\n"), by-length)
 
   pub field-length : (offset : ℕ) → offset < 2 ^ 64 → length (refusedField number offset) ≤ 53
   unfolding refusedField bytesOf

@@ -13,20 +13,19 @@ use Rattle.report.specs.Report.{textOf, reportAnswer, reportBuffer}
 use Rattle.report.proofs.PrintedLaws.{text-fits}
 use Rattle.text.proofs.FittingLaws.{fits}
 use Rattle.report.proofs.AnswerLaws.{settled-yes, report-accepted, report-refused}
-use Rattle.output.specs.Output.{settlementText}
-use Rattle.output.proofs.RefusalLaws.{refusedSettlement}
+use Rattle.output.specs.Output.{refusedLine, settlementText}
 
 -- what a report's answer says of the text to be printed and of the buffer
 abbrev pub Told : Book → List ℕ → Said ℕ → Type 0
 Told b old (accepted count) = (count ≡ length (settlementText b)) × (reportBuffer b old ≡ putInto old (settlementText b))
-Told b old (refused-by number) = (refusedSettlement number ≡ settlementText b) × (reportBuffer b old ≡ old)
+Told b old (refused-by number) = (refusedLine number ≡ settlementText b) × (reportBuffer b old ≡ old)
 
 module _ (b : Book) (old : List ℕ) where
   accepted-text : settled b .said ≡ accepted yes-said → textOf b ≡ settlementText b
   unfolding settlementText onAnswer
   accepted-text fine = rw fine refl
 
-  refused-text : (number : ℕ) → settled b .said ≡ refused-by number → refusedSettlement number ≡ settlementText b
+  refused-text : (number : ℕ) → settled b .said ≡ refused-by number → refusedLine number ≡ settlementText b
   unfolding settlementText onAnswer
   refused-text number refused = rw refused refl
 

@@ -1,12 +1,10 @@
 // From the bytes of a filing to the bytes that the program prints: every decision of the program.
 ghost use mathlib.Core.Path.{_≡_};
 ghost use Prim.Native.Nat.{_+_, _≤_};
-ghost use mathlib.Core.List.{_++_};
 ghost use lib.ListN.{length};
-ghost use Rattle.text.specs.Text.{bytesOf};
 ghost use Rattle.text.specs.Buffer.{putInto};
 ghost use Rattle.text.specs.Steps.{withTextAt};
-ghost use Rattle.output.specs.Output.{refusedBy, refusedField, settlementText, outputOf};
+ghost use Rattle.output.specs.Output.{refusedBy, refusedLine, refusedField, settlementText, outputOf};
 use book::Book;
 use calls::Answer;
 use calls::number_of;
@@ -45,14 +43,15 @@ fn put_settlement(out: &mut [u8], b: Book) -> usize
 {
     match report(b, out) {
         Filled::Bytes(count) => count,
-        Filled::Refused(refusal) => put_refused_settlement(out, number_of(refusal)),
+        Filled::Refused(refusal) => put_refused_line(out, number_of(refusal)),
     }
 }
 
-fn put_refused_settlement(out: &mut [u8], number: u8) -> usize
+// A refusal without a place.
+pub fn put_refused_line(out: &mut [u8], number: u8) -> usize
     requires { ⌜ 2048 ≤ length (now out) ⌝ }
-    ensures { λ r. ⌜ r ≡ length (refusedBy number ++ bytesOf "\n") ⌝ }
-    ensures { λ r. ⌜ now (out .exit) ≡ putInto (now (out .entry)) (refusedBy number ++ bytesOf "\n") ⌝ }
+    ensures { λ r. ⌜ r ≡ length (refusedLine number) ⌝ }
+    ensures { λ r. ⌜ now (out .exit) ≡ putInto (now (out .entry)) (refusedLine number) ⌝ }
 {
     let last = put_refused(out, number);
     put_word(out, last, b"\n")

@@ -1,17 +1,12 @@
 -- `output::output` meets its contract.
 -- Assumes nothing.
-use mathlib.Core.Path.{_≡_, sym, ap, _∙_}
+use mathlib.Core.Path.{refl}
 use native.Mathlib.Omega.{arith}
-use lib.ListN.{length}
 use Rattle.text.specs.Text.{bytesOf}
-use Rattle.text.specs.Buffer.{putInto}
-use Rattle.output.specs.Output.{refusedField, settlementText}
-use Rattle.book.specs.Book.{freshBook}
-use Rattle.calls.specs.Answers.{isRefused, said}
+use Rattle.output.specs.Output.{settlementText, outputOf}
 use Rattle.calls.proofs.SaidLaws.{told-accepted}
-use Rattle.filing.specs.Reader.{Reached, read, told}
 use Rattle.output.proofs.RefusalLaws.{at-front}
-use Rattle.output.proofs.OutputLaws.{output-long, output-refused, output-read}
+use Rattle.output.proofs.OutputLaws.{printed-long, at-field, at-end, as-printed}
 use borrow.Author.Needs.{needs}
 use Rattle.output.proofs.output.Statement.{statement}
 use Rattle.output.proofs.output.Tie as tie
@@ -24,12 +19,10 @@ put-word-requires c κs = search needs
 
 -- too long
 returns : tie.Need-returns
-unfolding bytesOf
+unfolding bytesOf outputOf
 returns c =
     let begun = c .before .before .before .before .before in
-    let front = at-front (begun .args .out .now) (bytesOf "too long\n") (c .put-word .ensures) in
-    let text = output-long (begun .args .filing .now) (omega arith) in
-    (front .0 ∙ ap length text, front .1 ∙ ap (putInto _) text)
+    as-printed (begun .args .out .now) (at-front (begun .args .out .now) (bytesOf "too long\n") (c .put-word .ensures)) (printed-long settlementText (begun .args .filing .now) (omega arith))
 
 read-fresh-requires : tie.Need-read-fresh-requires
 read-fresh-requires c κs = search needs
@@ -48,28 +41,21 @@ put-settlement-requires c κs = search needs
 
 -- a field is refused
 returns-2 : tie.Need-returns-2
+unfolding outputOf
 returns-2 c =
     let begun = c .before .before .before .before .before .before .before .before .before .before .before in
-    let filing = begun .args .filing .now in
     let reading = c .before .before .before .before .before .before .before .before .read-fresh in
-    let same : told (reading .result) ≡ read freshBook filing = reading .ensures in
-    let refused = ap (λ (r : Reached). r .said) (sym same) ∙ ap said (c .before .before .before .before .answer .given .1) in
-    let number = c .before .number-of .ensures in
-    let line = c .put-refused-field .ensures in
-    let text = (λ i. refusedField (number i) (same i .offset)) ∙ output-refused filing (omega (arith, c .before .before .before .before .before .before .before .before .before .if1 .left)) _ refused in
-    (line .0 ∙ ap length text, line .1 ∙ ap (putInto _) text)
+    as-printed (begun .args .out .now) (c .put-refused-field .ensures)
+    (at-field settlementText (begun .args .filing .now) (omega (arith, c .before .before .before .before .before .before .before .before .before .if1 .left)) (reading .result) (reading .ensures) _ _ refl (c .before .before .before .before .answer .given .1) (c .before .number-of .ensures))
 
 -- read to its end
 returns-3 : tie.Need-returns-3
+unfolding outputOf
 returns-3 c =
     let begun = c .before .before .before .before .before .before .before .before in
-    let filing = begun .args .filing .now in
     let reading = c .before .before .before .before .before .read-fresh in
-    let same : told (reading .result) ≡ read freshBook filing = reading .ensures in
-    let fine = ap (λ (r : Reached). isRefused (r .said)) (sym same) ∙ told-accepted (reading .result .progress .answer) (c .before .before .match .keys2) in
-    let lines = c .put-settlement .ensures in
-    let text = ap (λ (r : Reached). settlementText (r .book)) same ∙ output-read filing (omega (arith, c .before .before .before .before .before .before .if1 .left)) fine in
-    (lines .0 ∙ ap length text, lines .1 ∙ ap (putInto _) text)
+    as-printed (begun .args .out .now) (c .put-settlement .ensures)
+    (at-end settlementText (begun .args .filing .now) (omega (arith, c .before .before .before .before .before .before .if1 .left)) (reading .result) (reading .ensures) (told-accepted (reading .result .progress .answer) (c .before .before .match .keys2)))
 
 pub output-spec : {M : Type 1} → statement M
 output-spec =

@@ -4,8 +4,7 @@ use mathlib.Core.Path.{_≡_, sym, ap, subst, _∙_}
 use lib.ListN.{length}
 use Rattle.text.specs.Buffer.{putInto}
 use Rattle.text.specs.Buffer.{filledSaid}
-use Rattle.output.specs.Output.{settlementText}
-use Rattle.output.proofs.RefusalLaws.{refusedSettlement}
+use Rattle.output.specs.Output.{refusedLine, settlementText}
 use Rattle.output.proofs.SettlementLaws.{Told, told}
 use borrow.Author.Needs.{needs}
 use Rattle.output.proofs.put_settlement.Statement.{statement}
@@ -23,8 +22,8 @@ enum-known-refusal c = search needs
 number-of-requires : tie.Need-number-of-requires
 number-of-requires c κs = search needs
 
-put-refused-settlement-requires : tie.Need-put-refused-settlement-requires
-put-refused-settlement-requires c κs = search needs
+put-refused-line-requires : tie.Need-put-refused-line-requires
+put-refused-line-requires c κs = search needs
 
 same-length : tie.Need-same-length
 same-length c = search needs
@@ -45,10 +44,10 @@ returns-2 c =
     let begun = c .before .before .before .before .before .before .before .before .before .before .before .before .before in
     let old = begun .args .out .now in
     let printed = c .before .before .before .before .before .before .before .before .before .before .report .ensures in
-    let line = c .before .before .put-refused-settlement .ensures in
+    let line = c .before .before .put-refused-line .ensures in
     let whole = subst (Told (begun .args .b) old) (sym (printed .0) ∙ ap filledSaid (c .before .before .before .before .before .before .refusal .given .1)) (told (begun .args .b) old (begun .pre)) in
     let number = c .before .before .before .number-of in
-    let text : refusedSettlement (number .result) ≡ settlementText (begun .args .b) = ap refusedSettlement (number .ensures) ∙ whole .0 in
+    let text : refusedLine (number .result) ≡ settlementText (begun .args .b) = ap refusedLine (number .ensures) ∙ whole .0 in
     (line .0 ∙ ap length text, line .1 ∙ (λ i. putInto ((printed .1 ∙ whole .1) i) (text i)))
 
 pub put-settlement-spec : {M : Type 1} → statement M
@@ -59,7 +58,7 @@ put-settlement-spec =
     enum-known-count
     enum-known-refusal
     number-of-requires
-    put-refused-settlement-requires
+    put-refused-line-requires
     same-length
     returns
     same-length-2

@@ -1,0 +1,56 @@
+-- The lines of a sheet fit the buffer, and are put there one after the other; and when they are what is printed.
+-- Assumes nothing.
+use Prim.Native.Nat.{ℕ, _+_, _^_, _≤_, _<_}
+use mathlib.Core.Path.{_≡_, refl, sym}
+use mathlib.Core.Bool.{false}
+use mathlib.Core.List.{List, _++_}
+use native.Mathlib.Omega.{arith}
+use lib.ListN.{length, length-append}
+use Rattle.calls.specs.Answers.{refused-by, onAnswer, isRefused}
+use Rattle.book.specs.declared.Book.{Book}
+use Rattle.sheets.specs.Sheet.{sheetOf}
+use Rattle.text.specs.Text.{bytesOf, decimal}
+use Rattle.text.proofs.DigitLaws.{decimal-length}
+use Rattle.text.proofs.WrittenLaws.{Put, room-first, put-then, put-three}
+use Rattle.output.specs.Output.{refusedLine}
+use Rattle.output.proofs.OutputLaws.{fine-text}
+use Rattle.sheet_output.specs.SheetOutput.{countLine, countLines, sheetText}
+
+-- a number of 64 bits has at most twenty digits
+pub line-length : (word : List ℕ) (count : ℕ) → count < 2 ^ 64 → length (countLine word count) ≤ length word + 21
+unfolding countLine bytesOf
+line-length word count small =
+    let digits : length (decimal count) ≤ 20 = decimal-length 19 count (omega arith) in
+    omega (arith, digits, length-append (word ++ decimal count) (bytesOf "\n"), length-append word (decimal count))
+
+-- five texts, none longer than a line
+module _ (old a b c d e : List ℕ) (long : 2048 ≤ length old)
+    (la : length a ≤ 33) (lb : length b ≤ 33) (lc : length c ≤ 33) (ld : length d ≤ 33) (le : length e ≤ 33) where
+  room : 0 + length (a ++ b ++ c ++ d ++ e) ≤ length old
+  room =
+      omega (
+        arith,
+        long,
+        length-append (a ++ b ++ c ++ d) e,
+        length-append (a ++ b ++ c) d,
+        length-append (a ++ b) c,
+        length-append a b,
+      )
+
+  pub put-five : {first second third fourth new : List ℕ} {two three four five after : ℕ}
+      → Put old 0 a first two → Put first two b second three → Put second three c third four → Put third four d fourth five → Put fourth five e new after
+      → Put old 0 (a ++ b ++ c ++ d ++ e) new after
+  put-five pa pb pc pd pe =
+      let room-four : 0 + length (a ++ b ++ c ++ d) ≤ length old = room-first old 0 (a ++ b ++ c ++ d) e room in
+      let room-three : 0 + length (a ++ b ++ c) ≤ length old = room-first old 0 (a ++ b ++ c) d room-four in
+      put-then old 0 (a ++ b ++ c ++ d) e room (put-then old 0 (a ++ b ++ c) d room-four (put-three old 0 a b c room-three pa pb pc) pd) pe
+
+-- the text of a sheet, by its answer
+module _ (operator year : ℕ) (b : Book) where
+  pub sheet-refused : (number : ℕ) → sheetOf b operator year .said ≡ refused-by number → refusedLine number ≡ sheetText operator year b
+  unfolding sheetText onAnswer
+  sheet-refused number refused = rw refused refl
+
+  pub sheet-given : isRefused (sheetOf b operator year .said) ≡ false → countLines (sheetOf b operator year .counts) ≡ sheetText operator year b
+  unfolding sheetText
+  sheet-given fine = sym (fine-text (sheetOf b operator year .said) fine refusedLine (countLines (sheetOf b operator year .counts)))

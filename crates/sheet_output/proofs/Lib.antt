@@ -1,0 +1,3 @@
+-- The laws of `sheet_output`.
+pub mod ArgumentLaws
+pub mod CountLaws

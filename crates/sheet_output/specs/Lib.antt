@@ -1,0 +1,3 @@
+-- The definitions of `sheet_output`.
+pub mod Argument
+pub mod SheetOutput
