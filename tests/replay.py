@@ -21,6 +21,7 @@ COMMANDS = {
     "settle": (210, ""),
 }
 STORE = 211
+SHEET = 212
 # What can be stored, in the order of its kinds, with the count of numbers that give the place.
 STORED = {"joined": 0, "marks": 1, "figure": 3, "pot": 0, "cap": 0, "index": 1, "cabins": 1, "access": 1, "income": 1}
 
@@ -39,6 +40,10 @@ def command(name, *words):
             raise ValueError(f"{kind} is stored at {STORED[kind]} numbers")
         filled = [list(STORED).index(kind), *place, *[0] * (3 - len(place)), value]
         return field(STORE, command("amount", *filled))
+    if name == "sheet":
+        # Operator and year stand where an amount has them.
+        operator, year = words
+        return field(SHEET, command("amount", operator, year, 0, 0, 0))
     tag, form = COMMANDS[name]
     return field(tag, struct.pack(">" + form, *map(int, words)))
 

@@ -59,6 +59,14 @@ pub fn equals() {
     put(b'=');
 }
 
+pub fn numbers(values: &[u64]) {
+    let mut i = 0;
+    while i < values.len() {
+        number(values[i]);
+        i += 1;
+    }
+}
+
 // The values of a list that are not 0, each with its place.
 pub fn list(values: &[u64]) {
     bar();

@@ -1,5 +1,6 @@
 // Reads commands as bytes from standard input and does them one after the other, first by value, then with the book lent. Each is
 // printed as `command = answer`. A command is a field of a filing: tags 1 to 7 are the filing calls, those from 208 on are its own.
+mod asked;
 mod routes;
 mod show;
 mod stores;
@@ -21,6 +22,9 @@ const SETTLE: u8 = 210;
 
 // Its content is a field of tag 4: kind of value, up to three numbers that give the place, and the value.
 const STORE: u8 = 211;
+
+// Its content is a field of tag 4, with the operator and the year.
+const SHEET: u8 = 212;
 
 // Tag and length.
 const HEADER: usize = 3;
@@ -83,6 +87,7 @@ fn other(b: Book, bytes: &[u8], at: usize) -> Book
         SHOW => show::book(b),
         SETTLE => show::settled(b),
         STORE => stores::stored(b, field_at(bytes, at + HEADER)),
+        SHEET => asked::sheet(b, field_at(bytes, at + HEADER)),
         _ => b,
     }
 }
