@@ -1,12 +1,12 @@
-"""Notes after settling: the sheet of a real exercise with its mistakes, then each note by itself; --strict and --quiet."""
+"""Notes after settling: the CSV of a real exercise with its mistakes, then each note by itself; --strict and --quiet."""
 
 from pathlib import Path
 
 from front.tests.common import InFolder, program_on, settle, settle_here
 
-SHEET = Path(__file__).parent / "sheet" / "calls.csv"
+TABLE = Path(__file__).parent / "csv" / "calls.csv"
 
-# What a person corrects in the sheet after the errors of its text were told, and after its refusals.
+# What a person corrects in the table after the errors of its text were told, and after its refusals.
 TYPING = [
     ("107.03", "10703"),
     ("2017-07-03T10:00+02:00", "2017-07-03T09:00"),
@@ -40,15 +40,15 @@ def corrected(text, corrections):
     return text
 
 
-class Sheet(InFolder):
-    def test_a_sheet_with_its_mistakes_until_it_is_settled(self):
-        text = SHEET.read_bytes().decode()
-        path = self.file("sheet.csv", text)
+class Table(InFolder):
+    def test_a_table_with_its_mistakes_until_it_is_settled(self):
+        text = TABLE.read_bytes().decode()
+        path = self.file("table.csv", text)
         run = settle(path)
         self.assertEqual((run.status, run.output), (2, b""))
         self.assertEqual([line.split("'")[0] for line in run.said.splitlines()[:-1]], [f"{path}:{line}: " for line in (17, 28, 28, 35)])
 
-        self.file("sheet.csv", corrected(text, TYPING))
+        self.file("table.csv", corrected(text, TYPING))
         run = settle(path)
         self.assertEqual((run.status, run.output), (1, b"refused 5 at 583\n"))
         for said in [
@@ -60,7 +60,7 @@ class Sheet(InFolder):
         ]:
             self.assertIn(said, run.said)
 
-        self.file("sheet.csv", corrected(text, TYPING + REFUSED))
+        self.file("table.csv", corrected(text, TYPING + REFUSED))
         run = settle(path)
         self.assertEqual((run.status, run.said.replace(str(path), "")), (0, NOTES))
         self.assertEqual(run.output, program_on(settle("--encode", "-", path).output))

@@ -2,7 +2,7 @@
 
 import re
 
-from front import sheet, words
+from front import csv_calls, words
 from front.calls import KINDS
 from front.refusals import MEANINGS
 from front.tests.common import ROOT, InFolder, settle
@@ -26,7 +26,7 @@ class Pages(InFolder):
 
     def test_the_table_of_the_page_is_read(self):
         tables = [text for kind, text in BLOCK.findall(page("docs/FILING.md")) if kind == "csv"]
-        self.assertEqual([sheet.read(table)[1] for table in tables], [[]])
+        self.assertEqual([csv_calls.read(table)[1] for table in tables], [[]])
 
     def test_every_meaning_stands_there(self):
         for number, meaning in MEANINGS.items():

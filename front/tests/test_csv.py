@@ -1,6 +1,6 @@
 """CSV: what is taken, and every error of it."""
 
-from front import sheet, words
+from front import csv_calls, words
 from front.tests.common import InFolder, settle_here
 
 COLUMNS = "call, operator, setting, value, sign, level, cause, start, end, weight, year, figure, indicator, mark, pot, cap, index"
@@ -8,7 +8,7 @@ COLUMNS = "call, operator, setting, value, sign, level, cause, start, end, weigh
 
 def numbers(data):
     """The calls of a table as numbers, each after its line; it must have no problem."""
-    rows, problems = sheet.read(words.decoded(data if isinstance(data, bytes) else data.encode()))
+    rows, problems = csv_calls.read(words.decoded(data if isinstance(data, bytes) else data.encode()))
     assert not problems, problems
     return [(row.line, row.call.kind.name, *row.call.values) for row in rows]
 
