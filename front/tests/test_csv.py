@@ -18,6 +18,12 @@ class Taken(InFolder):
         table = "figure,value,call,sign,operator,year\nfees,50000,amount,file,1,2018\n,,join,,2,\n"
         self.assertEqual(numbers(table), [(2, "amount", 1, 1, 4, 0, 50000), (3, "join", 2)])
 
+    def test_the_counts(self):
+        counts = ["count-counted", "count-short", "COUNT-planned", "count-coupled", "count-exceptional", "8", "12"]
+        table = "call;operator;year;figure;sign;value\n" + "".join(f"amount;3;2019;{count};withdraw;4\n" for count in counts)
+        self.assertEqual([row[4] for row in numbers(table)], [8, 9, 10, 11, 12, 8, 12])
+        self.assertEqual(numbers(table)[0], (2, "amount", 3, 2, 8, 1, 4))
+
     def test_separators_quotes_blanks_and_case(self):
         for table in [
             "call,pot,cap\nrates,5000,10000\n",
