@@ -1,6 +1,7 @@
 """The programs' refusals in words: the field, what the number means, what to do, and what to look at."""
 
-from front.calls import BY_NAME, FIGURES
+from front.calls import YEAR
+from front.figures import moves_of
 from front.ranges import outside
 from front.trouble import Trouble
 from front.words import line_of, word_of
@@ -23,6 +24,11 @@ MEANINGS = {
     "six marks: clear one when its attestation is in, as in: mark 0 A1 0",
     13: "The room lent for the output is too short. The programs here lend enough, so tell whoever keeps them.",
 }
+
+OF_INTERRUPTIONS = (
+    "An interruption counts in the year of its end; one of 180 seconds or less, or left out for its cause, moves its count and "
+    "nothing else."
+)
 
 MOST_SHOWN = 16
 MOST_PLACES = 12
@@ -115,44 +121,42 @@ def _is_text(data):
 
 
 def _same_figure(source, before, field, programs):
-    """For 8 and 9: what stands in the figure by then, as the writer says, and the calls before this one that name it."""
-    moved = _figures_of(field.call)
-    operator, year, _ = moved[0]
-    same = [one for one in before if set(_figures_of(one.call)) & set(moved)]
+    """For 8 and 9: what stands in the figure that refuses, as the writer says, and the calls before this one that moved it."""
+    refusing, standing = _refusing(field.call, source.data[: field.offset], programs)
+    keys = {move.key for move in refusing}
+    same = [one for one in before if any(move.key in keys for move in moves_of(one.call))]
     lines = [
-        f"Of operator {operator} in {year} there stands {_standing(moved, source.data[: field.offset], programs)}.",
+        f"Of operator {refusing[0].operator} in {word_of(YEAR, refusing[0].year)} there stands {standing}.",
         f"Earlier calls there: {_places(source, same) or 'none'}.",
     ]
+    if field.call.kind.name == "interruption":
+        lines.append(f"This interruption {_moved(field.call)}.")
     if any(one.call.kind.name == "interruption" for one in [*same, field]):
-        lines.append("An interruption counts in the year of its end; one of 180 seconds or less, or left out for its cause, adds nothing.")
+        lines.append(OF_INTERRUPTIONS)
     return lines
 
 
-def _standing(figures, before, programs):
-    """How much the fields before the refused one leave in the figures, as the writer says."""
+def _refusing(call, before, programs):
+    """The moves of a call that the figures refuse, as the fields before it leave them, and how much stands there."""
+    moves = moves_of(call)
     try:
         book = programs.book(before)
     except Trouble as trouble:
-        return f"something that cannot be told: {trouble}"
-    return " and ".join(f"{book.value('amount', *_numbers(figure)):,} in {figure[2]}" for figure in figures) + " at this point"
+        return moves, f"something that cannot be told: {trouble}"
+    refusing = [move for move in moves if move.refused(book, call.value("sign") == 1)] or moves
+    return refusing, _listed([f"{book.value(*move.key):,} in {move.name}" for move in refusing]) + " at this point"
 
 
-def _figures_of(call):
-    """The figures that a call names, in words; an interruption names those of its level in the year of its end."""
-    words = {place.name: word_of(place, value) for place, value in zip(call.kind.places, call.values)}
-    if call.kind.name == "amount":
-        return [(words["operator"], words["year"], words["figure"])]
-    if call.kind.name == "interruption":
-        level = f"{words['level'].lower()}-"
-        return [(words["operator"], words["end"][:4], figure) for figure in FIGURES if figure.startswith(level)]
-    return []
+def _moved(call):
+    """What an interruption adds to figures, or takes from them."""
+    verb, side = ("takes", "from") if call.value("sign") == 1 else ("adds", "to")
+    return f"{verb} {_listed([f'{move.amount:,} {side} {move.name}' for move in moves_of(call)])}"
 
 
-def _numbers(moved):
-    """Operator, year and figure as numbers again."""
-    operator, year, figure = moved
-    _, years, figures, *_ = BY_NAME["amount"].places
-    return int(operator), years.number_of(year), figures.number_of(figure)
+def _listed(parts):
+    """One part or more, with `and` before the last."""
+    *first, last = parts
+    return f"{', '.join(first)} and {last}" if first else last
 
 
 def _without_network(source, refusal):

@@ -12,8 +12,10 @@ def numbers(text):
 
 
 def words_again(text):
-    """A line as it is shown again: seconds as clock times."""
-    return text.replace(" -5 ", " 2016-12-31T23:59:55 ").replace(" 0 181 ", " 2017-01-01T00:00 181 ").replace(" 181 ", " 2017-01-01T00:03:01 ")
+    """A line as it is shown again: its seconds as clock times."""
+    for seconds, clock in [(" -5 181", " 2016-12-31T23:59:55 181"), (" 0 181", " 2017-01-01T00:00 181"), (" 181", " 2017-01-01T00:03:01")]:
+        text = text.replace(seconds, clock)
+    return text
 
 
 class Taken(InFolder):
