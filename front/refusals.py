@@ -6,25 +6,6 @@ from front.ranges import outside
 from front.trouble import Trouble
 from front.words import line_of, word_of
 
-MEANINGS = {
-    1: "The filing ends inside this field: fewer than 3 bytes are left, or fewer than its length says. Get the whole file, or make it "
-    "again from the calls.",
-    2: "The field's first byte, its tag, is none of 1 to 7. See whether this is a filing at all, and whether a byte is missing or too "
-    "many before it.",
-    3: "The field's length is not the one that its tag has. Make the field again from the call in words.",
-    4: "There is no such operator: operators are 0 to 15. Correct the operator.",
-    5: "A value is outside its range. Correct it.",
-    6: "This operator has joined before. Take this join out, or correct the operator.",
-    7: "This operator has not joined yet. Put its join before this call, or correct the operator.",
-    8: "The figure would pass 100,000,000,000. Correct the value, or withdraw first what should not be there.",
-    9: "The figure would fall below 0: more is withdrawn than stands in it by then. Correct the value, or file first what is withdrawn.",
-    10: "No operator has joined, so there is nobody to settle. Add a join, and the settings, of each operator.",
-    11: "An operator that has joined has no cabins, or no access points. File both settings of each operator, above 0.",
-    12: "Every operator that has joined is marked unreliable at all six indicators, so no points can be given. A join sets the "
-    "six marks: clear one when its attestation is in, as in: mark 0 A1 0",
-    13: "The room lent for the output is too short. The programs here lend enough, so tell whoever keeps them.",
-}
-
 OF_INTERRUPTIONS = (
     "An interruption counts in the year of its end; one of 180 seconds or less, or left out for its cause, moves its count and "
     "nothing else."
@@ -37,11 +18,12 @@ MOST_ELSE = 10
 MOST_BYTES = 65_536
 
 
-def explained(source, refusal, programs):
+def explained(source, refusal, asked, programs):
     """The refusal in lines for staff."""
-    meaning = f"  {refusal.number}: {MEANINGS[refusal.number]}"
+    meaning = f"  {refusal.number}: {asked.meaning(refusal)}"
     if refusal.offset is None:
-        return [f"{source.name}: the filing is read, and settling it is refused", meaning, *_without_network(source, refusal)]
+        besides = _of_sheet(source, refusal, asked.like) if asked.like else _without_network(source, refusal)
+        return [f"{source.name}: the filing is read, and {asked.refused}", meaning, *besides]
     *before, field = [field for field in source.fields() if field.offset <= refusal.offset]
     return [
         f"{source.start_of(field)}: refused: {_shown(field)}",
@@ -60,27 +42,27 @@ def explained_length(source):
     ]
 
 
-def what_else(source, refusal, ask):
-    """What else would be refused, on copies without the lines that are; `ask` gives the answer for the bytes of a copy."""
+def what_else(source, refusal, asked):
+    """What else would be refused, on copies without the lines that are."""
     lines, left = [], source.fields()
     while refusal and refusal.offset is not None and len(lines) < MOST_ELSE:
         refused = _at(left, refusal.offset)
         if refused.call is None:
-            return [*lines, f"{source.name}: nothing is settled; what follows these bytes cannot be read"]
+            return [*lines, f"{source.name}: {asked.undone}; what follows these bytes cannot be read"]
         left.remove(refused)
-        refusal = ask(b"".join(field.data for field in left)).refusal if left else None
+        refusal = asked.answer(b"".join(field.data for field in left)).refusal if left else None
         if refusal:
-            lines.append(_also_refused(source, left, refusal))
+            lines.append(_also_refused(source, left, refusal, asked))
     if not lines:
-        return [f"{source.name}: nothing is settled; without this line nothing else would be refused"]
+        return [f"{source.name}: {asked.undone}; without this line nothing else would be refused"]
     more = ", and there may be more" if len(lines) == MOST_ELSE else ""
-    return [*lines, f"{source.name}: nothing is settled{more}"]
+    return [*lines, f"{source.name}: {asked.undone}{more}"]
 
 
-def _also_refused(source, left, refusal):
-    meaning = MEANINGS[refusal.number].split(". ")[0] + "."
+def _also_refused(source, left, refusal, asked):
+    meaning = asked.meaning(refusal).split(". ")[0] + "."
     if refusal.offset is None:
-        return f"{source.name}: then settling would be refused: {refusal.number}: {meaning}"
+        return f"{source.name}: then {asked.would_be}: {refusal.number}: {meaning}"
     field = _at(left, refusal.offset)
     if refusal.number == 5:
         meaning = " ".join(outside(field.call))
@@ -122,11 +104,12 @@ def _is_text(data):
 
 def _same_figure(source, before, field, programs):
     """For 8 and 9: what stands in the figure that refuses, as the writer says, and the calls before this one that moved it."""
+    operator, year, *_ = moves_of(field.call)[0]
     refusing, standing = _refusing(field.call, source.data[: field.offset], programs)
     keys = {move.key for move in refusing}
     same = [one for one in before if any(move.key in keys for move in moves_of(one.call))]
     lines = [
-        f"Of operator {refusing[0].operator} in {word_of(YEAR, refusing[0].year)} there stands {standing}.",
+        f"Of operator {operator} in {word_of(YEAR, year)} there stands {standing}.",
         f"Earlier calls there: {_places(source, same) or 'none'}.",
     ]
     if field.call.kind.name == "interruption":
@@ -157,6 +140,16 @@ def _listed(parts):
     """One part or more, with `and` before the last."""
     *first, last = parts
     return f"{', '.join(first)} and {last}" if first else last
+
+
+def _of_sheet(source, refusal, like):
+    """For 5 the year and its range; for 7 who has joined."""
+    if refusal.number == 5:
+        return [f"  {line}" for line in outside(like)]
+    if refusal.number == 7:
+        joined = sorted(field.call.value("operator") for field in source.fields() if field.call.kind.name == "join")
+        return [f"  Joined here: {_listed([f'operator {operator}' for operator in joined] or ['nobody'])}."]
+    return []
 
 
 def _without_network(source, refusal):

@@ -4,7 +4,7 @@ set -euo pipefail
 . "$(dirname "$0")/common.sh"
 
 # As a first run of staff does, this builds what is not built, or is older than a source by its time alone. It asks every program.
-for asked in "" --show; do
+for asked in "" --show "--sheet 0 2017"; do
     ./settle $asked examples/course >"$work/said" 2>&1 </dev/null || fail "$(cat "$work/said")"
 done
 

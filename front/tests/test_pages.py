@@ -4,7 +4,7 @@ import re
 
 from front import csv_calls, words
 from front.calls import KINDS
-from front.refusals import MEANINGS
+from front.meanings import MEANINGS
 from front.tests.common import ROOT, InFolder, settle
 
 PAGES = ("README.md", "docs/FILING.md")

@@ -2,7 +2,7 @@
 
 import unittest
 
-from front.refusals import MEANINGS
+from front.meanings import MEANINGS
 from front.tests.common import InFolder, program_on, settle, settle_here
 
 NETWORK = "join 0\nsetting 0 cabins 5\nsetting 0 access-points 7\n"
