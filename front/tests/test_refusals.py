@@ -111,9 +111,11 @@ TEXTS = [
         "  This interruption adds 1 to count-coupled.\n" + OF_INTERRUPTIONS,
     ),
     (
-        "join 0\namount 0 2017 count-counted file 100000000000\ninterruption 0 file MV own 0 300 2",
-        "refused 8 at 19",
-        "3: refused: interruption 0 file MV own 2017-01-01T00:00 2017-01-01T00:05 2",
+        # The weight would be 100,000,000,000, which is taken.
+        "join 0\namount 0 2017 count-counted file 100000000000\namount 0 2017 mv-weight file 99999999998\n"
+        "interruption 0 file MV own 0 300 2",
+        "refused 8 at 34",
+        "4: refused: interruption 0 file MV own 2017-01-01T00:00 2017-01-01T00:05 2",
         "  Of operator 0 in 2017 there stands 100,000,000,000 in count-counted at this point.\n  Earlier calls there: line 2.\n"
         "  This interruption adds 2 to mv-weight, 600 to mv-seconds and 1 to count-counted.\n" + OF_INTERRUPTIONS,
     ),
