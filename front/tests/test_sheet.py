@@ -66,6 +66,14 @@ class Printed(InFolder):
         path = self.file("calls.txt", NETWORK)
         self.assertEqual((settle(path).output, settle("--sheet", 3, 2019, path)), (b"refused 11\n", (0, sheet(), "")))
 
+    def test_settling_does_not_read_it(self):
+        calls = (EXERCISE / "words" / "calls.txt").read_text(encoding="utf-8")
+        settled = settle_here("--quiet", EXERCISE / "words").output
+        counts = "".join(f"amount 1 2018 count-{name} file 1000\n" for name in NAMES)
+        left_out = "interruption 1 file MV planned 0 300 9\ninterruption 1 file LV own 0 180 1\n"
+        self.assertEqual(settle_here("--quiet", self.file("calls.txt", calls + counts + left_out)).output, settled)
+        self.assertNotEqual(settle_here("--quiet", self.file("calls.txt", f"{calls}amount 1 2018 mv-weight file 1000\n")).output, settled)
+
     def test_the_course_example_as_it_is_shown_and_as_it_is_written(self):
         """Each sheet is what the interruptions come to by what becomes of each, and what the proved writer writes."""
         counts = Counter()
