@@ -3,12 +3,16 @@
 import argparse
 
 from front import outputs, table
+from front.calls import OPERATOR, YEAR
+from front.words import shown, value_of
 
-USAGE = "settle [PATH ..] | --show PATH .. | --compare A B | --encode FILE PATH | --write FILE PATH"
+USAGE = "settle [PATH ..] | --show PATH .. | --sheet OPERATOR YEAR PATH .. | --compare A B | --encode FILE PATH | --write FILE PATH"
+SHEET = (OPERATOR, YEAR)
 
 HELP = """\
 usage: settle [PATH ..]            settle; without a PATH, the examples
        settle --show PATH ..       the calls in words, and what becomes of them
+       settle --sheet OPERATOR YEAR PATH ..  interruptions counted and left out
        settle --compare A B        how two books differ (status 0: not at all)
        settle --encode FILE PATH   write the calls of PATH as a filing
        settle --write FILE PATH    write the book of PATH as a filing
@@ -45,6 +49,7 @@ def arguments_of(words):
     parser.add_argument("paths", metavar="PATH", nargs="*")
     other = parser.add_mutually_exclusive_group()
     other.add_argument("--show", action="store_true")
+    other.add_argument("--sheet", metavar=("OPERATOR", "YEAR"), nargs=2)
     other.add_argument("--compare", action="store_true")
     other.add_argument("--encode", metavar="FILE")
     other.add_argument("--write", metavar="FILE")
@@ -59,6 +64,8 @@ def arguments_of(words):
     problem = _problem(arguments)
     if problem:
         parser.error(problem)
+    if arguments.sheet is not None:
+        arguments.sheet = [value_of(place, word) for place, word in zip(SHEET, arguments.sheet)]
     return arguments
 
 
@@ -72,6 +79,10 @@ def _problem(arguments):
         return "--compare takes two PATHs"
     if arguments.show and count == 0:
         return "--show takes at least one PATH"
+    if arguments.sheet is not None and _wrong_words(arguments.sheet):
+        return f"--sheet takes OPERATOR and YEAR: {'; '.join(_wrong_words(arguments.sheet))}"
+    if arguments.sheet is not None and count == 0:
+        return "--sheet takes at least one PATH after OPERATOR and YEAR (- is standard input)"
     if arguments.table and count == 0:
         return "--table takes at least one PATH (- is standard input)"
     if arguments.offsets and not arguments.show:
@@ -81,3 +92,8 @@ def _problem(arguments):
     if arguments.paths.count("-") > 1:
         return "standard input can be read once"
     return None
+
+
+def _wrong_words(words):
+    """What is expected in the place of each word that stands for no operator or year; their ranges are the program's to judge."""
+    return [f"{shown(word)}: expected {place.expected}" for place, word in zip(SHEET, words) if value_of(place, word) is None]

@@ -79,9 +79,12 @@ def _time(name):
     )
 
 
-FIGURES = ("mv-weight", "mv-seconds", "lv-weight", "lv-seconds", "fees", "connections", "reconnection-fees", "reconnections")
+# How many interruptions there were, by what became of them.
+COUNTS = ("count-counted", "count-short", "count-planned", "count-coupled", "count-exceptional")
+FIGURES = ("mv-weight", "mv-seconds", "lv-weight", "lv-seconds", "fees", "connections", "reconnection-fees", "reconnections", *COUNTS)
 
 OPERATOR = _number("operator", 8, "an operator, 0 to 15")
+YEAR = _worded("year", "a year", ("2017", "2018", "2019"))
 SIGN = _worded("sign", "a sign", ("file", "withdraw"))
 
 KINDS = (
@@ -113,7 +116,7 @@ KINDS = (
         "amount",
         (
             OPERATOR,
-            _worded("year", "a year", ("2017", "2018", "2019")),
+            YEAR,
             _worded("figure", "a figure", FIGURES),
             SIGN,
             _number("value", 64, "an amount up to 100000000000, fees in cents"),

@@ -36,6 +36,8 @@ def _answered(jobs, arguments):
         return _attempt(lambda _: jobs.compare(*arguments.paths), " and ".join(arguments.paths)).status
     if arguments.show:
         return _each(jobs.show, arguments.paths)
+    if arguments.sheet is not None:
+        return _each(jobs.sheet, arguments.paths)
     if arguments.encode is not None:
         return _each(jobs.encode, arguments.paths)
     if arguments.write is not None:

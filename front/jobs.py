@@ -1,9 +1,10 @@
-"""What can be done with a path: settle it, show it, encode it, write its book; and compare the books of two."""
+"""What can be done with a path: settle it, show it, print a yearly sheet, encode it, write its book; and compare the books of two."""
 
 from typing import NamedTuple
 
 from front import compare, notes, outputs, programs, refusals, table
 from front.books import Book
+from front.meanings import Asked, sheet_asked
 from front.sources import passed_over, source_of
 from front.trouble import Trouble
 from front.words import line_of
@@ -35,7 +36,7 @@ class Jobs:
         if not self.arguments.table:
             outputs.put(answer.output)
         if not answer.settled:
-            return self._refused(source, answer, self.programs.settled)
+            return self._refused(source, answer, Asked(self.programs.settled))
         if self.arguments.table:
             self._put_table(path, answer.output)
         return self._noted(source)
@@ -57,10 +58,14 @@ class Jobs:
                 self._note(notes.lines_of(source, found), len(found))
             except Trouble as trouble:
                 self._note([f"{source.name}: note: it is settled, and what to look at is not told: {trouble}"])
+        return self._done("settled")
+
+    def _done(self, word):
+        """How a path went of which nothing is refused; with --strict notes are a failure."""
         if not self.noted:
-            return Outcome(SETTLED, "settled")
+            return Outcome(SETTLED, word)
         count = "1 note" if self.noted == 1 else f"{self.noted:,} notes"
-        return Outcome(REFUSED if self.arguments.strict else SETTLED, f"settled, {count}")
+        return Outcome(REFUSED if self.arguments.strict else SETTLED, f"{word}, {count}")
 
     def _note(self, lines, count=1):
         self.noted += count
@@ -101,6 +106,15 @@ class Jobs:
             outputs.tell(f"{source.name}: what becomes of its interruptions is not told: {trouble}")
             return {}
 
+    def sheet(self, path):
+        """Prints the yearly sheet that is asked for, of the book of a path, as the program prints it, and explains a refusal."""
+        source = self._source(path)
+        operator, year = self.arguments.sheet
+        asked = sheet_asked(lambda data: self.programs.sheet(data, operator, year), operator, year)
+        answer = asked.answer(source.data)
+        outputs.put(answer.output)
+        return self._done("printed") if answer.is_sheet else self._refused(source, answer, asked)
+
     def encode(self, path):
         """Writes the calls of a path to a file, as they are."""
         source = self._source(path)
@@ -115,7 +129,7 @@ class Jobs:
         source = self._source(path)
         answer = self.programs.written(source.data)
         if answer.complaint:
-            return self._refused(source, answer, self.programs.written)
+            return self._refused(source, answer, Asked(self.programs.written))
         outputs.write(self.arguments.write, answer.output, source, self.arguments.force)
         return Outcome(SETTLED, "written")
 
@@ -125,7 +139,7 @@ class Jobs:
         answers = [self.programs.written(source.data) for source in sources]
         refused = [(source, answer) for source, answer in zip(sources, answers) if answer.complaint]
         for source, answer in refused:
-            self._refused(source, answer, self.programs.written)
+            self._refused(source, answer, Asked(self.programs.written))
         if refused:
             return Outcome(TROUBLE, "not compared")
         found = compare.differences(*(Book(answer.output) for answer in answers))
@@ -143,8 +157,8 @@ class Jobs:
             self._note(beside, len(beside))
         return source
 
-    def _refused(self, source, answer, ask):
-        """Explains the answer of a program that has not settled or written; it is trouble if it tells no refusal."""
+    def _refused(self, source, answer, asked):
+        """Explains the answer of a program that has not done what it was asked; it is trouble if it tells no refusal."""
         said = answer.line.decode(errors="replace").rstrip()
         # A table has no line for it.
         if answer.complaint or self.arguments.table:
@@ -152,9 +166,9 @@ class Jobs:
         refusal = answer.refusal
         if refusal is None and answer.line != programs.TOO_LONG:
             raise Trouble(f"{source.name}: the program gave no answer", "the program gave no answer")
-        lines = refusals.explained(source, refusal, self.programs) if refusal else refusals.explained_length(source)
+        lines = refusals.explained(source, refusal, asked, self.programs) if refusal else refusals.explained_length(source)
         if refusal and refusal.offset is not None:
-            lines += refusals.what_else(source, refusal, ask)
+            lines += refusals.what_else(source, refusal, asked)
         for line in lines:
             outputs.tell(line)
         return Outcome(REFUSED, said)

@@ -45,7 +45,7 @@ def notes_of(source, programs):
     on_calls = [
         *_repeated(source, fields),
         *_interruptions(source, fields, book),
-        *_withdrawals(fields, programs.outcomes(source.data) if any(map(_is_withdrawal, fields)) else {}),
+        *_withdrawals(fields),
     ]
     return on_book + sorted(on_calls, key=lambda note: note.field.number)
 
@@ -156,15 +156,11 @@ def _is_withdrawal(field):
     return field.call.kind.name == "interruption" and field.call.value("sign") == 1
 
 
-def _withdrawals(fields, outcomes):
-    """Withdrawals of interruptions that change nothing, or of which there is no filing with the same values."""
+def _withdrawals(fields):
+    """Withdrawals of interruptions of which there is no filing with the same values; another one is taken out then."""
     filed = Counter(_unsigned(field.call)[0] for field in fields if not _is_withdrawal(field))
     for field in filter(_is_withdrawal, fields):
         key, _ = _unsigned(field.call)
-        outcome = outcomes.get(field.offset)
-        if outcome and outcome.left_out:
-            idle = f"this withdrawal changes nothing, since such an interruption is left out ({outcome.word})"
-            yield Note(field, f"{idle}; correct cause and times, or take it out")
         if filed[key] <= 0:
             level = word_of(field.call.kind.places[2], field.call.value("level"))
             yield Note(field, f"no {level} interruption of these very values is left here to withdraw; correct it to what was filed")

@@ -13,6 +13,7 @@ from front.trouble import Trouble
 REFUSED = re.compile(rb"refused ([0-9]+)(?: at ([0-9]+))?\n")
 TOO_LONG = b"too long\n"
 SETTLEMENT = b"operator"
+SHEET = re.compile(rb"counted [0-9]+\nshort [0-9]+\nplanned [0-9]+\ncoupled [0-9]+\nexceptional [0-9]+\n")
 FIRST_YEAR = 2017
 OUTCOME = re.compile(rb"([0-9]+) ([a-z]+)(?: ([0-9]+))?")
 
@@ -34,6 +35,11 @@ class Answer(NamedTuple):
         return self.output.startswith(SETTLEMENT) and not self.complaint
 
     @property
+    def is_sheet(self):
+        """Whether this is a yearly sheet."""
+        return SHEET.fullmatch(self.output) is not None and not self.complaint
+
+    @property
     def refusal(self):
         """The refusal that its line tells, or None."""
         found = REFUSED.fullmatch(self.line)
@@ -44,7 +50,7 @@ class Answer(NamedTuple):
 
 
 class Refusal(NamedTuple):
-    """The number of a refusal, and the offset of the field (None where settling was refused)."""
+    """The number of a refusal, and the offset of the field (None where settling, or the sheet, was refused)."""
 
     number: int
     offset: int
@@ -85,6 +91,10 @@ class Programs:
         """What the program prints that writes the book out as a filing."""
         return self._run("rewrite", data)
 
+    def sheet(self, data, operator, year):
+        """What the program prints that makes the sheet of an operator and a year, which is a number from 0."""
+        return self._run("sheet", data, operator, year)
+
     def book(self, data):
         """The book that a filing leads to, which nothing refuses, by what the writer writes."""
         answer = self.written(data)
@@ -101,11 +111,12 @@ class Programs:
                 found[int(told[1])] = FieldAnswer(told[2].decode(), None if told[3] is None else int(told[3]))
         return found
 
-    def _run(self, name, data):
+    def _run(self, name, data, *numbers):
         program = self.builder.program(name)
         with tempfile.TemporaryDirectory() as folder:
             Path(folder, FILING).write_bytes(data)
-            done = subprocess.run([str(program)], cwd=folder, stdin=subprocess.DEVNULL, capture_output=True, check=False)
+            words = [str(program), *map(str, numbers)]
+            done = subprocess.run(words, cwd=folder, stdin=subprocess.DEVNULL, capture_output=True, check=False)
         complaint = done.stderr
         if done.returncode != 0 and not complaint:
             complaint = f"{program} ended with status {done.returncode}\n".encode()

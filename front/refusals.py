@@ -1,28 +1,15 @@
 """The programs' refusals in words: the field, what the number means, what to do, and what to look at."""
 
-from front.calls import BY_NAME, FIGURES
+from front.calls import YEAR
+from front.figures import moves_of
 from front.ranges import outside
 from front.trouble import Trouble
 from front.words import line_of, word_of
 
-MEANINGS = {
-    1: "The filing ends inside this field: fewer than 3 bytes are left, or fewer than its length says. Get the whole file, or make it "
-    "again from the calls.",
-    2: "The field's first byte, its tag, is none of 1 to 7. See whether this is a filing at all, and whether a byte is missing or too "
-    "many before it.",
-    3: "The field's length is not the one that its tag has. Make the field again from the call in words.",
-    4: "There is no such operator: operators are 0 to 15. Correct the operator.",
-    5: "A value is outside its range. Correct it.",
-    6: "This operator has joined before. Take this join out, or correct the operator.",
-    7: "This operator has not joined yet. Put its join before this call, or correct the operator.",
-    8: "The figure would pass 100,000,000,000. Correct the value, or withdraw first what should not be there.",
-    9: "The figure would fall below 0: more is withdrawn than stands in it by then. Correct the value, or file first what is withdrawn.",
-    10: "No operator has joined, so there is nobody to settle. Add a join, and the settings, of each operator.",
-    11: "An operator that has joined has no cabins, or no access points. File both settings of each operator, above 0.",
-    12: "Every operator that has joined is marked unreliable at all six indicators, so no points can be given. A join sets the "
-    "six marks: clear one when its attestation is in, as in: mark 0 A1 0",
-    13: "The room lent for the output is too short. The programs here lend enough, so tell whoever keeps them.",
-}
+OF_INTERRUPTIONS = (
+    "An interruption counts in the year of its end; one of 180 seconds or less, or left out for its cause, moves its count and "
+    "nothing else."
+)
 
 MOST_SHOWN = 16
 MOST_PLACES = 12
@@ -31,11 +18,12 @@ MOST_ELSE = 10
 MOST_BYTES = 65_536
 
 
-def explained(source, refusal, programs):
+def explained(source, refusal, asked, programs):
     """The refusal in lines for staff."""
-    meaning = f"  {refusal.number}: {MEANINGS[refusal.number]}"
+    meaning = f"  {refusal.number}: {asked.meaning(refusal)}"
     if refusal.offset is None:
-        return [f"{source.name}: the filing is read, and settling it is refused", meaning, *_without_network(source, refusal)]
+        besides = _of_sheet(source, refusal, asked.like) if asked.like else _without_network(source, refusal)
+        return [f"{source.name}: the filing is read, and {asked.refused}", meaning, *besides]
     *before, field = [field for field in source.fields() if field.offset <= refusal.offset]
     return [
         f"{source.start_of(field)}: refused: {_shown(field)}",
@@ -54,27 +42,27 @@ def explained_length(source):
     ]
 
 
-def what_else(source, refusal, ask):
-    """What else would be refused, on copies without the lines that are; `ask` gives the answer for the bytes of a copy."""
+def what_else(source, refusal, asked):
+    """What else would be refused, on copies without the lines that are."""
     lines, left = [], source.fields()
     while refusal and refusal.offset is not None and len(lines) < MOST_ELSE:
         refused = _at(left, refusal.offset)
         if refused.call is None:
-            return [*lines, f"{source.name}: nothing is settled; what follows these bytes cannot be read"]
+            return [*lines, f"{source.name}: {asked.undone}; what follows these bytes cannot be read"]
         left.remove(refused)
-        refusal = ask(b"".join(field.data for field in left)).refusal if left else None
+        refusal = asked.answer(b"".join(field.data for field in left)).refusal if left else None
         if refusal:
-            lines.append(_also_refused(source, left, refusal))
+            lines.append(_also_refused(source, left, refusal, asked))
     if not lines:
-        return [f"{source.name}: nothing is settled; without this line nothing else would be refused"]
+        return [f"{source.name}: {asked.undone}; without this line nothing else would be refused"]
     more = ", and there may be more" if len(lines) == MOST_ELSE else ""
-    return [*lines, f"{source.name}: nothing is settled{more}"]
+    return [*lines, f"{source.name}: {asked.undone}{more}"]
 
 
-def _also_refused(source, left, refusal):
-    meaning = MEANINGS[refusal.number].split(". ")[0] + "."
+def _also_refused(source, left, refusal, asked):
+    meaning = asked.meaning(refusal).split(". ")[0] + "."
     if refusal.offset is None:
-        return f"{source.name}: then settling would be refused: {refusal.number}: {meaning}"
+        return f"{source.name}: then {asked.would_be}: {refusal.number}: {meaning}"
     field = _at(left, refusal.offset)
     if refusal.number == 5:
         meaning = " ".join(outside(field.call))
@@ -115,44 +103,53 @@ def _is_text(data):
 
 
 def _same_figure(source, before, field, programs):
-    """For 8 and 9: what stands in the figure by then, as the writer says, and the calls before this one that name it."""
-    moved = _figures_of(field.call)
-    operator, year, _ = moved[0]
-    same = [one for one in before if set(_figures_of(one.call)) & set(moved)]
+    """For 8 and 9: what stands in the figure that refuses, as the writer says, and the calls before this one that moved it."""
+    operator, year, *_ = moves_of(field.call)[0]
+    refusing, standing = _refusing(field.call, source.data[: field.offset], programs)
+    keys = {move.key for move in refusing}
+    same = [one for one in before if any(move.key in keys for move in moves_of(one.call))]
     lines = [
-        f"Of operator {operator} in {year} there stands {_standing(moved, source.data[: field.offset], programs)}.",
+        f"Of operator {operator} in {word_of(YEAR, year)} there stands {standing}.",
         f"Earlier calls there: {_places(source, same) or 'none'}.",
     ]
+    if field.call.kind.name == "interruption":
+        lines.append(f"This interruption {_moved(field.call)}.")
     if any(one.call.kind.name == "interruption" for one in [*same, field]):
-        lines.append("An interruption counts in the year of its end; one of 180 seconds or less, or left out for its cause, adds nothing.")
+        lines.append(OF_INTERRUPTIONS)
     return lines
 
 
-def _standing(figures, before, programs):
-    """How much the fields before the refused one leave in the figures, as the writer says."""
+def _refusing(call, before, programs):
+    """The moves of a call that the figures refuse, as the fields before it leave them, and how much stands there."""
+    moves = moves_of(call)
     try:
         book = programs.book(before)
     except Trouble as trouble:
-        return f"something that cannot be told: {trouble}"
-    return " and ".join(f"{book.value('amount', *_numbers(figure)):,} in {figure[2]}" for figure in figures) + " at this point"
+        return moves, f"something that cannot be told: {trouble}"
+    refusing = [move for move in moves if move.refused(book, call.value("sign") == 1)] or moves
+    return refusing, _listed([f"{book.value(*move.key):,} in {move.name}" for move in refusing]) + " at this point"
 
 
-def _figures_of(call):
-    """The figures that a call names, in words; an interruption names those of its level in the year of its end."""
-    words = {place.name: word_of(place, value) for place, value in zip(call.kind.places, call.values)}
-    if call.kind.name == "amount":
-        return [(words["operator"], words["year"], words["figure"])]
-    if call.kind.name == "interruption":
-        level = f"{words['level'].lower()}-"
-        return [(words["operator"], words["end"][:4], figure) for figure in FIGURES if figure.startswith(level)]
+def _moved(call):
+    """What an interruption adds to figures, or takes from them."""
+    verb, side = ("takes", "from") if call.value("sign") == 1 else ("adds", "to")
+    return f"{verb} {_listed([f'{move.amount:,} {side} {move.name}' for move in moves_of(call)])}"
+
+
+def _listed(parts):
+    """One part or more, with `and` before the last."""
+    *first, last = parts
+    return f"{', '.join(first)} and {last}" if first else last
+
+
+def _of_sheet(source, refusal, like):
+    """For 5 the year and its range; for 7 who has joined."""
+    if refusal.number == 5:
+        return [f"  {line}" for line in outside(like)]
+    if refusal.number == 7:
+        joined = sorted(field.call.value("operator") for field in source.fields() if field.call.kind.name == "join")
+        return [f"  Joined here: {_listed([f'operator {operator}' for operator in joined] or ['nobody'])}."]
     return []
-
-
-def _numbers(moved):
-    """Operator, year and figure as numbers again."""
-    operator, year, figure = moved
-    _, years, figures, *_ = BY_NAME["amount"].places
-    return int(operator), years.number_of(year), figures.number_of(figure)
 
 
 def _without_network(source, refusal):

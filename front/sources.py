@@ -5,7 +5,7 @@ import sys
 from pathlib import Path
 from typing import NamedTuple, Optional, Tuple
 
-from front import filing, reading, sheet, words
+from front import csv_calls, filing, reading, words
 from front.trouble import Trouble
 
 FILING = "filing.q"
@@ -98,7 +98,7 @@ def _file(path):
 
 def _source(name, suffix, read):
     if read.data.startswith(SPREADSHEETS):
-        what = "this is a file of a spreadsheet program. Save the sheet there as CSV (UTF-8), and give that file"
+        what = "this is a file of a spreadsheet program. Save it there as CSV (UTF-8), and give that file"
         raise Trouble(f"{name}: {what}.", "a spreadsheet that is not saved as CSV")
     if _is_filing(suffix, read.data):
         return Source(name, read.data, origin=read.origin)
@@ -117,12 +117,12 @@ def _is_filing(suffix, data):
 def _reader_of(name, suffix, text):
     """What reads a text; standard input has no name that could tell."""
     if suffix == ".csv":
-        if sheet.is_list_of_calls(text):
+        if csv_calls.is_list_of_calls(text):
             raise Trouble(f"{name}: these are calls in words, and not CSV. Give the file a name that ends in .txt.", "words, not CSV")
-        return sheet.read
-    if sheet.is_table(text):
+        return csv_calls.read
+    if csv_calls.is_table(text):
         if name == INPUT_NAME:
-            return sheet.read
+            return csv_calls.read
         raise Trouble(f"{name}: this is CSV by its first line. Give the file a name that ends in .csv.", "CSV by another name")
     return words.read
 

@@ -3,8 +3,10 @@
 set -euo pipefail
 . "$(dirname "$0")/common.sh"
 
-# As a first run of staff does, this builds what is not built, or is older than a source by its time alone. It asks all three programs.
-./settle examples/course >"$work/said" 2>&1 </dev/null || fail "$(cat "$work/said")"
+# As a first run of staff does, this builds what is not built, or is older than a source by its time alone. It asks every program.
+for asked in "" --show "--sheet 0 2017"; do
+    ./settle $asked examples/course >"$work/said" 2>&1 </dev/null || fail "$(cat "$work/said")"
+done
 
 # All that is skipped is told with its reason.
 if ! python3 -B -m unittest --verbose >"$work/said" 2>&1; then

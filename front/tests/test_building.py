@@ -8,7 +8,11 @@ import sys
 from front import building
 from front.tests.common import PROGRAM, PYTHON, ROOT, InFolder, settle
 
-CRATES = "# the crates\n\nleaf:\nother: leaf\noutput: leaf io\nquality: output libc\nrewrite: leaf\noutcomes: leaf\n\nlone_test: other\n"
+COUNTS = "counted short planned coupled exceptional"
+CRATES = (
+    "# the crates\n\nleaf:\nother: leaf\noutput: leaf io\nquality: output libc\n"
+    "rewrite: leaf\noutcomes: leaf\nsheet: leaf\n\nlone_test: other\n"
+)
 
 # It counts its runs, proves what crates.txt of this tree has, and builds the program anew where a source has changed.
 RT = """#!/bin/sh
@@ -39,7 +43,8 @@ class Tree(InFolder):
         self.file("tree/standing-in-for-quality", "echo operator; cat filing.q")
         self.file("tree/standing-in-for-rewrite", "cat filing.q")
         self.file("tree/standing-in-for-outcomes", "echo 0 yes")
-        for crate in ("leaf", "other", "output", "quality", "rewrite", "outcomes"):
+        self.file("tree/standing-in-for-sheet", f"for word in {COUNTS}; do echo $word $1$2; done")
+        for crate in ("leaf", "other", "output", "quality", "rewrite", "outcomes", "sheet"):
             self.file(f"tree/crates/{crate}/src/lib.rt", "")
             self.file(f"tree/crates/{crate}/proofs/part/One.antt", "")
         self.path = self.file("bin/rt", RT)
@@ -143,6 +148,14 @@ class Built(Tree):
         self.assertIn("note: rates were never filed", run.said)
 
 
+    def test_only_the_program_of_a_sheet_is_built_and_told_which(self):
+        run = self.settle("--sheet", "12", "2019", self.filing)
+        self.assertEqual((run.status, run.output.decode()), (0, "".join(f"{word} 122\n" for word in COUNTS.split())))
+        self.assertEqual(self.runs(), ["check sheet"])
+        self.assertIn("the program sheet is not built: proving and building it, which takes some minutes\n", run.said)
+        self.assertEqual(self.settle("--sheet", "3", "0", self.filing).output[:11], b"counted 30\n")
+
+
 class NotBuilt(Tree):
     def test_a_failure_names_the_log_and_is_tried_once(self):
         self.file("tree/failing", "")
@@ -199,6 +212,43 @@ class NotBuilt(Tree):
         self.assertEqual((run.status, run.output), (1, b"refused 9 at 4\n"))
         self.assertIn("calls.txt:2: refused: amount 0 2017 fees withdraw 1\n  9: ", run.said)
         self.assertIn("there stands something that cannot be told: rewrite could not be built", run.said)
+
+    def test_a_refusal_that_the_figures_do_not_show_names_them_all(self):
+        self.file("tree/standing-in-for-quality", "echo refused 9 at 4")
+        run = self.settle(self.file("calls.txt", "join 0\ninterruption 0 file MV own 0 300 2\n"))
+        self.assertIn("there stands 0 in mv-weight, 0 in mv-seconds and 0 in count-counted at this point.\n", run.said)
+
+    def test_a_sheet_without_its_program(self):
+        self.settle()
+        self.file("tree/failing", "")
+        run = self.settle("--sheet", "0", "2017", self.filing, self.filing)
+        log = self.root / "target/front/sheet.log"
+        self.assertEqual((run.status, self.runs()), (2, ["check quality", "check sheet"]))
+        self.assertEqual(run.said.count(f"rt check sheet ended with status 1; what the prover said is in {log}"), 2)
+        self.assertTrue(run.output.endswith(f"# {self.filing}: trouble: the program could not be built\n".encode()))
+        self.file("tree/crates.txt", CRATES.replace("sheet", "sheets"))
+        run = self.settle("--sheet", "0", "2017", self.filing)
+        self.assertEqual(run, (2, b"", "this tree has no program sheet: crates.txt does not list it\n"))
+
+    def test_a_program_that_prints_no_sheet_is_trouble(self):
+        whole = f"for word in {COUNTS}; do echo $word 0; done"
+        for printing, told in [
+            ("true", ""),
+            ("exit 3", "/target/bin/sheet ended with status 3\n"),
+            ("echo 'filing.q: Is a directory' >&2", "filing.q: Is a directory\n"),
+            (f"{whole}; exit 1", "/target/bin/sheet ended with status 1\n"),
+            (f"{whole}; echo more", ""),
+            (f"{whole} | head -n 4", ""),
+            (f"{whole} | sed s/short/long/", ""),
+            (f"{whole} | sed 's/0$/many/'", ""),
+            ("echo refused 7 twice", ""),
+        ]:
+            self.pass_time()
+            self.file("tree/crates/leaf/src/lib.rt", "changed")
+            self.file("tree/standing-in-for-sheet", printing)
+            run = self.settle("--sheet", "0", "2017", self.filing)
+            self.assertEqual(run.status, 2, printing)
+            self.assertTrue(run.said.endswith(f"{told}{self.filing}: the program gave no answer\n"), run.said)
 
     def test_a_folder_that_cannot_be_made(self):
         self.file("tree/target", "a file in the place of the folder")
@@ -275,6 +325,6 @@ class RealTree(InFolder):
         self.assertEqual(crates[-1], "quality")
         self.assertTrue({"exact", "calls", "output", "load"} <= set(crates))
         self.assertFalse({"io", "writing", "replay"} & set(crates))
-        for name in ("quality", "rewrite", "outcomes"):
+        for name in ("quality", "rewrite", "outcomes", "sheet"):
             why = building.reason_to_build(ROOT, PROGRAM.with_name(name), building.needed(ROOT, name))
             self.assertIsNone(why, "tests/front.sh brings it up to date")

@@ -129,7 +129,7 @@ class Asked(InFolder):
         self.assertLess(max(map(len, lines)), 80)
         for word in ["filing.q", "calls.txt", "calls.csv", "standard input", "examples", "Exit status", "docs/FILING.md"]:
             self.assertIn(word, run.output.decode())
-        options = "--show --offsets --compare --table --table=excel --encode --write --force --strict --quiet --help"
+        options = "--show --sheet --offsets --compare --table --table=excel --encode --write --force --strict --quiet --help"
         for option in options.split():
             self.assertIn(f"{option} ", run.output.decode())
 

@@ -25,9 +25,26 @@ MORE = [
     ),
     (
         "interruption 0 file MV own 2017-12-31T23:00 2018-01-01T01:00 4",
-        ["operator 0, 2018, mv-weight: 0 here, 4 there", "operator 0, 2018, mv-seconds: 0 here, 28800 there"],
+        [
+            "operator 0, 2018, mv-weight: 0 here, 4 there",
+            "operator 0, 2018, mv-seconds: 0 here, 28800 there",
+            "operator 0, 2018, count-counted: 0 here, 1 there",
+        ],
     ),
-    ("interruption 0 file MV planned 2017-12-31T23:00 2018-01-01T01:00 4", ["the books are the same"]),
+    ("interruption 0 file MV planned 2017-12-31T23:00 2018-01-01T01:00 4", ["operator 0, 2018, count-planned: 0 here, 1 there"]),
+    ("interruption 0 file LV coupled 0 180 1", ["operator 0, 2017, count-short: 0 here, 1 there"]),
+    ("interruption 0 file LV coupled 0 181 1", ["operator 0, 2017, count-coupled: 0 here, 1 there"]),
+    ("interruption 0 file LV exceptional 0 181 1\n" * 2, ["operator 0, 2017, count-exceptional: 0 here, 2 there"]),
+    ("amount 0 2019 count-short file 7", ["operator 0, 2019, count-short: 0 here, 7 there"]),
+    (
+        "interruption 0 file MV planned 2019-03-01T08:00 2019-03-01T09:00 4\namount 0 2019 count-planned withdraw 1",
+        ["the books are the same"],
+    ),
+    (
+        "interruption 0 file MV planned 2019-03-01T08:00 2019-03-01T09:00 4\n"
+        "interruption 0 withdraw LV planned 2019-05-01T08:00 2019-05-01T10:00 1",
+        ["the books are the same"],
+    ),
     ("amount 1 2017 fees file 7\namount 1 2017 fees withdraw 7", ["the books are the same"]),
 ]
 

@@ -2,7 +2,7 @@
 
 import random
 
-from front import filing, words
+from front import figures, filing, words
 from front.building import ROOT, Builder
 from front.calls import KINDS, Call
 from front.programs import Programs
@@ -15,7 +15,7 @@ def drawn_value(draw, place):
     """A value that fits the place: often one that has a word, or one near its ends."""
     low, high = (-(1 << place.bits - 1), (1 << place.bits - 1) - 1) if place.signed else (0, (1 << place.bits) - 1)
     near = draw.choice([low, high, draw.randint(low, high), draw.randint(0, 9), draw.randint(0, 255)])
-    return draw.choice([near, draw.randint(-40_000_000, 100_000_000) if place.is_time else draw.randint(0, 5)])
+    return draw.choice([near, draw.randint(-40_000_000, 100_000_000) if place.is_time else draw.randint(0, 12)])
 
 
 def drawn_call(draw):
@@ -56,11 +56,24 @@ interruption 3 file MV own 2017-12-31T23:00 2018-01-01T00:00 4
 interruption 3 file LV unattested 2019-03-04T10:00 2019-03-04T10:04 1
 interruption 3 file LV own 0 180 1
 interruption 3 file LV own 0 181 1
-interruption 3 withdraw MV planned 2017-03-04T10:00 2017-03-04T12:30 120
+interruption 3 file MV planned 2017-03-04T10:00 2017-03-04T12:30 120
 interruption 3 file MV coupled 2017-03-04T10:00 2017-03-04T12:30 120
 interruption 3 file MV exceptional 2017-03-04T10:00 2017-03-04T12:30 120
+interruption 3 withdraw MV planned 2017-03-04T10:00 2017-03-04T12:30 120
 interruption 4 file MV own 2017-03-04T10:00 2017-03-04T12:30 120
 interruption 3 file MV own 2017-03-04T10:00 2017-03-04T12:30 120
+"""
+# All that moves figures in yet another way.
+OTHERS = """\
+interruption 3 withdraw MV own 0 300 4
+interruption 3 file MV planned 2018-12-31T23:59 2019-01-01T00:02 7
+interruption 3 file MV planned 2018-12-31T23:59 2019-01-01T00:02:01 7
+interruption 3 file LV unattested 2018-12-31T23:59 2019-01-01T00:02 1
+interruption 3 withdraw LV exceptional 2018-12-31T23:59 2019-01-01T00:02 1
+interruption 3 withdraw LV exceptional 0 181 1
+amount 3 2019 count-short file 12
+amount 3 2019 count-short withdraw 2
+amount 3 2018 fees file 7
 """
 BECOMES = [
     "line 1",
@@ -72,21 +85,31 @@ BECOMES = [
     "line 8, left out: planned",
     "line 9, left out: coupled",
     "line 10, left out: exceptional",
-    "line 11, refused 7",
-    "line 12, not reached, since an earlier call is refused",
+    "line 11, left out: planned",
+    "line 12, refused 7",
+    "line 13, not reached, since an earlier call is refused",
 ]
 
 
 class Shown(InFolder):
+    def test_the_counts_by_bytes_and_by_words(self):
+        for number, word in enumerate(["counted", "short", "planned", "coupled", "exceptional"], start=8):
+            call = f"amount 1 2018 count-{word} withdraw 3"
+            data = bytes([4, 0, 12, 1, 1, number, 1, 0, 0, 0, 0, 0, 0, 0, 3])
+            self.assertEqual(settle_here("--show", self.file("filing.q", data)), (0, f"{call}\n".encode(), ""))
+            self.assertEqual(settle_here("--encode", "-", self.file("calls.txt", call)), (0, data, ""))
+
     def test_a_filing_as_calls_alone(self):
+        amount = "04 000c 03 00 0a 00 0000000000000001"
         interruption = "03 0018 03 01 00 01 00000000005249a0 0000000000526cc8 00000078"
-        path = self.file("filing.q", bytes.fromhex(f"01 0001 03 05 0003 03 00 01 {interruption}"))
-        calls = ["join 3", "mark 3 A1 1", "interruption 3 withdraw MV planned 2017-03-04T10:00 2017-03-04T12:30 120"]
+        path = self.file("filing.q", bytes.fromhex(f"01 0001 03 {amount} {interruption} {interruption}"))
+        withdrawn = "interruption 3 withdraw MV planned 2017-03-04T10:00 2017-03-04T12:30 120"
+        calls = ["join 3", "amount 3 2017 count-planned file 1", withdrawn, withdrawn]
         self.assertEqual(
             settle("--show", path).output.decode().splitlines(),
-            [*calls[:2], f"{calls[2]} # left out: planned"],
+            [*calls[:2], f"{withdrawn} # left out: planned", f"{withdrawn} # refused 9"],
         )
-        places = ["field 1 at byte 0", "field 2 at byte 4", "field 3 at byte 10, left out: planned"]
+        places = ["field 1 at byte 0", "field 2 at byte 4", "field 3 at byte 19, left out: planned", "field 4 at byte 46, refused 9"]
         self.assertEqual(
             settle("--show", "--offsets", path).output.decode().splitlines(),
             [f"{call:<40} # {place}" for call, place in zip(calls, places)],
@@ -100,19 +123,27 @@ class Shown(InFolder):
         self.assertIn("# line 4, field 3 at byte 31, counted in 2018\n", run.output.decode())
 
     def test_what_becomes_of_it_is_what_the_book_shows(self):
-        """A field that is counted changes its year in the written book, and one that is left out changes nothing."""
+        """A field changes the figures in the written book that it is said to move; one that is left out its count alone."""
         asked = Programs(Builder(ROOT, print))
-        calls = INTERRUPTIONS.split("interruption 4")[0]
-        data = settle_here("--encode", "-", self.file("calls.txt", calls + "interruption 3 withdraw MV own 0 300 4\n")).output
+        calls = INTERRUPTIONS.split("interruption 4")[0] + OTHERS
+        data = settle_here("--encode", "-", self.file("calls.txt", calls)).output
         outcomes = asked.outcomes(data)
         met = set()
         for field in filing.fields_of(data)[1:]:
             before, after = asked.book(data[: field.offset]), asked.book(data[: field.offset + len(field.data)])
-            changed = {key[2] for key in {*before.values, *after.values} if before.value(*key) != after.value(*key)}
+            sign = -1 if field.call.value("sign") else 1
+            changed = {key: after.value(*key) - before.value(*key) for key in {*before.values, *after.values}}
+            moves = figures.moves_of(field.call)
+            self.assertEqual(
+                {key: change for key, change in changed.items() if change}, {move.key: sign * move.amount for move in moves}, field
+            )
             outcome = outcomes[field.offset]
-            self.assertEqual(changed, {outcome.number} if outcome.word == "counted" else set(), field)
+            if outcome.word != "yes":
+                self.assertEqual((moves[-1].name, len(moves)), (f"count-{outcome.word}", 3 if outcome.word == "counted" else 1))
+                self.assertIn(outcome.number, (None, moves[-1].year))
             met.add(outcome.word)
-        self.assertEqual(met, {"counted", "short", "planned", "coupled", "exceptional"})
+        self.assertEqual(met, {"yes", "counted", "short", "planned", "coupled", "exceptional"})
+        self.assertEqual(figures.moves_of(filing.fields_of(data)[0].call), [])
 
     def test_bytes_that_are_no_call(self):
         for rest in ["01", "0100", "01000200", "630000", "0100020000", "0000"]:

@@ -1,12 +1,12 @@
-"""Notes after settling: the sheet of a real exercise with its mistakes, then each note by itself; --strict and --quiet."""
+"""Notes after settling: the CSV of a real exercise with its mistakes, then each note by itself; --strict and --quiet."""
 
 from pathlib import Path
 
 from front.tests.common import InFolder, program_on, settle, settle_here
 
-SHEET = Path(__file__).parent / "sheet" / "calls.csv"
+TABLE = Path(__file__).parent / "csv" / "calls.csv"
 
-# What a person corrects in the sheet after the errors of its text were told, and after its refusals.
+# What a person corrects in the table after the errors of its text were told, and after its refusals.
 TYPING = [
     ("107.03", "10703"),
     ("2017-07-03T10:00+02:00", "2017-07-03T09:00"),
@@ -26,7 +26,6 @@ file its reconnections, or correct the year
 :27: note: no LV interruption of these very values is left here to withdraw; correct it to what was filed
 :29: note: the clocks changed in the night of 2017-03-26; times are winter time, all year, and here 7,200 seconds are counted \
 from start to end; take an hour off a time that was read in summer time
-:31: note: this withdrawal changes nothing, since such an interruption is left out (coupled); correct cause and times, or take it out
 :32: note: it lasts longer than 30 days, from 2018-06-03T09:00 to 2018-08-03T10:00; see whether a date is wrong
 :33: note: 20170314 is taken as seconds, that is 2017-08-22T10:51:54; for that date write 2017-03-14T00:00, with its clock time
 :33: note: 20170315 is taken as seconds, that is 2017-08-22T10:51:55; for that date write 2017-03-15T00:00, with its clock time
@@ -40,15 +39,15 @@ def corrected(text, corrections):
     return text
 
 
-class Sheet(InFolder):
-    def test_a_sheet_with_its_mistakes_until_it_is_settled(self):
-        text = SHEET.read_bytes().decode()
-        path = self.file("sheet.csv", text)
+class Table(InFolder):
+    def test_a_table_with_its_mistakes_until_it_is_settled(self):
+        text = TABLE.read_bytes().decode()
+        path = self.file("table.csv", text)
         run = settle(path)
         self.assertEqual((run.status, run.output), (2, b""))
         self.assertEqual([line.split("'")[0] for line in run.said.splitlines()[:-1]], [f"{path}:{line}: " for line in (17, 28, 28, 35)])
 
-        self.file("sheet.csv", corrected(text, TYPING))
+        self.file("table.csv", corrected(text, TYPING))
         run = settle(path)
         self.assertEqual((run.status, run.output), (1, b"refused 5 at 583\n"))
         for said in [
@@ -60,7 +59,7 @@ class Sheet(InFolder):
         ]:
             self.assertIn(said, run.said)
 
-        self.file("sheet.csv", corrected(text, TYPING + REFUSED))
+        self.file("table.csv", corrected(text, TYPING + REFUSED))
         run = settle(path)
         self.assertEqual((run.status, run.said.replace(str(path), "")), (0, NOTES))
         self.assertEqual(run.output, program_on(settle("--encode", "-", path).output))
@@ -87,7 +86,6 @@ COUNTS = (
     "take an hour off a time that was read in summer time"
 )
 TWIN = "no {} interruption of these very values is left here to withdraw; correct it to what was filed"
-IDLE = "this withdrawal changes nothing, since such an interruption is left out ({}); correct cause and times, or take it out"
 AGAIN = "the same call stands in line {}; take one out if it is meant once"
 HEAVY = "its weight, 101, is more than the operator's cabins, 100; correct one of them"
 NO_RATES = "so nobody pays or gets anything; file them, as in: rates 5000 10000"
@@ -177,21 +175,29 @@ class Notes(InFolder):
         )
 
     def test_withdrawals_that_are_left_out(self):
-        for cause, seconds in [("planned", 300), ("coupled", 300), ("exceptional", 300), ("own", 180)]:
+        """Each takes 1 from its count, which is noted only where another one was filed."""
+        for cause, seconds, other in [
+            ("planned", 300, "MV planned 0 300 6"),
+            ("coupled", 300, "LV coupled 0 300 1"),
+            ("exceptional", 300, "MV exceptional 0 299 5"),
+            ("own", 180, "MV planned 0 180 5"),
+        ]:
             filed, withdrawn = (f"interruption 0 {sign} MV {cause} 0 {seconds} 5" for sign in ("file", "withdraw"))
-            self.assertEqual(self.added(filed, withdrawn), [(2, IDLE.format("short" if cause == "own" else cause))])
+            self.assertEqual(self.added(filed, withdrawn), [])
+            self.assertEqual(self.added(f"interruption 0 file {other}", withdrawn), [(2, TWIN.format("MV"))])
+            self.assertEqual(self.added(filed, filed), [(2, AGAIN.format(22))])
 
     def test_withdrawals_of_what_was_not_filed(self):
         filed = "interruption 0 file MV own 0 300 5"
         other = "interruption 0 withdraw MV own 0 299 5"
         same = "interruption 0 withdraw MV own 0 300 5"
-        enough = ["amount 0 2017 mv-weight file 50", "amount 0 2017 mv-seconds file 9000"]
+        enough = [f"amount 0 2017 {total}" for total in ("mv-weight file 50", "mv-seconds file 9000", "count-counted file 3")]
         self.assertEqual(self.added(filed, other, *enough)[0], (2, TWIN.format("MV")))
         self.assertEqual(self.added(*enough, filed, same), [])
         self.assertEqual(self.added(*enough, same, filed), [])
-        self.assertEqual(self.added(*enough, filed, same, same), [(5, AGAIN.format(25)), (5, TWIN.format("MV"))])
+        self.assertEqual(self.added(*enough, filed, same, same), [(6, AGAIN.format(26)), (6, TWIN.format("MV"))])
         self.assertEqual(
-            [line for line, text in self.added(*enough, filed, same, same, same) if text == TWIN.format("MV")], [5, 6]
+            [line for line, text in self.added(*enough, filed, same, same, same) if text == TWIN.format("MV")], [6, 7]
         )
 
     def test_numbers_that_look_like_dates(self):

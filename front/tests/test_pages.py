@@ -2,9 +2,9 @@
 
 import re
 
-from front import sheet, words
+from front import csv_calls, words
 from front.calls import KINDS
-from front.refusals import MEANINGS
+from front.meanings import MEANINGS, UNJOINED_SHEET
 from front.tests.common import ROOT, InFolder, settle
 
 PAGES = ("README.md", "docs/FILING.md")
@@ -24,9 +24,25 @@ class Pages(InFolder):
             for calls, printed in shown:
                 self.assertEqual(settle(self.file("exercise.txt", calls)), (0, printed.encode(), ""))
 
+    def test_the_sheet_of_the_page(self):
+        text = page("docs/FILING.md")
+        blocks = BLOCK.findall(text)
+        shown = [(calls, printed) for (kind, calls), (then, printed) in zip(blocks, blocks[1:]) if (kind, then) == ("calls", "sheet")]
+        asked = re.findall(r"^`\./settle (--sheet [0-9]+ [0-9]+) exercise\.txt` prints:$", text, re.MULTILINE)
+        self.assertEqual((len(shown), len(asked)), (1, 1))
+        (calls, printed), words_asked = shown[0], asked[0].split()
+        self.assertEqual(settle(*words_asked, self.file("exercise.txt", calls)), (0, printed.encode(), ""))
+        # What becomes of it makes the difference, and the amount.
+        for line in calls.splitlines():
+            run = settle(*words_asked, self.file("other.txt", calls.replace(f"{line}\n", "")))
+            self.assertEqual(run.output == printed.encode(), "not on the sheet" in line, line)
+
+    def test_the_refusal_of_a_sheet_stands_there(self):
+        self.assertIn(f"\n    7: {UNJOINED_SHEET}\n", page("docs/FILING.md"))
+
     def test_the_table_of_the_page_is_read(self):
         tables = [text for kind, text in BLOCK.findall(page("docs/FILING.md")) if kind == "csv"]
-        self.assertEqual([sheet.read(table)[1] for table in tables], [[]])
+        self.assertEqual([csv_calls.read(table)[1] for table in tables], [[]])
 
     def test_every_meaning_stands_there(self):
         for number, meaning in MEANINGS.items():
@@ -52,6 +68,10 @@ class Pages(InFolder):
         examples = re.findall(r"^\| `[a-z]+ [A-Z ]+` \| .* \| `(.*)` \|$", page("docs/FILING.md"), re.MULTILINE)
         self.assertEqual(len(examples), len(KINDS))
         self.assertEqual(words.read("\n".join(examples))[1], [])
+        # Each is taken where the operators have joined.
+        joins = "".join(f"join {operator}\n" for operator in range(16) if f"join {operator}" not in examples)
+        run = settle("--write", "-", self.file("calls.txt", joins + "\n".join(examples)))
+        self.assertEqual((run.status, run.said), (0, ""))
 
     def test_the_mistakes_that_the_page_shows(self):
         text = page("docs/FILING.md")

@@ -2,11 +2,16 @@
 
 import unittest
 
-from front.refusals import MEANINGS
+from front.meanings import MEANINGS
 from front.tests.common import InFolder, program_on, settle, settle_here
 
 NETWORK = "join 0\nsetting 0 cabins 5\nsetting 0 access-points 7\n"
 MARKED = NETWORK + "mark 0 A1 0\n" + "".join(f"mark 0 {indicator} 1\n" for indicator in ("A1", "A2", "A3", "A4", "D1", "D2"))
+
+OF_INTERRUPTIONS = (
+    "  An interruption counts in the year of its end; "
+    "one of 180 seconds or less, or left out for its cause, moves its count and nothing else.\n"
+)
 
 # A filing; what is printed; where and what the refused field is; a part of what is said besides the meaning.
 FILINGS = [
@@ -53,8 +58,85 @@ TEXTS = [
         "join 0\ninterruption 0 file MV own 0 181 2\namount 0 2017 mv-weight withdraw 1\ninterruption 0 withdraw MV own 0 181 2",
         "refused 9 at 46",
         "4: refused: interruption 0 withdraw MV own 2017-01-01T00:00 2017-01-01T00:03:01 2",
-        "  Of operator 0 in 2017 there stands 1 in mv-weight and 362 in mv-seconds at this point.\n"
-        "  Earlier calls there: line 2, line 3.\n  An interruption counts in the year of its end;",
+        "  Of operator 0 in 2017 there stands 1 in mv-weight at this point.\n  Earlier calls there: line 2, line 3.\n"
+        "  This interruption takes 2 from mv-weight, 362 from mv-seconds and 1 from count-counted.\n" + OF_INTERRUPTIONS,
+    ),
+    (
+        "join 0\ninterruption 0 file LV own 0 300 1\namount 0 2017 lv-seconds withdraw 1\ninterruption 0 withdraw LV own 0 300 1",
+        "refused 9 at 46",
+        "4: refused: interruption 0 withdraw LV own 2017-01-01T00:00 2017-01-01T00:05 1",
+        "  Of operator 0 in 2017 there stands 299 in lv-seconds at this point.\n  Earlier calls there: line 2, line 3.\n"
+        "  This interruption takes 1 from lv-weight, 300 from lv-seconds and 1 from count-counted.\n" + OF_INTERRUPTIONS,
+    ),
+    (
+        # The totals of the level are there, and the count is not.
+        "join 0\namount 0 2017 mv-weight file 5\namount 0 2017 mv-seconds file 9000\ninterruption 0 file MV planned 0 300 2\n"
+        "interruption 0 withdraw MV unattested 0 300 2",
+        "refused 9 at 61",
+        "5: refused: interruption 0 withdraw MV unattested 2017-01-01T00:00 2017-01-01T00:05 2",
+        "  Of operator 0 in 2017 there stands 0 in count-counted at this point.\n  Earlier calls there: none.\n"
+        "  This interruption takes 2 from mv-weight, 600 from mv-seconds and 1 from count-counted.\n" + OF_INTERRUPTIONS,
+    ),
+    (
+        "join 0\ninterruption 0 withdraw MV own 2018-12-31T23:00 2019-01-01T00:10 2",
+        "refused 9 at 4",
+        "2: refused: interruption 0 withdraw MV own 2018-12-31T23:00 2019-01-01T00:10 2",
+        "  Of operator 0 in 2019 there stands 0 in mv-weight, 0 in mv-seconds and 0 in count-counted at this point.\n"
+        "  Earlier calls there: none.\n"
+        "  This interruption takes 2 from mv-weight, 8,400 from mv-seconds and 1 from count-counted.\n" + OF_INTERRUPTIONS,
+    ),
+    (
+        # One that is left out: the same cause a year before, and all else of the year, is no help.
+        "join 0\ninterruption 0 file MV planned 2018-12-31T08:00 2018-12-31T09:00 2\ninterruption 0 file MV own 31536000 63072000 2\n"
+        "interruption 0 file MV planned 63072000 63072180 2\ninterruption 0 withdraw MV planned 2018-12-31T23:00 2019-01-01T00:10 2",
+        "refused 9 at 85",
+        "5: refused: interruption 0 withdraw MV planned 2018-12-31T23:00 2019-01-01T00:10 2",
+        "  Of operator 0 in 2019 there stands 0 in count-planned at this point.\n  Earlier calls there: none.\n"
+        "  This interruption takes 1 from count-planned.\n" + OF_INTERRUPTIONS,
+    ),
+    (
+        "join 0\ninterruption 0 file LV own 0 180 1\ninterruption 0 withdraw LV coupled 0 9 1\n"
+        "interruption 0 withdraw MV exceptional 0 180 7",
+        "refused 9 at 58",
+        "4: refused: interruption 0 withdraw MV exceptional 2017-01-01T00:00 2017-01-01T00:03 7",
+        "  Of operator 0 in 2017 there stands 0 in count-short at this point.\n  Earlier calls there: line 2, line 3.\n"
+        "  This interruption takes 1 from count-short.\n" + OF_INTERRUPTIONS,
+    ),
+    (
+        "join 0\namount 0 2018 count-coupled file 99999999999\ninterruption 0 file MV coupled 31536000 31536181 9\n"
+        "interruption 0 file LV coupled 31536000 31536181 1",
+        "refused 8 at 46",
+        "4: refused: interruption 0 file LV coupled 2018-01-01T00:00 2018-01-01T00:03:01 1",
+        "  Of operator 0 in 2018 there stands 100,000,000,000 in count-coupled at this point.\n  Earlier calls there: line 2, line 3.\n"
+        "  This interruption adds 1 to count-coupled.\n" + OF_INTERRUPTIONS,
+    ),
+    (
+        # The weight would be 100,000,000,000, which is taken.
+        "join 0\namount 0 2017 count-counted file 100000000000\namount 0 2017 mv-weight file 99999999998\n"
+        "interruption 0 file MV own 0 300 2",
+        "refused 8 at 34",
+        "4: refused: interruption 0 file MV own 2017-01-01T00:00 2017-01-01T00:05 2",
+        "  Of operator 0 in 2017 there stands 100,000,000,000 in count-counted at this point.\n  Earlier calls there: line 2.\n"
+        "  This interruption adds 2 to mv-weight, 600 to mv-seconds and 1 to count-counted.\n" + OF_INTERRUPTIONS,
+    ),
+    (
+        "join 0\namount 0 2017 mv-seconds file 99999999401\ninterruption 0 file MV own 0 300 2",
+        "refused 8 at 19",
+        "3: refused: interruption 0 file MV own 2017-01-01T00:00 2017-01-01T00:05 2",
+        "  Of operator 0 in 2017 there stands 99,999,999,401 in mv-seconds at this point.\n  Earlier calls there: line 2.\n"
+        "  This interruption adds 2 to mv-weight, 600 to mv-seconds and 1 to count-counted.\n" + OF_INTERRUPTIONS,
+    ),
+    (
+        "join 0\ninterruption 0 file LV planned 0 300 1\ninterruption 0 file LV own 0 300 1\namount 0 2017 count-planned withdraw 2",
+        "refused 9 at 58",
+        "4: refused: amount 0 2017 count-planned withdraw 2",
+        "  Of operator 0 in 2017 there stands 1 in count-planned at this point.\n  Earlier calls there: line 2.\n" + OF_INTERRUPTIONS,
+    ),
+    (
+        "join 0\namount 0 2017 count-short file 100000000001",
+        "refused 8 at 4",
+        "2: refused: amount 0 2017 count-short file 100000000001",
+        "  Of operator 0 in 2017 there stands 0 in count-short at this point.\n  Earlier calls there: none.\n",
     ),
     (
         "join 0\ninterruption 0 file LV own 2017-12-31T23:00 2018-01-01T01:00 1\namount 0 2017 lv-weight withdraw 1",
@@ -81,6 +163,13 @@ OUTSIDE = [
     ("setting 0 income 100000000001", ["The value is 100000000001: income is 0 to 100,000,000,000 cents."]),
     ("setting 0 3 1", ["The setting is 3: it is one of cabins, access-points, income, or a number 0 to 2."]),
     ("amount 0 3 fees file 1", ["The year is 3: it is one of 2017, 2018, 2019, or a number 0 to 2."]),
+    (
+        "amount 0 2017 13 file 1",
+        [
+            "The figure is 13: it is one of mv-weight, mv-seconds, lv-weight, lv-seconds, fees, connections, reconnection-fees, "
+            "reconnections, count-counted, count-short, count-planned, count-coupled, count-exceptional, or a number 0 to 12."
+        ],
+    ),
     ("amount 0 2017 fees 2 1", ["The sign is 2: it is one of file, withdraw, or a number 0 to 1."]),
     ("mark 0 6 1", ["The indicator is 6: it is one of A1, A2, A3, A4, D1, D2, or a number 0 to 5."]),
     ("mark 0 A1 2", ["The mark is 2: it is 0 (cleared) or 1 (unreliable)."]),

@@ -97,7 +97,7 @@ class WithoutEnd(InFolder):
 class OtherFiles(InFolder):
     def test_spreadsheets_and_wrong_names(self):
         for name, content, said in [
-            ("x.xlsx", b"PK\x03\x04\x14\x00", "this is a file of a spreadsheet program. Save the sheet there as CSV (UTF-8)"),
+            ("x.xlsx", b"PK\x03\x04\x14\x00", "this is a file of a spreadsheet program. Save it there as CSV (UTF-8)"),
             ("x.csv", b"PK\x03\x04\x14\x00", "this is a file of a spreadsheet program"),
             ("x.xls", b"\xd0\xcf\x11\xe0\xa1\xb1", "this is a file of a spreadsheet program"),
             ("x.txt", b"call;operator\njoin;0\n", "this is CSV by its first line. Give the file a name that ends in .csv."),

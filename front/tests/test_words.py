@@ -11,6 +11,13 @@ def numbers(text):
     return [(row.call.kind.name, *row.call.values) for row in rows]
 
 
+def words_again(text):
+    """A line as it is shown again: its seconds as clock times."""
+    for seconds, clock in [(" -5 181", " 2016-12-31T23:59:55 181"), (" 0 181", " 2017-01-01T00:00 181"), (" 181", " 2017-01-01T00:03:01")]:
+        text = text.replace(seconds, clock)
+    return text
+
+
 class Taken(InFolder):
     def test_every_word_has_its_number(self):
         for text, call in [
@@ -26,6 +33,11 @@ class Taken(InFolder):
             ("amount 1 2017 connections file 5", ("amount", 1, 0, 5, 0, 5)),
             ("amount 1 2017 reconnection-fees file 5", ("amount", 1, 0, 6, 0, 5)),
             ("amount 1 2017 reconnections file 5", ("amount", 1, 0, 7, 0, 5)),
+            ("amount 1 2017 count-counted file 5", ("amount", 1, 0, 8, 0, 5)),
+            ("amount 1 2018 count-short withdraw 5", ("amount", 1, 1, 9, 1, 5)),
+            ("amount 1 2019 count-planned file 5", ("amount", 1, 2, 10, 0, 5)),
+            ("amount 1 2017 count-coupled file 5", ("amount", 1, 0, 11, 0, 5)),
+            ("amount 1 2017 count-exceptional file 5", ("amount", 1, 0, 12, 0, 5)),
             ("mark 2 A1 1", ("mark", 2, 0, 1)),
             ("mark 2 A2 1", ("mark", 2, 1, 1)),
             ("mark 2 A3 1", ("mark", 2, 2, 1)),
@@ -44,9 +56,11 @@ class Taken(InFolder):
             ("interruption 3 file LV unattested -5 181 1", ("interruption", 3, 0, 1, 4, -5, 181, 1)),
         ]:
             self.assertEqual(numbers(text), [call], text)
+            self.assertEqual(words.line_of(words.read(text)[0][0].call), words_again(text), text)
 
     def test_numbers_stay_good_and_case_does_not_matter(self):
         self.assertEqual(numbers("amount 1 1 4 0 007"), numbers("Amount 1 2018 FEES File 7"))
+        self.assertEqual(numbers("amount 1 2 10 1 7"), numbers("amount 1 2019 Count-Planned withdraw 7"))
         self.assertEqual(numbers("mark 2 0 1"), numbers("mark 2 a1 1"))
         self.assertEqual(numbers("interruption 3 1 0 1 0 181 1"), numbers("interruption 3 withdraw mv planned 0 181 1"))
 
@@ -97,6 +111,7 @@ class Taken(InFolder):
             ("join 255", b"refused 4 at 0\n"),
             ("join 0\nmark 0 6 1", b"refused 5 at 4\n"),
             ("join 0\namount 0 3 fees file 1", b"refused 5 at 4\n"),
+            ("join 0\namount 0 0 13 file 1", b"refused 5 at 4\n"),
             ("join 0\nsetting 0 cabins 18446744073709551615", b"refused 5 at 4\n"),
             ("join 0\ninterruption 0 file MV own 2015-12-31T00:00 2017-01-01T00:00 1", b"refused 5 at 4\n"),
             ("join 0\ninterruption 0 file MV own -9223372036854775808 9223372036854775807 4294967295", b"refused 5 at 4\n"),
@@ -108,6 +123,10 @@ class Taken(InFolder):
 
 AMOUNT = "an amount up to 100000000000, fees in cents, as a whole number in digits alone (value of amount)"
 SIGN = "a sign: file, withdraw, or a number 0 to 1 (sign of amount)"
+FIGURES = (
+    "mv-weight, mv-seconds, lv-weight, lv-seconds, fees, connections, reconnection-fees, reconnections, "
+    "count-counted, count-short, count-planned, count-coupled, count-exceptional"
+)
 
 # A line, and the word and what is expected of each of its errors.
 ERRORS = [
@@ -135,8 +154,18 @@ ERRORS = [
         [
             (
                 "fee",
-                "a figure: mv-weight, mv-seconds, lv-weight, lv-seconds, fees, connections, reconnection-fees, reconnections, "
-                "or a number 0 to 7 (figure of amount)",
+                f"a figure: {FIGURES}, or a number 0 to 12 (figure of amount)",
+            )
+        ],
+    ),
+    ("amount 1 2018 planned file 5", [("planned", f"a figure: {FIGURES}, or a number 0 to 12 (figure of amount)")]),
+    ("amount 1 2018 256 file 5", [("256", f"a figure: {FIGURES}, or a number 0 to 12 (figure of amount)")]),
+    (
+        "interruption 0 file MV count-planned 0 181 1",
+        [
+            (
+                "count-planned",
+                "a cause: own, planned, coupled, exceptional, unattested, or a number 0 to 4 (cause of interruption)",
             )
         ],
     ),

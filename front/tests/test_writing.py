@@ -15,15 +15,23 @@ class Writer(InFolder):
             self.assertEqual(settle("--write", once, path), (0, b"", ""))
             self.assertEqual(settle_here("--write", twice, once), (0, b"", ""))
             self.assertEqual(once.read_bytes(), twice.read_bytes())
-            self.assertLessEqual(len(once.read_bytes()), 7067)
+            self.assertLessEqual(len(once.read_bytes()), 10667)
             self.assertEqual(settle_here("--quiet", once), settle_here("--quiet", path))
             self.assertEqual(settle_here("--write", "-", path).output, once.read_bytes())
 
     def test_withdrawn_entries_are_gone(self):
-        path = self.file("calls.txt", "join 3\namount 3 2018 fees file 9\namount 3 2018 fees withdraw 9\nrates 0 7\n")
+        twins = "".join(f"interruption 3 {sign} MV planned 0 300 5\n" for sign in ("file", "withdraw"))
+        path = self.file("calls.txt", f"join 3\namount 3 2018 fees file 9\namount 3 2018 fees withdraw 9\n{twins}rates 0 7\n")
         self.assertEqual(settle("--write", self.folder / "out.q", path).status, 0)
         shown = settle("--show", self.folder / "out.q").output.decode()
         self.assertEqual([line.split("#")[0].strip() for line in shown.splitlines()], ["join 3", "rates 0 7"])
+
+    def test_counts_are_written_as_amounts(self):
+        calls = ["join 3", "interruption 3 file MV own 0 300 5", "interruption 3 file LV own 0 180 1", "amount 3 2018 count-planned file 7"]
+        written = settle_here("--write", "-", self.file("calls.txt", "\n".join([*calls, calls[2]]))).output
+        shown = settle_here("--show", self.file("written.q", written)).output.decode().splitlines()
+        amounts = ["2017 mv-weight file 5", "2017 mv-seconds file 1500", "2017 count-counted file 1", "2017 count-short file 2"]
+        self.assertEqual(shown, ["join 3", *(f"amount 3 {amount}" for amount in amounts), calls[3].strip()])
 
     def test_an_empty_book(self):
         out = self.folder / "out.q"
