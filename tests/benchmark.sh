@@ -10,8 +10,12 @@ set -euo pipefail
 calls() { # KIND
     awk -v kind="$1" '
         function put(text, size) { print text; left -= size }
-        function amount(i) { put("amount " i % 16 " " i % 3 " " i % 8 " 0 " 1000 + i, 15) }
-        function interruption(i) { put("interruption " i % 16 " 0 0 " i % 5 " " 1000 * i " " 1000 * i + 900 " " 1 + i % 50, 27) }
+        function amount(i) { put("amount " i % 16 " " i % 3 " " i % 13 " 0 " 1000 + i, 15) }
+        # One in six is short, and one in four withdraws the one before it.
+        function interruption(i) {
+            if (n++ % 4 < 3) last = i
+            put("interruption " last % 16 " " (last < i) " 0 " last % 5 " " 1000 * last " " 1000 * last + (last % 6 ? 900 : 100) " " 1 + last % 50, 27)
+        }
         BEGIN {
             left = 65536
             for (o = 0; o < 16; o++) put("join " o, 4)
@@ -74,6 +78,7 @@ printf '\n%-24s %6s\n' "one field" program
 field amount "amount 3 1 4 0 1000"
 field counted-interruption "interruption 3 0 0 0 1000 1900 5"
 field left-out-interruption "interruption 3 0 0 1 1000 1900 5"
+field short-interruption "interruption 3 0 0 1 1000 1100 5"
 field setting "setting 3 0 1000"
 field mark "mark 3 2 1"
 field rates "rates 5000 10000"

@@ -28,7 +28,7 @@ largest_book() {
         for (i = 3; i >= 0; i--) print "index " i " " 9999 - i
         for (o = 15; o >= 0; o--) {
             for (i = 5; i >= 0; i--) print "mark " o " " i " 0"
-            for (y = 2; y >= 0; y--) for (f = 7; f >= 0; f--) print "amount " o " " y " " f " 0 " 1 + 100 * o + 10 * y + f
+            for (y = 2; y >= 0; y--) for (f = 12; f >= 0; f--) print "amount " o " " y " " f " 0 " 1 + 100 * o + 20 * y + f
             for (w = 2; w >= 0; w--) print "setting " o " " w " " 100000 - o
         }
     }'
@@ -39,14 +39,14 @@ rewritten missing 0
 : >"$work/empty/filing.q"
 rewritten empty 0
 largest_book | "$model" encode >"$work/largest/filing.q"
-rewritten largest 7067
+rewritten largest 10667
 printf 'join 3\njoin 16\n' | "$model" encode >"$work/refused/filing.q"
 rewritten refused 0
 [ "$(cat "$work/refused/told")" = "refused 4 at 4" ] || fail "a refused field is not told on standard error"
 head -c 65537 /dev/zero >"$work/long/filing.q"
 rewritten long 0
 [ "$(cat "$work/long/told")" = "too long" ] || fail "a filing that is too long is not told on standard error"
-echo "rewriting: the largest book has 7067 bytes, an empty filing 0"
+echo "rewriting: the largest book has 10667 bytes, an empty filing 0"
 
 mkdir -p "$work/unreadable/filing.q"
 (cd "$work/unreadable" && "$rewrite" >written 2>told) || true

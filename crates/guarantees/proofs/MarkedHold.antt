@@ -14,8 +14,8 @@ use Rattle.filing.specs.Reader.{reading, read}
 use Rattle.filing.proofs.Opened.{filing-opened}
 use Rattle.text.proofs.Opened.{text-opened}
 use Rattle.report.specs.Report.{textOf}
-use Rattle.output.specs.Output.{refusedBy, refusedField, settlementText, readingText, outputOf}
-use Rattle.output.proofs.OutputLaws.{output-refused}
+use Rattle.output.specs.Output.{refusedBy, refusedField, settlementText, readingText, printedOf, outputOf}
+use Rattle.output.proofs.OutputLaws.{printed-refused}
 use Rattle.output.proofs.Opened.{output-opened}
 use Rattle.history.specs.Demand.{bookOf}
 use Rattle.calls.specs.declared.Call.{Call}
@@ -28,7 +28,8 @@ use Rattle.guarantees.proofs.AppliedLaws.{appliedFrom, book-of}
 -- a filing refused at a field: what is printed needs no settlement
 refused-example : (bytes : List ℕ) (number : ℕ) (text : List ℕ) → length bytes ≤ 65536 → read freshBook bytes .said ≡ refused-by number
     → refusedField number (read freshBook bytes .offset) ≡ text → outputOf bytes ≡ text
-refused-example bytes number text short refused same = sym (output-refused bytes short number refused) ∙ same
+unfolding outputOf
+refused-example bytes number text short refused same = sym (printed-refused settlementText bytes short number refused) ∙ same
 
 filings-refused : All refusedFilings
 unfolding filing-opened text-opened refusedBy refusedField
@@ -66,7 +67,7 @@ unfolding output-opened appliedFrom
 printed-m = refl
 
 output-m : outputOf filingM ≡ linesM
-unfolding outputOf readingText settlementText onAnswer
+unfolding outputOf printedOf readingText settlementText onAnswer
 output-m = rw (read-m, settles-m) printed-m
 
 -- M with cap rate 50

@@ -57,8 +57,10 @@ module _ (operator sign level weight seconds year cause : ℕ) where
   judged-within false true most lo ls ll ly = (record { operator-lt = lo; year-lt = ly; figure-lt = omega (arith, most refl); sign-le = ls }, tt)
   judged-within false false most lo ls ll ly = (
     record { operator-lt = lo; year-lt = ly; figure-lt = omega arith; sign-le = ls },
-    (record { operator-lt = lo; year-lt = ly; figure-lt = omega arith; sign-le = ls },
-        (record { operator-lt = lo; year-lt = ly; figure-lt = omega arith; sign-le = ls }, tt)),
+    (
+      record { operator-lt = lo; year-lt = ly; figure-lt = omega arith; sign-le = ls },
+      (record { operator-lt = lo; year-lt = ly; figure-lt = omega arith; sign-le = ls }, tt),
+    ),
   )
 
   judged-distinct : (t u : Bool) → level ≤ 1 → Distinct (judgedEntries t u)

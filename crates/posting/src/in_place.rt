@@ -120,7 +120,15 @@ pub fn interruption(
         Judged::Counts => enter_counted(figures, operator, sign, level, year, weight, seconds),
         Judged::LeftOut(reason) => {
             let count = count_figure(reason);
-            enter(figures, operator, year, count, sign, 1, Answer::LeftOut(reason))
+            enter(
+                figures,
+                operator,
+                year,
+                count,
+                sign,
+                1,
+                Answer::LeftOut(reason),
+            )
         }
     }
 }

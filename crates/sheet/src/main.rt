@@ -48,5 +48,8 @@ fn print_output(filing: &[u8], operator: u8, year: u8) {
 }
 
 fn tell_usage() {
-    io::write_all(STDERR_FILENO, b"usage: sheet OPERATOR YEAR, each a number from 0 to 255\n");
+    io::write_all(
+        STDERR_FILENO,
+        b"usage: sheet OPERATOR YEAR, each a number from 0 to 255\n",
+    );
 }

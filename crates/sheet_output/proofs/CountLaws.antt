@@ -23,27 +23,23 @@ line-length word count small =
     let digits : length (decimal count) ≤ 20 = decimal-length 19 count (omega arith) in
     omega (arith, digits, length-append (word ++ decimal count) (bytesOf "\n"), length-append word (decimal count))
 
--- five texts, none longer than a line
-module _ (old a b c d e : List ℕ) (long : 2048 ≤ length old)
-    (la : length a ≤ 33) (lb : length b ≤ 33) (lc : length c ≤ 33) (ld : length d ≤ 33) (le : length e ≤ 33) where
-  room : 0 + length (a ++ b ++ c ++ d ++ e) ≤ length old
-  room =
-      omega (
-        arith,
-        long,
-        length-append (a ++ b ++ c ++ d) e,
-        length-append (a ++ b ++ c) d,
-        length-append (a ++ b) c,
-        length-append a b,
-      )
-
-  pub put-five : {first second third fourth new : List ℕ} {two three four five after : ℕ}
-      → Put old 0 a first two → Put first two b second three → Put second three c third four → Put third four d fourth five → Put fourth five e new after
-      → Put old 0 (a ++ b ++ c ++ d ++ e) new after
-  put-five pa pb pc pd pe =
-      let room-four : 0 + length (a ++ b ++ c ++ d) ≤ length old = room-first old 0 (a ++ b ++ c ++ d) e room in
-      let room-three : 0 + length (a ++ b ++ c) ≤ length old = room-first old 0 (a ++ b ++ c) d room-four in
-      put-then old 0 (a ++ b ++ c ++ d) e room (put-then old 0 (a ++ b ++ c) d room-four (put-three old 0 a b c room-three pa pb pc) pd) pe
+-- five texts one after the other, none longer than a line
+pub put-five : (old a b c d e : List ℕ) {first second third fourth new : List ℕ} {two three four five after : ℕ} → 2048 ≤ length old
+    → Put old 0 a first two → Put first two b second three → Put second three c third four → Put third four d fourth five → Put fourth five e new after
+    → length a ≤ 33 → length b ≤ 33 → length c ≤ 33 → length d ≤ 33 → length e ≤ 33
+    → Put old 0 (a ++ b ++ c ++ d ++ e) new after
+put-five old a b c d e long pa pb pc pd pe la lb lc ld le =
+    let lengths : length (a ++ b ++ c ++ d ++ e) ≤ 165 = omega (
+      arith,
+      length-append (a ++ b ++ c ++ d) e,
+      length-append (a ++ b ++ c) d,
+      length-append (a ++ b) c,
+      length-append a b,
+    ) in
+    let room : 0 + length (a ++ b ++ c ++ d ++ e) ≤ length old = omega (arith, lengths, long) in
+    let room-four : 0 + length (a ++ b ++ c ++ d) ≤ length old = room-first old 0 (a ++ b ++ c ++ d) e room in
+    let room-three : 0 + length (a ++ b ++ c) ≤ length old = room-first old 0 (a ++ b ++ c) d room-four in
+    put-then old 0 (a ++ b ++ c ++ d) e room (put-then old 0 (a ++ b ++ c) d room-four (put-three old 0 a b c room-three pa pb pc) pd) pe
 
 -- the text of a sheet, by its answer
 module _ (operator year : ℕ) (b : Book) where

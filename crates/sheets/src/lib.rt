@@ -58,14 +58,16 @@ fn refused(refusal: Refusal) -> YearlySheet
 }
 
 // They stand one after the other.
-fn counts_of(
-    figures: [u64; FIGURE_PLACES],
-    operator: u8,
-    year: u8,
-) -> [u64; COUNT_FIGURES]
+fn counts_of(figures: [u64; FIGURE_PLACES], operator: u8, year: u8) -> [u64; COUNT_FIGURES]
     requires { ⌜ (operator < operators) × (year < years) ⌝ }
     ensures { λ r. ⌜ r ≡ map (figureOf (withFigures freshBook figures) operator year) sheetFigures ⌝ }
 {
     let at = figure_slot(operator, year, FIRST_COUNT);
-    [figures[at], figures[at + 1], figures[at + 2], figures[at + 3], figures[at + 4]]
+    [
+        figures[at],
+        figures[at + 1],
+        figures[at + 2],
+        figures[at + 3],
+        figures[at + 4],
+    ]
 }

@@ -1,5 +1,6 @@
 -- `judging::interruptions::count_figure` meets its contract.
 -- Assumes nothing.
+use mathlib.Core.Path.{refl}
 use Rattle.calls.specs.Call.{countFigure}
 use borrow.Author.Needs.{needs}
 use Rattle.judging.proofs.interruptions.count_figure.Statement.{statement}
@@ -32,22 +33,22 @@ add-result-4 c = search needs
 -- short
 returns : tie.Need-returns
 unfolding countFigure
-returns c = search needs
+returns c = rw (c .enum-told .given .1) refl
 
 -- planned
 returns-2 : tie.Need-returns-2
 unfolding countFigure
-returns-2 c = search needs
+returns-2 c = rw (c .enum-told2 .given .1) refl
 
 -- coupled
 returns-3 : tie.Need-returns-3
 unfolding countFigure
-returns-3 c = search needs
+returns-3 c = rw (c .enum-told3 .given .1) refl
 
 -- exceptional
 returns-4 : tie.Need-returns-4
 unfolding countFigure
-returns-4 c = search needs
+returns-4 c = rw (c .enum-told4 .given .1) refl
 
 pub count-figure-spec : {M : Type 1} → statement M
 count-figure-spec =

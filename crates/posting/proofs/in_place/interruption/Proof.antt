@@ -2,11 +2,11 @@
 -- Assumes nothing.
 use mathlib.Core.Path.{_≡_, refl, sym, ap, _∙_}
 use mathlib.Core.Bool.{Bool, true, _&&_}
-use Prim.Native.Nat.{ℕ, _≤_, _<_}
+use Prim.Native.Nat.{_<_}
+use native.Mathlib.Omega.{arith}
 use Rattle.calls.specs.declared.Call.{Call}
 use Rattle.calls.specs.declared.Call.the-variants.{Interruption}
-use Rattle.calls.specs.Limits.{operators, years, longest}
-use Rattle.calls.specs.Answers.{leftOutAs}
+use Rattle.calls.specs.Limits.{operators}
 use Rattle.calls.specs.Call.{detailsInRange, timesInRange, secondsOf, yearOf, factsOf}
 use Rattle.judging.specs.Steps.{JudgedAs}
 use Rattle.book.specs.declared.Book.{Book}
@@ -18,7 +18,7 @@ use Rattle.calls.proofs.Flags.{and-left, and-right}
 use Rattle.calls.proofs.Times.{back, timed, year-lt, seconds-most}
 use Rattle.calls.proofs.RangeLaws.{details}
 use Rattle.judging.proofs.JudgedLaws.{left-out-counted, left-out-known}
-use Rattle.ledger.proofs.AdmissionLaws.{refusedCall, member-decided}
+use Rattle.ledger.proofs.AdmissionLaws.{member-decided}
 use borrow.Author.Needs.{needs}
 use Rattle.posting.proofs.in_place.interruption.Statement.{statement}
 use Rattle.posting.proofs.in_place.interruption.Tie as tie
@@ -81,7 +81,7 @@ seconds-of-requires : tie.Need-seconds-of-requires
 seconds-of-requires c κs = rw (back (begun c .fits .start), back (begun c .fits .end)) (in-time c)
 
 year-of-requires : tie.Need-year-of-requires
-year-of-requires c κs = rw (back (begun (c .before) .fits .start), back (begun (c .before) .fits .end)) (in-time (c .before))
+year-of-requires c κs = (λ i. timesInRange (back (begun (c .before) .fits .start) i) (back (begun (c .before) .fits .end) i)) ∙ in-time (c .before)
 
 judge-requires : tie.Need-judge-requires
 judge-requires c κs = search needs
@@ -134,7 +134,7 @@ enter-requires c κs =
       operator-known = passed .0;
       year-known = rw (year-is (c .before .before .before .before .before .before)) (year-lt times);
       figure-known = rw (c .before .count-figure .ensures) (left-out-known (c .before .before .before .reason .given .0 .0));
-      sign-most = in-range .sign-most;
+      sign-most = omega (arith, in-range .sign-most);
     }
 
 -- counted

@@ -1,9 +1,9 @@
 -- `sheet_output::arguments::argument_of` meets its contract.
 -- Assumes nothing.
-use mathlib.Core.Path.{refl}
-use lib.ListN.{length}
+use mathlib.Core.Path.{_≡_, refl}
+use lib.ListN.{length, getD}
 use borrow.Author.Tests.{eq-eqb, ne-eqb}
-use Rattle.sheet_output.specs.Argument.{argumentOf}
+use Rattle.sheet_output.specs.Argument.{ofDigits, argumentOf}
 use borrow.Author.Needs.{needs}
 use Rattle.sheet_output.proofs.arguments.argument_of.Statement.{statement}
 use Rattle.sheet_output.proofs.arguments.argument_of.Tie as tie
@@ -16,7 +16,10 @@ of-digits-requires c κs = search needs
 
 returns : tie.Need-returns
 unfolding argumentOf
-returns c = rw (eq-eqb (length (c .before .before .before .before .args .text .now)) 1 (c .before .before .if1 .taken)) (c .of-digits .ensures)
+returns c =
+    let text = c .before .before .before .before .args .text .now in
+    let read : c .of-digits .result ≡ ofDigits 48 48 (getD text 0 0) = c .of-digits .ensures in
+    rw (eq-eqb (length text) 1 (c .before .before .if1 .taken)) read
 
 shared-slice-read-of-digits-2 : tie.Need-shared-slice-read-of-digits-2
 shared-slice-read-of-digits-2 c = search needs
@@ -31,7 +34,8 @@ returns-2 : tie.Need-returns-2
 unfolding argumentOf
 returns-2 c =
     let text = c .before .before .before .before .before .before .args .text .now in
-    rw (ne-eqb (length text) 1 (c .before .before .before .before .if1 .left), eq-eqb (length text) 2 (c .before .before .before .if2 .taken)) (c .of-digits2 .ensures)
+    let read : c .of-digits2 .result ≡ ofDigits 48 (getD text 0 0) (getD text 1 0) = c .of-digits2 .ensures in
+    rw (ne-eqb (length text) 1 (c .before .before .before .before .if1 .left), eq-eqb (length text) 2 (c .before .before .before .if2 .taken)) read
 
 shared-slice-read-of-digits-4 : tie.Need-shared-slice-read-of-digits-4
 shared-slice-read-of-digits-4 c = search needs
@@ -49,12 +53,13 @@ returns-3 : tie.Need-returns-3
 unfolding argumentOf
 returns-3 c =
     let text = c .before .before .before .before .before .before .before .before .args .text .now in
+    let read : c .of-digits3 .result ≡ ofDigits (getD text 0 0) (getD text 1 0) (getD text 2 0) = c .of-digits3 .ensures in
     rw (
       ne-eqb (length text) 1 (c .before .before .before .before .before .before .if1 .left),
       ne-eqb (length text) 2 (c .before .before .before .before .before .if2 .left),
       eq-eqb (length text) 3 (c .before .before .before .before .if3 .taken),
     )
-    (c .of-digits3 .ensures)
+    read
 
 returns-4 : tie.Need-returns-4
 unfolding argumentOf

@@ -70,8 +70,8 @@ returns c =
     let five = c .before .before .put-count5 .ensures in
     at-front (start .args .out .now) (countLines counts)
     (put-five (start .args .out .now) (countLine (bytesOf "counted ") (getD counts 0 0)) (countLine (bytesOf "short ") (getD counts 1 0)) (countLine (bytesOf "planned ") (getD counts 2 0)) (countLine (bytesOf "coupled ") (getD counts 3 0)) (countLine (bytesOf "exceptional ") (getD counts 4 0)) (start .pre)
-    (omega (arith, one .0 .1, one .1)) (omega (arith, two .0 .1, two .1)) (omega (arith, three .0 .1, three .1)) (omega (arith, four .0 .1, four .1)) (omega (arith, five .0 .1, five .1))
-    (one .0) (two .0) (three .0) (four .0) (five .0))
+    (one .0) (two .0) (three .0) (four .0) (five .0)
+    (omega (arith, one .0 .1, one .1)) (omega (arith, two .0 .1, two .1)) (omega (arith, three .0 .1, three .1)) (omega (arith, four .0 .1, four .1)) (omega (arith, five .0 .1, five .1)))
 
 pub put-counts-spec : {M : Type 1} → statement M
 put-counts-spec =
