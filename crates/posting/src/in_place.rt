@@ -120,15 +120,8 @@ pub fn interruption(
         Judged::Counts => enter_counted(figures, operator, sign, level, year, weight, seconds),
         Judged::LeftOut(reason) => {
             let count = count_figure(reason);
-            enter(
-                figures,
-                operator,
-                year,
-                count,
-                sign,
-                1,
-                Answer::LeftOut(reason),
-            )
+            let left_out = Answer::LeftOut(reason);
+            enter(figures, operator, year, count, sign, 1, left_out)
         }
     }
 }
