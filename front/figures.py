@@ -1,4 +1,4 @@
-"""Which figures a call moves, and by how much, so that a refusal by 8 or 9 can be explained. The programs decide what is refused."""
+"""Which figures a call moves, and by how much, so that a refusal by 8 or 9 can be explained. What becomes of it the programs tell."""
 
 from typing import NamedTuple
 
@@ -6,11 +6,6 @@ from front.calls import FIGURES
 
 MOST = 100_000_000_000
 YEAR_SECONDS = 31_536_000
-SHORT_SECONDS = 180
-COUNTED = FIGURES.index("count-counted")
-SHORT = FIGURES.index("count-short")
-# By the cause. Every other one is counted.
-LEFT_OUT = {1: FIGURES.index("count-planned"), 2: FIGURES.index("count-coupled"), 3: FIGURES.index("count-exceptional")}
 
 
 class Move(NamedTuple):
@@ -37,19 +32,17 @@ class Move(NamedTuple):
         return standing < self.amount if withdraws else standing + self.amount > MOST
 
 
-def moves_of(call):
-    """What an amount or an interruption moves, if its values are in range; other calls move no figure."""
+def moves_of(call, word):
+    """What an amount moves, or an interruption of which that word tells what becomes: counted, short ..; other calls move no figure."""
     if call.kind.name == "amount":
         return [Move(*call.values[:3], call.value("value"))]
     if call.kind.name == "interruption":
-        return _moves_of_interruption(*call.values)
+        return _moves_of_interruption(word, *call.values)
     return []
 
 
-def _moves_of_interruption(operator, _sign, level, cause, start, end, weight):
+def _moves_of_interruption(word, operator, _sign, level, _cause, start, end, weight):
     """The count of what becomes of it, in the year of its end; of a counted one weight and weighted seconds of its level before that."""
-    year, seconds = end // YEAR_SECONDS, end - start
-    # Short comes before the cause.
-    count = SHORT if seconds <= SHORT_SECONDS else LEFT_OUT.get(cause, COUNTED)
-    measured = [(2 * level, weight), (2 * level + 1, weight * seconds)] if count == COUNTED else []
-    return [Move(operator, year, figure, amount) for figure, amount in [*measured, (count, 1)]]
+    measured = [(2 * level, weight), (2 * level + 1, weight * (end - start))] if word == "counted" else []
+    counts = [(FIGURES.index(f"count-{word}"), 1)]
+    return [Move(operator, end // YEAR_SECONDS, figure, amount) for figure, amount in [*measured, *counts]]

@@ -7,6 +7,8 @@ from pathlib import Path
 from typing import NamedTuple, Optional
 
 from front.books import Book
+from front.calls import BY_NAME, Call
+from front.filing import encode
 from front.sources import FILING
 from front.trouble import Trouble
 
@@ -110,6 +112,15 @@ class Programs:
             if told:
                 found[int(told[1])] = FieldAnswer(told[2].decode(), None if told[3] is None else int(told[3]))
         return found
+
+    def outcome_alone(self, call):
+        """The word for what becomes of an interruption that is filed by itself; only one that counts can be refused even then."""
+        join = encode(Call(BY_NAME["join"], (call.value("operator"),)))
+        filed = encode(Call(call.kind, (call.value("operator"), 0, *call.values[2:])))
+        told = self.outcomes(join + filed).get(len(join))
+        if told is None:
+            raise Trouble("the program outcomes tells nothing of it", "nothing is told of a call")
+        return "counted" if told.word == "refused" else told.word
 
     def _run(self, name, data, *numbers):
         program = self.builder.program(name)

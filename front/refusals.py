@@ -104,36 +104,40 @@ def _is_text(data):
 
 def _same_figure(source, before, field, programs):
     """For 8 and 9: what stands in the figure that refuses, as the writer says, and the calls before this one that moved it."""
-    operator, year, *_ = moves_of(field.call)[0]
-    refusing, standing = _refusing(field.call, source.data[: field.offset], programs)
+    data = source.data[: field.offset]
+    try:
+        moves = _moves(field.call, programs)
+        book, outcomes = programs.book(data), programs.outcomes(data)
+    except Trouble as trouble:
+        return [f"What stands in its figure cannot be told: {trouble}"]
+    refusing = [move for move in moves if move.refused(book, _withdraws(field.call))] or moves
     keys = {move.key for move in refusing}
-    same = [one for one in before if any(move.key in keys for move in moves_of(one.call))]
+    same = [one for one in before if any(move.key in keys for move in moves_of(one.call, outcomes[one.offset].word))]
+    standing = _listed([f"{book.value(*move.key):,} in {move.name}" for move in refusing])
     lines = [
-        f"Of operator {operator} in {word_of(YEAR, year)} there stands {standing}.",
+        f"Of operator {moves[0].operator} in {word_of(YEAR, moves[0].year)} there stands {standing} at this point.",
         f"Earlier calls there: {_places(source, same) or 'none'}.",
     ]
     if field.call.kind.name == "interruption":
-        lines.append(f"This interruption {_moved(field.call)}.")
+        lines.append(f"This interruption {_moved(field.call, moves)}.")
     if any(one.call.kind.name == "interruption" for one in [*same, field]):
         lines.append(OF_INTERRUPTIONS)
     return lines
 
 
-def _refusing(call, before, programs):
-    """The moves of a call that the figures refuse, as the fields before it leave them, and how much stands there."""
-    moves = moves_of(call)
-    try:
-        book = programs.book(before)
-    except Trouble as trouble:
-        return moves, f"something that cannot be told: {trouble}"
-    refusing = [move for move in moves if move.refused(book, call.value("sign") == 1)] or moves
-    return refusing, _listed([f"{book.value(*move.key):,} in {move.name}" for move in refusing]) + " at this point"
+def _moves(call, programs):
+    """What a refused call would move."""
+    return moves_of(call, programs.outcome_alone(call) if call.kind.name == "interruption" else None)
 
 
-def _moved(call):
+def _moved(call, moves):
     """What an interruption adds to figures, or takes from them."""
-    verb, side = ("takes", "from") if call.value("sign") == 1 else ("adds", "to")
-    return f"{verb} {_listed([f'{move.amount:,} {side} {move.name}' for move in moves_of(call)])}"
+    verb, side = ("takes", "from") if _withdraws(call) else ("adds", "to")
+    return f"{verb} {_listed([f'{move.amount:,} {side} {move.name}' for move in moves])}"
+
+
+def _withdraws(call):
+    return call.value("sign") == 1
 
 
 def _listed(parts):

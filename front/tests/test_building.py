@@ -207,16 +207,24 @@ class NotBuilt(Tree):
     def test_a_refusal_stands_without_the_program_that_tells_the_figure(self):
         self.file("tree/standing-in-for-quality", "echo refused 9 at 4")
         self.settle()
+        (self.root / "target/bin/rewrite").unlink()
         self.file("tree/failing", "")
         run = self.settle(self.file("calls.txt", "join 0\namount 0 2017 fees withdraw 1\n"))
         self.assertEqual((run.status, run.output), (1, b"refused 9 at 4\n"))
         self.assertIn("calls.txt:2: refused: amount 0 2017 fees withdraw 1\n  9: ", run.said)
-        self.assertIn("there stands something that cannot be told: rewrite could not be built", run.said)
+        self.assertIn("What stands in its figure cannot be told: rewrite could not be built", run.said)
 
     def test_a_refusal_that_the_figures_do_not_show_names_them_all(self):
         self.file("tree/standing-in-for-quality", "echo refused 9 at 4")
+        self.file("tree/standing-in-for-outcomes", "echo 0 yes; echo 4 refused 8")
         run = self.settle(self.file("calls.txt", "join 0\ninterruption 0 file MV own 0 300 2\n"))
         self.assertIn("there stands 0 in mv-weight, 0 in mv-seconds and 0 in count-counted at this point.\n", run.said)
+
+    def test_a_refusal_of_which_the_program_tells_nothing(self):
+        self.file("tree/standing-in-for-quality", "echo refused 9 at 4")
+        run = self.settle(self.file("calls.txt", "join 0\ninterruption 0 file MV own 0 300 2\n"))
+        self.assertEqual(run.status, 1)
+        self.assertIn("What stands in its figure cannot be told: the program outcomes tells nothing of it", run.said)
 
     def test_a_sheet_without_its_program(self):
         self.settle()

@@ -133,17 +133,18 @@ class Shown(InFolder):
             before, after = asked.book(data[: field.offset]), asked.book(data[: field.offset + len(field.data)])
             sign = -1 if field.call.value("sign") else 1
             changed = {key: after.value(*key) - before.value(*key) for key in {*before.values, *after.values}}
-            moves = figures.moves_of(field.call)
+            outcome = outcomes[field.offset]
+            moves = figures.moves_of(field.call, outcome.word)
             self.assertEqual(
                 {key: change for key, change in changed.items() if change}, {move.key: sign * move.amount for move in moves}, field
             )
-            outcome = outcomes[field.offset]
             if outcome.word != "yes":
+                self.assertEqual(asked.outcome_alone(field.call), outcome.word)
                 self.assertEqual((moves[-1].name, len(moves)), (f"count-{outcome.word}", 3 if outcome.word == "counted" else 1))
                 self.assertIn(outcome.number, (None, moves[-1].year))
             met.add(outcome.word)
         self.assertEqual(met, {"yes", "counted", "short", "planned", "coupled", "exceptional"})
-        self.assertEqual(figures.moves_of(filing.fields_of(data)[0].call), [])
+        self.assertEqual(figures.moves_of(filing.fields_of(data)[0].call, "yes"), [])
 
     def test_bytes_that_are_no_call(self):
         for rest in ["01", "0100", "01000200", "630000", "0100020000", "0000"]:
