@@ -44,7 +44,7 @@ pub fn setting(b: Book, operator: u8, which: u8, value: u64) -> Answered
 
 // An interruption is filed (sign 0) or withdrawn (1), of the medium (level 0) or low voltage network (1). Causes: 0 own network, 1 planned, 2
 // coupled network, 3 exceptional with outside attestation, 4 exceptional without. Times are seconds from the start of 2017; weight is the
-// number of cabins, for low voltage 1.
+// number of cabins, for low voltage 1. Counted or left out, it moves the count of its outcome by 1.
 pub fn interruption(
     b: Book,
     operator: u8,
@@ -71,7 +71,7 @@ pub fn interruption(
     )
 }
 
-// An amount is filed to (sign 0) or withdrawn from (1) a figure, 0 to 7, of an operator and year, 0 to 2.
+// An amount is filed to (sign 0) or withdrawn from (1) a figure, 0 to 12, of an operator and year, 0 to 2.
 pub fn amount(b: Book, operator: u8, year: u8, figure: u8, sign: u8, value: u64) -> Answered
     ensures { λ r. ⌜ Files b (Call.Amount operator year figure sign value) (r .answer) (r .book) ⌝ }
 {

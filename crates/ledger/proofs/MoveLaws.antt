@@ -161,11 +161,6 @@ module _ (b : Book) where
           (none-passes (figureOf b) rest (entry .sign) (entry .value) (figureAt entry) e signs))
           (some-here _ _ _ e)
 
--- nothing entered, the book stays
-pub nothing-entered : (b : Book) (value : Acceptance) → entering b [] value ≡ acceptedCall b value
-unfolding enterAll
-nothing-entered b value = entered-all b [] value (some-none _) (some-none _)
-
 -- figures of one operator and year stand apart
 pub slots-apart : (operator year figure other : ℕ) → figure ≢ other → figureSlot operator year figure ≢ figureSlot operator year other
 unfolding figureSlot

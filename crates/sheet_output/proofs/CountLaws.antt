@@ -10,18 +10,17 @@ use Rattle.calls.specs.Answers.{refused-by, onAnswer, isRefused}
 use Rattle.book.specs.declared.Book.{Book}
 use Rattle.sheets.specs.Sheet.{sheetOf}
 use Rattle.text.specs.Text.{bytesOf, decimal}
-use Rattle.text.proofs.DigitLaws.{decimal-length}
 use Rattle.text.proofs.WrittenLaws.{Put, room-first, put-then, put-three}
 use Rattle.output.specs.Output.{refusedLine}
+use Rattle.output.proofs.RefusalLaws.{digits-few}
 use Rattle.output.proofs.OutputLaws.{fine-text}
 use Rattle.sheet_output.specs.SheetOutput.{countLine, countLines, sheetText}
 
--- a number of 64 bits has at most twenty digits
+-- a line has at most twenty digits and its end beside the word
 pub line-length : (word : List ℕ) (count : ℕ) → count < 2 ^ 64 → length (countLine word count) ≤ length word + 21
 unfolding countLine bytesOf
 line-length word count small =
-    let digits : length (decimal count) ≤ 20 = decimal-length 19 count (omega arith) in
-    omega (arith, digits, length-append (word ++ decimal count) (bytesOf "\n"), length-append word (decimal count))
+    omega (arith, digits-few count small, length-append (word ++ decimal count) (bytesOf "\n"), length-append word (decimal count))
 
 -- five texts one after the other, none longer than a line
 pub put-five : (old a b c d e : List ℕ) {first second third fourth new : List ℕ} {two three four five after : ℕ} → 2048 ≤ length old

@@ -104,27 +104,36 @@ pub record Side (sign : ℕ) (part : History → ℕ → ℕ → ℕ → ℕ) : 
   pub by-entries : (h : History) (call : Call) → part (recorded h call) ≡ part (withEntries h (factsOf call .entries))
   pub none : part plain ≡ (λ o y f. 0)
 
+-- what a call makes of the two sums is what its entries make of them
+by-entries-alone : (h : History) (call : Call)
+    → (recorded h call .filed ≡ withEntries h (factsOf call .entries) .filed) × (recorded h call .withdrawn ≡ withEntries h (factsOf call .entries) .withdrawn)
+unfolding withEntries recorded factsOf
+by-entries-alone h (Join operator) = (refl, refl)
+by-entries-alone h (Setting operator which value) = (refl, refl)
+by-entries-alone h (Interruption operator sign level cause start end weight) = (refl, refl)
+by-entries-alone h (Amount operator year figure sign value) = (refl, refl)
+by-entries-alone h (Mark operator indicator mark) = (refl, refl)
+by-entries-alone h (Rates pot cap) = (refl, refl)
+by-entries-alone h (Index number value) = (refl, refl)
+
 filed-side : Side 0 (λ h. h .filed)
-unfolding withEntry withEntries recorded factsOf plain
-filed-side = record { entered = λ h entry small o y f. go h entry o y f (eqb (entry .sign) 0); by-entries = by; none = refl }
+unfolding withEntry plain
+filed-side =
+    record { entered = λ h entry small o y f. go h entry o y f (eqb (entry .sign) 0); by-entries = λ h call. by-entries-alone h call .0; none = refl }
   where
     go : (h : History) (entry : Entry) (o y f : ℕ) (t : Bool)
         → cond t (summed entry (h .filed)) (h .filed) o y f ≡ cond t (summed entry (h .filed) o y f) (h .filed o y f)
     go h entry o y f true = refl
     go h entry o y f false = refl
 
-    by : (h : History) (call : Call) → recorded h call .filed ≡ withEntries h (factsOf call .entries) .filed
-    by h (Join operator) = refl
-    by h (Setting operator which value) = refl
-    by h (Interruption operator sign level cause start end weight) = refl
-    by h (Amount operator year figure sign value) = refl
-    by h (Mark operator indicator mark) = refl
-    by h (Rates pot cap) = refl
-    by h (Index number value) = refl
-
 withdrawn-side : Side 1 (λ h. h .withdrawn)
-unfolding withEntry withEntries recorded factsOf plain
-withdrawn-side = record { entered = λ h entry small o y f. go h entry o y f small (ℕ-discrete (entry .sign) 0); by-entries = by; none = refl }
+unfolding withEntry plain
+withdrawn-side =
+    record {
+      entered = λ h entry small o y f. go h entry o y f small (ℕ-discrete (entry .sign) 0);
+      by-entries = λ h call. by-entries-alone h call .1;
+      none = refl;
+    }
   where
     go : (h : History) (entry : Entry) (o y f : ℕ) → entry .sign ≤ 1 → Dec (entry .sign ≡ 0)
         → cond (eqb (entry .sign) 0) (h .withdrawn) (summed entry (h .withdrawn)) o y f
@@ -133,15 +142,6 @@ withdrawn-side = record { entered = λ h entry small o y f. go h entry o y f sma
     go h entry o y f small (no other) =
         let one : entry .sign ≡ 1 = omega (arith, small, other) in
         rw one refl
-
-    by : (h : History) (call : Call) → recorded h call .withdrawn ≡ withEntries h (factsOf call .entries) .withdrawn
-    by h (Join operator) = refl
-    by h (Setting operator which value) = refl
-    by h (Interruption operator sign level cause start end weight) = refl
-    by h (Amount operator year figure sign value) = refl
-    by h (Mark operator indicator mark) = refl
-    by h (Rates pot cap) = refl
-    by h (Index number value) = refl
 
 -- what an entry adds to the fifteen figures of an operator
 abbrev onSheets : ℕ → ℕ → Entry → ℕ

@@ -1,11 +1,11 @@
 // The yearly sheet of an operator, by value: the five figures that count interruptions, or a refusal.
 ghost use mathlib.Core.Path.{_≡_};
 ghost use Prim.Native.Nat.{_<_};
-ghost use mathlib.Core.List.{map};
 ghost use Rattle.calls.specs.Limits.{operators, years};
 ghost use Rattle.calls.specs.Answers.{said, refused-by, numberOf};
-ghost use Rattle.book.specs.Book.{figureOf, withFigures, freshBook};
-ghost use Rattle.sheets.specs.Sheet.{sheetOf, sheetFigures, noCounts};
+ghost use Rattle.book.specs.declared.Book.{Book};
+ghost use Rattle.book.specs.Book.{withFigures};
+ghost use Rattle.sheets.specs.Sheet.{countsOf, noCounts, sheetOf};
 use book::Book;
 use book::figure_slot;
 use book::in_range;
@@ -57,10 +57,10 @@ fn refused(refusal: Refusal) -> YearlySheet
     }
 }
 
-// They stand one after the other.
+// They stand one after the other, whatever book they belong to.
 fn counts_of(figures: [u64; FIGURE_PLACES], operator: u8, year: u8) -> [u64; COUNT_FIGURES]
     requires { ⌜ (operator < operators) × (year < years) ⌝ }
-    ensures { λ r. ⌜ r ≡ map (figureOf (withFigures freshBook figures) operator year) sheetFigures ⌝ }
+    ensures { λ r. ⌜ ((b : Book) → r ≡ countsOf (withFigures b figures) operator year) ⌝ }
 {
     let at = figure_slot(operator, year, FIRST_COUNT);
     [

@@ -4,6 +4,7 @@ use mathlib.Core.Path.{refl}
 use native.Mathlib.Omega.{arith}
 use Rattle.calls.specs.Limits.{firstCount}
 use Rattle.book.specs.Book.{figureSlot, figureOf}
+use Rattle.sheets.specs.Sheet.{countsOf}
 use Rattle.sheets.proofs.SheetLaws.{next-slot}
 use borrow.Author.Needs.{needs}
 use Rattle.sheets.proofs.counts_of.Statement.{statement}
@@ -60,8 +61,8 @@ array-read-t29 c = omega (arith, c .figure-slot .ensures .0, c .before .pre .0, 
 
 -- five figures in a row
 returns : tie.Need-returns
-unfolding figureOf
-returns c =
+unfolding countsOf figureOf
+returns c = λ b.
     let o = c .before .args .operator in
     let y = c .before .args .year in
     rw (c .figure-slot .ensures .0, next-slot o y firstCount 1, next-slot o y firstCount 2, next-slot o y firstCount 3, next-slot o y firstCount 4) refl

@@ -6,10 +6,9 @@ use Rattle.posting.specs.declared.Admission.{Admission}
 use Rattle.calls.specs.Answers.{firstOf}
 use Rattle.calls.specs.Call.{factsOf}
 use Rattle.calls.proofs.Flags.{denied, granted}
-use Rattle.book.specs.Book.{figureOf, inRange}
+use Rattle.book.specs.Book.{inRange}
 use Rattle.ledger.specs.Steps.{memberLines}
 use Rattle.posting.specs.Parts.{admissionSaid}
-use Rattle.sheets.specs.Sheet.{countsOf}
 use Rattle.sheets.proofs.SheetLaws.{year-alone, sheet-out-of-range, Asked, asked}
 use borrow.Author.Needs.{needs}
 use Rattle.sheets.proofs.sheet.Statement.{statement}
@@ -55,9 +54,11 @@ module _ (m : tie.After-admit) where
       → Asked (begun m .args .b) (begun m .args .operator) (begun m .args .year) ranged (admissionSaid answer)
   unfolding factsOf
   answered answer told =
+      let valid : Bool = m .before .before .amount-in-range .result in
+      let checks : admissionSaid (m .admit .result) ≡ firstOf (memberLines (begun m .args .b .joined) (begun m .args .operator) valid) tt = m .admit .ensures in
       asked (begun m .args .b) (begun m .args .operator) (begun m .args .year) ranged (admissionSaid answer)
-      (ap (λ (valid : Bool). firstOf (memberLines (begun m .args .b .joined) (begun m .args .operator) valid) tt) (sym (year-alone (begun m .args .year)) ∙ sym (m .before .before .amount-in-range .ensures))
-      ∙ sym (m .admit .ensures)
+      (ap (λ (ranges : Bool). firstOf (memberLines (begun m .args .b .joined) (begun m .args .operator) ranges) tt) (sym (year-alone (begun m .args .year)) ∙ sym (m .before .before .amount-in-range .ensures))
+      ∙ sym checks
       ∙ ap admissionSaid told)
 
 -- 4, 5 or 7
@@ -66,10 +67,9 @@ returns-2 c = rw (answered (c .before .before .before .before) _ (c .before .bef
 
 -- the five figures
 returns-3 : tie.Need-returns-3
-unfolding countsOf figureOf
 returns-3 c =
     let given = answered (c .before .before .before .before) _ (c .before .before .enum-told .given .1) in
-    rw (given .2) (refl, c .counts-of .ensures)
+    rw (given .2) (refl, c .counts-of .ensures (begun (c .before .before .before .before) .args .b))
 
 counts-of-requires : tie.Need-counts-of-requires
 counts-of-requires c κs =
