@@ -25,6 +25,7 @@ use Rattle.values.specs.Indicator.{electricity}
 use Rattle.settlement.specs.Settlement.{settled}
 use Rattle.settlement.proofs.SettledLaws.{settling, worth-electricity}
 use Rattle.writing.proofs.WrittenLaws.{written-out}
+use Rattle.guarantees.proofs.CountsAside.{settled-same}
 use Rattle.guarantees.specs.Demand3.{CodeRun, OneList, TwoLists, SettlingBook, Demand3}
 
 put-out : (b : Book) (buffer : List ℕ) (count : ℕ) → writerAnswer b buffer ≡ accepted count → take count (writerBuffer b buffer) ≡ written b
@@ -84,6 +85,7 @@ settling-book b =
       alike = settling b electricity .alike;
       exactly = settling b electricity .exactly;
       balanced = settling b electricity .balanced worth-electricity;
+      counts-aside = λ figures ranged same. settled-same b figures same ranged;
       by-list = settling b;
       electricity-worth = worth-electricity;
     }

@@ -3,4 +3,5 @@ pub mod AppliedLaws
 pub mod MarkedHold
 pub mod Demand1Holds
 pub mod Demand2Holds
+pub mod CountsAside
 pub mod Demand3Holds

@@ -24,11 +24,11 @@ use mathlib.Core.List.{List, map}
 use lib.ListN.{take}
 use Rattle.calls.specs.declared.Call.{Call}
 use Rattle.calls.specs.declared.Answer.{Answer}
-use Rattle.calls.specs.Limits.{operators}
+use Rattle.calls.specs.Limits.{operators, years, firstCount}
 use Rattle.calls.specs.Answers.{accepted, yes-said, said}
 use Rattle.calls.specs.Held.{Same}
 use Rattle.book.specs.declared.Book.{Book}
-use Rattle.book.specs.Book.{freshBook, heldBy, inRange}
+use Rattle.book.specs.Book.{withFigures, freshBook, figureOf, heldBy, inRange}
 use Rattle.ledger.specs.Calls.{filedAnswers}
 use Rattle.ledger.specs.Filed.{FiledInTurn}
 use Rattle.history.specs.History.{plain, heldIn, notedAnswers}
@@ -77,6 +77,11 @@ pub record TwoLists (calls others : List Call) : Type 0 where
   pub histories-defined : (bookOf calls ≡ bookOf others) ↔ Same (heldIn (historyOf calls)) (heldIn (historyOf others))
   pub filings-defined : (bookOf calls ≡ bookOf others) ↔ (written (bookOf calls) ≡ written (bookOf others))
 
+-- two books have the same in figures 0 to 7
+abbrev pub SameMeasures : Book → Book → Type 0
+SameMeasures b other =
+    (operator year figure : ℕ) → operator < operators → year < years → figure < firstCount → figureOf other operator year figure ≡ figureOf b operator year figure
+
 -- any book, so that of a list too
 pub record SettlingBook (b : Book) : Type 0 where
   -- equal books get the same settlement or the same refusal
@@ -85,6 +90,10 @@ pub record SettlingBook (b : Book) : Type 0 where
   pub exactly : Settles b electricity ↔ (settled b .said ≡ accepted yes-said)
   -- and then each indicator's points add up to its pool, contributions and returns to the pot, adjustments to 0, and none passes its limit
   pub balanced : Settles b electricity → Balanced b electricity (settled b .settlement)
+  -- settling reads figures 0 to 7 and none of the counts (02, point 2): whatever stands in these, if both books are in range or neither is,
+  -- they settle the same
+  pub counts-aside : (figures : List ℕ) → inRange (withFigures b figures) ≡ inRange b → SameMeasures b (withFigures b figures)
+      → settled (withFigures b figures) ≡ settled b
   -- all three over any list of indicators worth points, of which electricity's is one
   pub by-list : (indicators : List Indicator) → Settling b indicators
   pub electricity-worth : Worth electricity
