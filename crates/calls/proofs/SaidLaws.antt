@@ -77,9 +77,8 @@ told-accepted (Counted year) tag = refl
 told-accepted (LeftOut reason) tag = refl
 told-accepted (Refused refusal) tag = absurd (omega (arith, first-three 3 tag))
 
--- of two values the first is kept where a call is refused
-module _ {A B : Type 0} (refused otherwise : B) where
-  pub otherwise-given : (answer : Said A) → isRefused answer ≡ false → onAnswer (λ (number : ℕ). refused) (λ (value : A). otherwise) answer ≡ otherwise
-  unfolding isRefused onAnswer
-  otherwise-given (refused-by number) e = absurd (true≢false e)
-  otherwise-given (accepted value) e = refl
+-- what follows from an answer that is no refusal
+pub otherwise-given : {A B : Type 0} (refused : ℕ → B) (otherwise : B) (answer : Said A) → isRefused answer ≡ false → onAnswer refused (λ (value : A). otherwise) answer ≡ otherwise
+unfolding isRefused onAnswer
+otherwise-given refused otherwise (refused-by number) fine = absurd (true≢false fine)
+otherwise-given refused otherwise (accepted value) fine = refl

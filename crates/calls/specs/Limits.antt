@@ -9,15 +9,16 @@ operators = 16
 abbrev pub years : ℕ
 years = 3
 
--- "Five count figures, 8 to 12 in that order, join the eight in the book" (02, point 2): the first of them, and how many they are
+-- "Five count figures, 8 to 12 in that order, join the eight in the book" (02, point 2): the first of them, and how many they are, one for
+-- each outcome of an interruption
 abbrev pub firstCount : ℕ
 firstCount = 8
 
-abbrev pub countFigures : ℕ
-countFigures = 5
+abbrev pub outcomeCount : ℕ
+outcomeCount = 5
 
 abbrev pub figureCount : ℕ
-figureCount = firstCount + countFigures
+figureCount = firstCount + outcomeCount
 
 -- cabins, active access points, income
 abbrev pub settingCount : ℕ

@@ -15,7 +15,7 @@ pub const LAST_FIGURE: u8 = (FIGURES - 1) as u8;
 // The last figures count interruptions: counted, short, planned, coupled, exceptional. The first of them, and how many they are.
 pub const FIRST_COUNT: u8 = 8;
 
-pub const COUNT_FIGURES: usize = 5;
+pub const OUTCOMES: usize = 5;
 
 pub const SETTINGS: usize = 3;
 

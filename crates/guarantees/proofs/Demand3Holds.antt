@@ -85,9 +85,9 @@ settling-book b =
       alike = settling b electricity .alike;
       exactly = settling b electricity .exactly;
       balanced = settling b electricity .balanced worth-electricity;
-      counts-aside = λ figures ranged same. settled-same b figures same ranged;
       by-list = settling b;
       electricity-worth = worth-electricity;
+      counts-aside = λ figures ranged same. settled-same b figures same ranged;
     }
 
 pub demand-3 : Demand3

@@ -90,13 +90,13 @@ pub record SettlingBook (b : Book) : Type 0 where
   pub exactly : Settles b electricity ↔ (settled b .said ≡ accepted yes-said)
   -- and then each indicator's points add up to its pool, contributions and returns to the pot, adjustments to 0, and none passes its limit
   pub balanced : Settles b electricity → Balanced b electricity (settled b .settlement)
+  -- all three over any list of indicators worth points, of which electricity's is one
+  pub by-list : (indicators : List Indicator) → Settling b indicators
+  pub electricity-worth : Worth electricity
   -- settling reads figures 0 to 7 and none of the counts (02, point 2): whatever stands in these, if both books are in range or neither is,
   -- they settle the same
   pub counts-aside : (figures : List ℕ) → inRange (withFigures b figures) ≡ inRange b → SameMeasures b (withFigures b figures)
       → settled (withFigures b figures) ≡ settled b
-  -- all three over any list of indicators worth points, of which electricity's is one
-  pub by-list : (indicators : List Indicator) → Settling b indicators
-  pub electricity-worth : Worth electricity
 
 pub record Demand3 : Type 0 where
   pub one-list : (calls : List Call) → OneList calls

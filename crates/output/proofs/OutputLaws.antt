@@ -2,14 +2,15 @@
 -- Assumes nothing.
 use Prim.Native.Nat.{ℕ, _≤_, _<_}
 use mathlib.Core.Path.{_≡_, refl, sym, ap, _∙_}
-use mathlib.Core.Bool.{false, false≢true}
+use mathlib.Core.Bool.{false}
 use mathlib.Core.List.{List}
 use lib.ListN.{length}
 use borrow.Author.Tests.{lt-ltb, le-ltb}
 use Rattle.calls.specs.declared.Refusal.{Refusal}
 use Rattle.calls.specs.declared.Answer.{Answer}
 use Rattle.calls.specs.declared.Answer.the-variants.{Refused}
-use Rattle.calls.specs.Answers.{Said, refused-by, accepted, onAnswer, isRefused, numberOf, said}
+use Rattle.calls.specs.Answers.{refused-by, onAnswer, isRefused, numberOf, said}
+use Rattle.calls.proofs.SaidLaws.{otherwise-given}
 use Rattle.book.specs.declared.Book.{Book}
 use Rattle.book.specs.Book.{freshBook}
 use Rattle.filing.specs.declared.Reading.{Reading}
@@ -17,13 +18,6 @@ use Rattle.filing.specs.Reader.{Reached, read, told}
 use Rattle.text.specs.Text.{bytesOf}
 use Rattle.text.specs.Buffer.{putInto}
 use Rattle.output.specs.Output.{refusedField, readingText, printedOf}
-
--- what follows from an answer that is no refusal
-pub fine-text : {A : Type 0} (answer : Said A) → isRefused answer ≡ false → (refused : ℕ → List ℕ) (text : List ℕ)
-    → onAnswer refused (λ value. text) answer ≡ text
-unfolding isRefused onAnswer
-fine-text (refused-by number) fine refused text = absurd (false≢true (sym fine))
-fine-text (accepted value) fine refused text = refl
 
 -- a program that prints a text of the book
 module _ (text : Book → List ℕ) (filing : List ℕ) where
@@ -43,7 +37,7 @@ module _ (text : Book → List ℕ) (filing : List ℕ) where
         let r : Reached = read freshBook filing in
         rw (
           le-ltb 65536 (length filing) short,
-          fine-text (r .said) fine (λ (number : ℕ). refusedField number (r .offset)) (text (r .book)),
+          otherwise-given (λ (number : ℕ). refusedField number (r .offset)) (text (r .book)) (r .said) fine,
         )
         refl
 

@@ -7,13 +7,13 @@ use mathlib.Core.List.{List, _++_}
 use native.Mathlib.Omega.{arith}
 use lib.ListN.{length, length-append}
 use Rattle.calls.specs.Answers.{refused-by, onAnswer, isRefused}
+use Rattle.calls.proofs.SaidLaws.{otherwise-given}
 use Rattle.book.specs.declared.Book.{Book}
 use Rattle.sheets.specs.Sheet.{sheetOf}
 use Rattle.text.specs.Text.{bytesOf, decimal}
 use Rattle.text.proofs.WrittenLaws.{Put, room-first, put-then, put-three}
 use Rattle.output.specs.Output.{refusedLine}
 use Rattle.output.proofs.RefusalLaws.{digits-few}
-use Rattle.output.proofs.OutputLaws.{fine-text}
 use Rattle.sheet_output.specs.SheetOutput.{countLine, countLines, sheetText}
 
 -- a line has at most twenty digits and its end beside the word
@@ -48,4 +48,4 @@ module _ (operator year : ℕ) (b : Book) where
 
   pub sheet-given : isRefused (sheetOf b operator year .said) ≡ false → countLines (sheetOf b operator year .counts) ≡ sheetText operator year b
   unfolding sheetText
-  sheet-given fine = sym (fine-text (sheetOf b operator year .said) fine refusedLine (countLines (sheetOf b operator year .counts)))
+  sheet-given fine = sym (otherwise-given refusedLine (countLines (sheetOf b operator year .counts)) (sheetOf b operator year .said) fine)

@@ -7,7 +7,7 @@ ghost use Rattle.text.specs.Steps.{withTextAt};
 ghost use Rattle.sheet_output.specs.SheetOutput.{countLine, countLines, sheetText, sheetOutputOf};
 use book::Book;
 use calls::Answer;
-use calls::COUNT_FIGURES;
+use calls::OUTCOMES;
 use calls::number_of;
 use lent::read_fresh;
 use output::LONGEST_FILING;
@@ -51,7 +51,7 @@ fn put_sheet(out: &mut [u8], b: Book, operator: u8, year: u8) -> usize
     }
 }
 
-fn put_counts(out: &mut [u8], counts: [u64; COUNT_FIGURES]) -> usize
+fn put_counts(out: &mut [u8], counts: [u64; OUTCOMES]) -> usize
     requires { ⌜ 2048 ≤ length (now out) ⌝ }
     ensures { λ r. ⌜ r ≡ length (countLines counts) ⌝ }
     ensures { λ r. ⌜ now (out .exit) ≡ putInto (now (out .entry)) (countLines counts) ⌝ }

@@ -7,7 +7,7 @@ use mathlib.Core.List.{List, [], _∷_, map}
 use lib.Dec.{leb, ltb}
 use lib.ListN.{replicate}
 use Rattle.calls.specs.declared.Call.the-variants.{Amount}
-use Rattle.calls.specs.Limits.{operators, years, firstCount, countFigures}
+use Rattle.calls.specs.Limits.{operators, years, firstCount, outcomeCount}
 use Rattle.calls.specs.Answers.{Said, Acceptance, onAnswer}
 use Rattle.book.specs.declared.Book.{Book}
 use Rattle.book.specs.Book.{isJoined, figureOf, inRange}
@@ -23,7 +23,7 @@ countsOf b operator year = map (figureOf b operator year) sheetFigures
 
 -- "and five zeros with it"
 abbrev pub noCounts : List ℕ
-noCounts = replicate countFigures 0
+noCounts = replicate outcomeCount 0
 
 -- what the call for a sheet gives
 pub record Sheet : Type 0 where

@@ -10,9 +10,9 @@ use book::Book;
 use book::figure_slot;
 use book::in_range;
 use calls::Answer;
-use calls::COUNT_FIGURES;
 use calls::FIGURE_PLACES;
 use calls::FIRST_COUNT;
+use calls::OUTCOMES;
 use calls::Refusal;
 use calls::amount_in_range;
 use posting::Admission;
@@ -21,7 +21,7 @@ use posting::admit;
 // Of interruptions in a year: how many counted, and how many were left out as short, planned, coupled, exceptional. All 0 on refusal.
 pub struct YearlySheet {
     pub answer: Answer,
-    pub counts: [u64; COUNT_FIGURES],
+    pub counts: [u64; OUTCOMES],
 }
 
 // Refused as an amount field with that operator and year would be.
@@ -53,12 +53,12 @@ fn refused(refusal: Refusal) -> YearlySheet
 {
     YearlySheet {
         answer: Answer::Refused(refusal),
-        counts: [0u64; COUNT_FIGURES],
+        counts: [0u64; OUTCOMES],
     }
 }
 
 // They stand one after the other, whatever book they belong to.
-fn counts_of(figures: [u64; FIGURE_PLACES], operator: u8, year: u8) -> [u64; COUNT_FIGURES]
+fn counts_of(figures: [u64; FIGURE_PLACES], operator: u8, year: u8) -> [u64; OUTCOMES]
     requires { ⌜ (operator < operators) × (year < years) ⌝ }
     ensures { λ r. ⌜ ((b : Book) → r ≡ countsOf (withFigures b figures) operator year) ⌝ }
 {

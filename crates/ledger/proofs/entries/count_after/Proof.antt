@@ -1,5 +1,6 @@
 -- `ledger::entries::count_after` meets its contract.
 -- Assumes nothing.
+use Prim.Native.Nat.{ℕ}
 use mathlib.Core.Path.{refl, sym}
 use Rattle.calls.specs.Answers.{said, onAnswer}
 use Rattle.calls.proofs.SaidLaws.{told-accepted, otherwise-given}
@@ -15,7 +16,7 @@ unfolding onAnswer
 returns c = rw (c .before .answer .given .1) refl
 
 returns-2 : tie.Need-returns-2
-returns-2 c = sym (otherwise-given (c .before .args .held) (c .before .args .moved) (said (c .before .args .answer)) (told-accepted (c .before .args .answer) (c .match .keys2)))
+returns-2 c = sym (otherwise-given (λ (number : ℕ). c .before .args .held) (c .before .args .moved) (said (c .before .args .answer)) (told-accepted (c .before .args .answer) (c .match .keys2)))
 
 pub count-after-spec : {M : Type 1} → statement M
 count-after-spec = tie.close (tie.spec enum-known-answer returns returns-2)
