@@ -23,7 +23,7 @@ COMMANDS = {
 STORE = 211
 SHEET = 212
 # What can be stored, in the order of its kinds, with the count of numbers that give the place.
-STORED = {"joined": 0, "marks": 1, "figure": 3, "pot": 0, "cap": 0, "index": 1, "cabins": 1, "access": 1, "income": 1}
+STORED = {"joined": 0, "marks": 1, "figure": 3, "pot": 0, "cap": 0, "index": 1, "setting": 2}
 
 
 def field(tag, content):

@@ -29,7 +29,7 @@ largest_book() {
         for (o = 15; o >= 0; o--) {
             for (i = 5; i >= 0; i--) print "mark " o " " i " 0"
             for (y = 2; y >= 0; y--) for (f = 12; f >= 0; f--) print "amount " o " " y " " f " 0 " 1 + 100 * o + 20 * y + f
-            for (w = 2; w >= 0; w--) print "setting " o " " w " " 100000 - o
+            for (w = 4; w >= 0; w--) print "setting " o " " w " " 100000 - o
         }
     }'
 }
@@ -39,14 +39,14 @@ rewritten missing 0
 : >"$work/empty/filing.q"
 rewritten empty 0
 largest_book | "$model" encode >"$work/largest/filing.q"
-rewritten largest 10667
+rewritten largest 11083
 printf 'join 3\njoin 16\n' | "$model" encode >"$work/refused/filing.q"
 rewritten refused 0
 [ "$(cat "$work/refused/told")" = "refused 4 at 4" ] || fail "a refused field is not told on standard error"
 head -c 65537 /dev/zero >"$work/long/filing.q"
 rewritten long 0
 [ "$(cat "$work/long/told")" = "too long" ] || fail "a filing that is too long is not told on standard error"
-echo "rewriting: the largest book has 10667 bytes, an empty filing 0"
+echo "rewriting: the largest book has 11083 bytes, an empty filing 0"
 
 mkdir -p "$work/unreadable/filing.q"
 (cd "$work/unreadable" && "$rewrite" >written 2>told) || true
@@ -56,8 +56,8 @@ mkdir -p "$work/unreadable/filing.q"
 # The test program of the writer has case M's written filing at the front of the buffers that are long enough, and their other bytes as
 # they were.
 bytes=$("$model" rewrite examples/case-m/filing.q | od -An -v -tx1 | tr -d ' \n')
-for length in 199 202; do
-    grep -qx "$length = 199 ${bytes}aaaaaa" crates/writer_test/stdout || fail "writer_test does not write what the model writes"
+for length in 251 254; do
+    grep -qx "$length = 251 ${bytes}aaaaaa" crates/writer_test/stdout || fail "writer_test does not write what the model writes"
 done
 echo "rewriting: the writer's test program holds what the model writes"
 

@@ -1,15 +1,14 @@
--- One bit of a mask, as the code tests, sets and clears it; and the limit of a setting.
+-- One bit of a mask, as the code tests, sets and clears it.
 -- Assumes nothing.
 use mathlib.Core.Path.{_≡_, refl}
 use mathlib.Core.Bool.{true, false}
-use Prim.Native.Nat.{ℕ, zero, suc, _*_, _/_, _%_, _^_, _≤_, _<_}
+use Prim.Native.Nat.{ℕ, _*_, _/_, _%_, _^_, _≤_, _<_}
 use native.Mathlib.Nat.{lt-of-lt-of-le, div-eq-of-lt, one-mul, zero-div}
 use native.Mathlib.Omega.{arith}
 use native.Mathlib.Decide.{decLt}
 use lib.Dec.{lit<}
 use lib.Pow.{pow-mono, shl-exact}
 use borrow.Author.Tests.{eqb-true}
-use Rattle.calls.specs.Limits.{settingLimit}
 use Rattle.calls.specs.Masks.{has}
 
 -- a mask of sixteen bits has no other bit
@@ -36,9 +35,3 @@ shifted k small = rw (shl-exact 1 k 16 (lit< tt) (omega arith), one-mul) refl
 pub has-none : (k : ℕ) → has 0 k ≡ false
 unfolding has
 has-none k = rw (zero-div (2 ^ k)) refl
-
--- the limit of the third setting
-pub income-limit : (which : ℕ) → (which ≡ 0 → ⊥) → (which ≡ 1 → ⊥) → settingLimit which ≡ 100000000000
-income-limit zero not-zero not-one = absurd (not-zero refl)
-income-limit (suc zero) not-zero not-one = absurd (not-one refl)
-income-limit (suc (suc which)) not-zero not-one = refl

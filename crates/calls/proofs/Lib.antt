@@ -5,5 +5,6 @@ pub mod SaidLaws
 pub mod Bit
 pub mod MaskLaws
 pub mod Times
+pub mod SettingLaws
 pub mod RangeLaws
 pub mod Opened

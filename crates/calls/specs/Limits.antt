@@ -20,9 +20,15 @@ outcomeCount = 5
 abbrev pub figureCount : ℕ
 figureCount = firstCount + outcomeCount
 
--- cabins, active access points, income
+-- cabins of year 0, active access points, income, cabins of year 1, cabins of year 2
 abbrev pub settingCount : ℕ
-settingCount = 3
+settingCount = 5
+
+-- "Setting 0 is year 0; settings 3 and 4 are years 1 and 2" (02, point 3): the setting that has a year's cabins; year 2 is the last
+abbrev pub cabinsIn : ℕ → ℕ
+cabinsIn zero = 0
+cabinsIn (suc zero) = 3
+cabinsIn (suc (suc later)) = 4
 
 -- how many of each the operators have, and the figures of one operator
 abbrev pub settingPlaces : ℕ
@@ -43,11 +49,12 @@ markPlaces = operators * indicatorCount
 abbrev pub indexCount : ℕ
 indexCount = 4
 
--- cabins 0 to 100,000, active access points 0 to 4,000,000, income in cents 0 to 10^11
+-- cabins 0 to 100,000, active access points 0 to 4,000,000, income in cents 0 to 10^11, and cabins again
 abbrev pub settingLimit : ℕ → ℕ
 settingLimit zero = 100000
 settingLimit (suc zero) = 4000000
-settingLimit (suc (suc which)) = 100000000000
+settingLimit (suc (suc zero)) = 100000000000
+settingLimit (suc (suc (suc which))) = 100000
 
 -- figures 0 to 10^11
 abbrev pub figureLimit : ℕ

@@ -27,13 +27,11 @@ pub fn setting_in_range(which: u8, value: u64) -> bool
 pub fn setting_limit(which: u8) -> u64
     ensures { λ r. ⌜ r ≡ settingLimit which ⌝ }
 {
-    if which == 0 {
-        return CABIN_LIMIT;
+    match which {
+        1 => ACCESS_POINT_LIMIT,
+        2 => INCOME_LIMIT,
+        _ => CABIN_LIMIT,
     }
-    if which == 1 {
-        return ACCESS_POINT_LIMIT;
-    }
-    INCOME_LIMIT
 }
 
 pub fn amount_in_range(year: u8, figure: u8, sign: u8) -> bool

@@ -34,6 +34,7 @@ pub use limits::OUTCOMES;
 pub use limits::SETTING_PLACES;
 pub use limits::SETTINGS;
 pub use limits::YEARS;
+pub use limits::cabins_in;
 pub use masks::has_bit;
 pub use masks::include_bit;
 pub use masks::remask;

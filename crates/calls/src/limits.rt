@@ -1,4 +1,6 @@
 // The counts and limits of 01, "The book" and "The filing", as specs/Limits.antt says them in definitions.
+ghost use mathlib.Core.Path.{_≡_};
+ghost use Rattle.calls.specs.Limits.{cabinsIn};
 
 pub const OPERATORS: usize = 16;
 
@@ -17,7 +19,8 @@ pub const FIRST_COUNT: u8 = 8;
 
 pub const OUTCOMES: usize = 5;
 
-pub const SETTINGS: usize = 3;
+// Cabins of the first year, access points, income, cabins of the second year, of the third.
+pub const SETTINGS: usize = 5;
 
 pub const LAST_SETTING: u8 = (SETTINGS - 1) as u8;
 
@@ -64,3 +67,14 @@ pub(crate) const LAST_END: i64 = 94607999;
 
 // The first second of the year before the three: an interruption may have begun then.
 pub(crate) const FIRST_START: i64 = -31536000;
+
+// The setting that has the cabins of a year.
+pub fn cabins_in(year: u8) -> u8
+    ensures { λ r. ⌜ r ≡ cabinsIn year ⌝ }
+{
+    match year {
+        0 => 0,
+        1 => 3,
+        _ => 4,
+    }
+}

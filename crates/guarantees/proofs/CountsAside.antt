@@ -16,7 +16,7 @@ use Rattle.values.proofs.Tables.{each-same}
 use Rattle.apportion.specs.Share.{share}
 use Rattle.indicators.specs.Points.{points, allPoints, pointsOfAll}
 use Rattle.money.specs.Money.{pot, contributions, returns, limits, adjustments}
-use Rattle.settlement.specs.Settlement.{networkMissing, isMarkedAtAll, allMarked, settlementBy, settlingLines, settledBy, settled}
+use Rattle.settlement.specs.Settlement.{settingMissing, networkMissing, isMarkedAtAll, allMarked, settlementBy, settlingLines, settledBy, settled}
 use Rattle.guarantees.specs.Demand3.{SameMeasures}
 
 -- what an indicator measures stands below the counts
@@ -80,7 +80,7 @@ module _ (b : Book) (figures : List ℕ) (same : SameMeasures b (withFigures b f
 
   -- who has joined, marks and settings are another part of the book
   lines-same : inRange c ≡ inRange b → settlingLines c electricity ≡ settlingLines b electricity
-  unfolding settlingLines networkMissing allMarked isMarkedAtAll isJoined isMarked settingOf electricity
+  unfolding settlingLines settingMissing networkMissing allMarked isMarkedAtAll isJoined isMarked settingOf electricity
   lines-same ranged = rw ranged refl
 
   pub settled-same : inRange c ≡ inRange b → settled c ≡ settled b

@@ -2,10 +2,13 @@
 -- Assumes nothing.
 use Prim.Native.Nat.{ℕ, _≤_}
 use mathlib.Core.Path.{_≡_, refl, sym, ap, _∙_}
-use mathlib.Core.List.{List, [], _∷_}
+use mathlib.Core.List.{List, [], _∷_, map}
 use native.Mathlib.Omega.{arith}
 use lib.IntN.{pos, negℤ}
 use lib.ListN.{length, take}
+use Rattle.calls.specs.Limits.{years}
+use Rattle.values.specs.Operators.{table}
+use Rattle.values.specs.Indicator.{yearlyValue, numbered}
 use Rattle.calls.specs.Answers.{Said, refused-by, accepted, Acceptance, yes-said, onAnswer}
 use Rattle.book.specs.declared.Book.{Book}
 use Rattle.book.specs.Book.{freshBook}
@@ -22,7 +25,7 @@ use Rattle.calls.specs.declared.Call.{Call}
 use Rattle.calls.specs.declared.Call.the-variants.{Join, Mark}
 use Rattle.writer.specs.Writer.{writerAnswer}
 use Rattle.writer.proofs.Opened.{writer-opened}
-use Rattle.guarantees.specs.Marked.{caseM, filingM, linesM, newcomer, sixMarks, refusedFilings, marked, All}
+use Rattle.guarantees.specs.Marked.{caseM, filingM, linesM, newcomer, sixMarks, losing, growing, frequenciesOf, refusedFilings, marked, All}
 use Rattle.guarantees.proofs.AppliedLaws.{appliedFrom, book-of}
 
 -- a filing refused at a field: what is printed needs no settlement
@@ -54,7 +57,7 @@ filings-refused = (
 )
 
 -- M's bytes are read to their end, and leave the book that M's calls, applied, leave
-read-m : read freshBook filingM ≡ reading (appliedFrom freshBook (caseM 10000)) 23 199 (accepted yes-said)
+read-m : read freshBook filingM ≡ reading (appliedFrom freshBook (caseM 10000)) 27 251 (accepted yes-said)
 unfolding filing-opened appliedFrom
 read-m = refl
 
@@ -98,6 +101,20 @@ cleared-one : settled (bookOf (newcomer (Mark 0 0 0 ∷ []))) .said ≡ accepted
 unfolding output-opened appliedFrom
 cleared-one = said-after (newcomer (Mark 0 0 0 ∷ [])) refl
 
+-- whichever it loses, 11 is given
+lost : All (map (λ (which : ℕ). settled (bookOf (losing which)) .said ≡ refused-by 11) (0 ∷ 3 ∷ 4 ∷ 1 ∷ []))
+unfolding output-opened appliedFrom
+lost = (said-after (losing 0) refl, (said-after (losing 3) refl, (said-after (losing 4) refl, (said-after (losing 1) refl, tt))))
+
+-- A1 of the growing network, and of the shrinking one
+grown-applied : (table years (yearlyValue (appliedFrom freshBook growing) (numbered 0 .measure) 0) ≡ 50000 ∷ 45000 ∷ 100000 ∷ [])
+    × (table years (yearlyValue (appliedFrom freshBook growing) (numbered 0 .measure) 1) ≡ 42500 ∷ 40000 ∷ 60000 ∷ [])
+unfolding output-opened appliedFrom
+grown-applied = (refl, refl)
+
+grown : (operator : ℕ) → frequenciesOf operator ≡ table years (yearlyValue (appliedFrom freshBook growing) (numbered 0 .measure) operator)
+grown operator = ap (λ (b : Book). table years (yearlyValue b (numbered 0 .measure) operator)) (book-of growing)
+
 -- a join needs four bytes
 join-too-long : writerAnswer (bookOf (Join 0 ∷ [])) (0 ∷ 0 ∷ 0 ∷ []) ≡ refused-by 13
 unfolding filing-opened writer-opened
@@ -106,4 +123,4 @@ join-too-long = refl
 pub all-hold : All marked
 unfolding output-opened
 all-hold =
-    (refl, (refl, (refl, (refl, (refl, (refl, (refl, (refl, (refl, (refl, (output-m, (cut-m, (filings-refused, (refl, (refl, (refl, (joined-only, (marked-six, (joined-new, (cleared-one, (join-too-long, (refl, tt))))))))))))))))))))))
+    (refl, (refl, (refl, (refl, (refl, (refl, (refl, (refl, (refl, (refl, (output-m, (cut-m, (filings-refused, (refl, (refl, (refl, (joined-only, (marked-six, (joined-new, (cleared-one, (lost, (grown 0 ∙ grown-applied .0, (grown 1 ∙ grown-applied .1, (join-too-long, (refl, tt)))))))))))))))))))))))))

@@ -1,7 +1,7 @@
 -- The cases that document 01 marks, and its examples in bytes, gathered in one list of statements. One theorem covers the list: `all-hold` of proofs/MarkedHold.antt.
 -- Assumes nothing.
 use mathlib.Core.Path.{_≡_}
-use mathlib.Core.List.{List, [], _∷_}
+use mathlib.Core.List.{List, [], _∷_, map}
 use Prim.Native.Nat.{ℕ}
 use lib.Dec.{ltb}
 use lib.IntN.{pos, negℤ}
@@ -10,11 +10,13 @@ use Rattle.apportion.specs.Share.{share}
 use Rattle.exponent.specs.Weight.{weightOf}
 use Rattle.calls.specs.declared.Call.{Call}
 use Rattle.calls.specs.declared.Call.the-variants.{Join, Setting, Interruption, Amount, Mark, Rates}
+use Rattle.calls.specs.Limits.{years}
 use Rattle.calls.specs.Answers.{Said, refused-by, accepted, Acceptance, yes-said, counted-in, left-out-as-short}
 use Rattle.book.specs.Book.{freshBook, figureOf}
 use Rattle.ledger.specs.Calls.{filedAnswers}
 use Rattle.history.specs.Demand.{bookOf}
-use Rattle.values.specs.Operators.{each}
+use Rattle.values.specs.Operators.{table, each}
+use Rattle.values.specs.Indicator.{yearlyValue, numbered}
 use Rattle.indicators.specs.Points.{levelled}
 use Rattle.settlement.specs.Settlement.{settled}
 use Rattle.text.specs.Text.{bytesOf}
@@ -30,10 +32,12 @@ abbrev pub lasting : ℕ → ℕ → Call
 lasting start end = Interruption 0 0 0 0 (pos start) (pos end) 1
 
 -- "M: operators 0 and 1; cabins 100 each; access points 1000 and 3000; income 100,000,000 and 200,000,000; operator 1, year 0:
--- fees 50,000, connections 100; rates 5000 and" a cap rate; all that is filed is attested ("case M gains twelve clearing fields", 02, point 1)
+-- fees 50,000, connections 100; rates 5000 and" a cap rate; all that is filed is attested ("case M gains twelve clearing fields", 02, point
+-- 1), and "Case M sets all three to 100" (02, point 3)
 abbrev pub caseM : ℕ → List Call
 caseM cap =
     Join 0 ∷ Join 1 ∷ Setting 0 0 100 ∷ Setting 1 0 100 ∷ Setting 0 1 1000 ∷ Setting 1 1 3000 ∷ Setting 0 2 100000000 ∷ Setting 1 2 200000000
+    ∷ Setting 0 3 100 ∷ Setting 1 3 100 ∷ Setting 0 4 100 ∷ Setting 1 4 100
     ∷ Amount 1 0 4 0 50000 ∷ Amount 1 0 5 0 100
     ∷ Mark 0 0 0 ∷ Mark 0 1 0 ∷ Mark 0 2 0 ∷ Mark 0 3 0 ∷ Mark 0 4 0 ∷ Mark 0 5 0
     ∷ Mark 1 0 0 ∷ Mark 1 1 0 ∷ Mark 1 2 0 ∷ Mark 1 3 0 ∷ Mark 1 4 0 ∷ Mark 1 5 0
@@ -46,6 +50,8 @@ filingM =
     ∷ 2 ∷ 0 ∷ 10 ∷ 0 ∷ 0 ∷ 0 ∷ 0 ∷ 0 ∷ 0 ∷ 0 ∷ 0 ∷ 0 ∷ 100 ∷ 2 ∷ 0 ∷ 10 ∷ 1 ∷ 0 ∷ 0 ∷ 0 ∷ 0 ∷ 0 ∷ 0 ∷ 0 ∷ 0 ∷ 100
     ∷ 2 ∷ 0 ∷ 10 ∷ 0 ∷ 1 ∷ 0 ∷ 0 ∷ 0 ∷ 0 ∷ 0 ∷ 0 ∷ 3 ∷ 232 ∷ 2 ∷ 0 ∷ 10 ∷ 1 ∷ 1 ∷ 0 ∷ 0 ∷ 0 ∷ 0 ∷ 0 ∷ 0 ∷ 11 ∷ 184
     ∷ 2 ∷ 0 ∷ 10 ∷ 0 ∷ 2 ∷ 0 ∷ 0 ∷ 0 ∷ 0 ∷ 5 ∷ 245 ∷ 225 ∷ 0 ∷ 2 ∷ 0 ∷ 10 ∷ 1 ∷ 2 ∷ 0 ∷ 0 ∷ 0 ∷ 0 ∷ 11 ∷ 235 ∷ 194 ∷ 0
+    ∷ 2 ∷ 0 ∷ 10 ∷ 0 ∷ 3 ∷ 0 ∷ 0 ∷ 0 ∷ 0 ∷ 0 ∷ 0 ∷ 0 ∷ 100 ∷ 2 ∷ 0 ∷ 10 ∷ 1 ∷ 3 ∷ 0 ∷ 0 ∷ 0 ∷ 0 ∷ 0 ∷ 0 ∷ 0 ∷ 100
+    ∷ 2 ∷ 0 ∷ 10 ∷ 0 ∷ 4 ∷ 0 ∷ 0 ∷ 0 ∷ 0 ∷ 0 ∷ 0 ∷ 0 ∷ 100 ∷ 2 ∷ 0 ∷ 10 ∷ 1 ∷ 4 ∷ 0 ∷ 0 ∷ 0 ∷ 0 ∷ 0 ∷ 0 ∷ 0 ∷ 100
     ∷ 4 ∷ 0 ∷ 12 ∷ 1 ∷ 0 ∷ 4 ∷ 0 ∷ 0 ∷ 0 ∷ 0 ∷ 0 ∷ 0 ∷ 0 ∷ 195 ∷ 80 ∷ 4 ∷ 0 ∷ 12 ∷ 1 ∷ 0 ∷ 5 ∷ 0 ∷ 0 ∷ 0 ∷ 0 ∷ 0 ∷ 0 ∷ 0 ∷ 0 ∷ 100
     ∷ 5 ∷ 0 ∷ 3 ∷ 0 ∷ 0 ∷ 0 ∷ 5 ∷ 0 ∷ 3 ∷ 0 ∷ 1 ∷ 0 ∷ 5 ∷ 0 ∷ 3 ∷ 0 ∷ 2 ∷ 0 ∷ 5 ∷ 0 ∷ 3 ∷ 0 ∷ 3 ∷ 0 ∷ 5 ∷ 0 ∷ 3 ∷ 0 ∷ 4 ∷ 0 ∷ 5 ∷ 0 ∷ 3 ∷ 0 ∷ 5 ∷ 0
     ∷ 5 ∷ 0 ∷ 3 ∷ 1 ∷ 0 ∷ 0 ∷ 5 ∷ 0 ∷ 3 ∷ 1 ∷ 1 ∷ 0 ∷ 5 ∷ 0 ∷ 3 ∷ 1 ∷ 2 ∷ 0 ∷ 5 ∷ 0 ∷ 3 ∷ 1 ∷ 3 ∷ 0 ∷ 5 ∷ 0 ∷ 3 ∷ 1 ∷ 4 ∷ 0 ∷ 5 ∷ 0 ∷ 3 ∷ 1 ∷ 5 ∷ 0
@@ -57,11 +63,27 @@ linesM = bytesOf "operator points out in adjustment\n0 65036 375000 386463 11463
 
 -- operator 0 has joined and has a network; then more calls
 abbrev pub newcomer : List Call → List Call
-newcomer more = Join 0 ∷ Setting 0 0 1 ∷ Setting 0 1 1 ∷ more
+newcomer more = Join 0 ∷ Setting 0 0 1 ∷ Setting 0 1 1 ∷ Setting 0 3 1 ∷ Setting 0 4 1 ∷ more
 
 -- it is marked at all six indicators
 abbrev pub sixMarks : List Call
 sixMarks = newcomer (Mark 0 0 1 ∷ Mark 0 1 1 ∷ Mark 0 2 1 ∷ Mark 0 3 1 ∷ Mark 0 4 1 ∷ Mark 0 5 1 ∷ [])
+
+-- it loses one of its settings; D1 is cleared, A1 is not
+abbrev pub losing : ℕ → List Call
+losing which = newcomer (Mark 0 4 0 ∷ Setting 0 which 0 ∷ [])
+
+-- two networks, one that grows and one that shrinks, with other interruptions in each year; A1 alone is attested
+abbrev pub growing : List Call
+growing =
+    Join 0 ∷ Setting 0 0 100 ∷ Setting 0 1 1000 ∷ Setting 0 2 100000000 ∷ Setting 0 3 200 ∷ Setting 0 4 400
+    ∷ Join 1 ∷ Setting 1 0 400 ∷ Setting 1 1 3000 ∷ Setting 1 2 200000000 ∷ Setting 1 3 200 ∷ Setting 1 4 100
+    ∷ Amount 0 0 0 0 5 ∷ Amount 0 1 0 0 9 ∷ Amount 0 2 0 0 40 ∷ Amount 1 0 0 0 17 ∷ Amount 1 1 0 0 8 ∷ Amount 1 2 0 0 6
+    ∷ Mark 0 0 0 ∷ Mark 1 0 0 ∷ Rates 5000 10000 ∷ []
+
+-- A1 of one of them, by year
+abbrev pub frequenciesOf : ℕ → List ℕ
+frequenciesOf operator = table years (yearlyValue (bookOf growing) (numbered 0 .measure) operator)
 
 -- every statement of a list holds
 abbrev pub All : List (Type 0) → Type 0
@@ -105,6 +127,10 @@ marked =
     ∷ (settled (bookOf (Join 0 ∷ [])) .said ≡ refused-by 11) ∷ (settled (bookOf sixMarks) .said ≡ refused-by 12)
     -- "A freshly joined set meets refusal 12 once its settings are in" (02, point 1); with one mark cleared it settles
     ∷ (settled (bookOf (newcomer [])) .said ≡ refused-by 12) ∷ (settled (bookOf (newcomer (Mark 0 0 0 ∷ []))) .said ≡ accepted yes-said)
+    -- "Refusal 11 is given if any of the three is 0" (02, point 3), and for no access points as before
+    ∷ All (map (λ (which : ℕ). settled (bookOf (losing which)) .said ≡ refused-by 11) (0 ∷ 3 ∷ 4 ∷ 1 ∷ []))
+    -- "A1 divides by the year's own" (02, point 3): a million times 5 / 100, 9 / 200, 40 / 400, and 17 / 400, 8 / 200, 6 / 100
+    ∷ (frequenciesOf 0 ≡ 50000 ∷ 45000 ∷ 100000 ∷ []) ∷ (frequenciesOf 1 ≡ 42500 ∷ 40000 ∷ 60000 ∷ [])
     -- "writer, 3 bytes, one join"
     ∷ (writerAnswer (bookOf (Join 0 ∷ [])) (0 ∷ 0 ∷ 0 ∷ []) ≡ refused-by 13)
     -- "weights 10, 8, 4 with the first two better become 18, 18, 8"

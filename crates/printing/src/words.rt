@@ -1,6 +1,6 @@
 // The words that are printed, in one table: the prover takes longer over a byte string than over a number.
-// A command's name stands at its tag, less 200 where that is above 200. From JOINED on: what can be stored, the settings last.
-const COUNT: usize = 31;
+// A command's name stands at its tag, less 200 where that is above 200. From JOINED on: what can be stored.
+const COUNT: usize = 29;
 
 pub(crate) const WIDTH: usize = 12;
 
@@ -12,7 +12,7 @@ sheet       yes         counted     refused     \
 left        out         short       planned     \
 coupled     exceptional joined      marks       \
 figure      pot         cap         index       \
-cabins      access      income      ";
+setting     ";
 
 pub(crate) const YES: u8 = 13;
 

@@ -16,7 +16,7 @@ use printing::print::label;
 use printing::print::number;
 use printing::words;
 
-// The kinds of values; the settings follow.
+// The kinds of values.
 const JOINED: u8 = 0;
 
 const MARKS: u8 = 1;
@@ -61,6 +61,10 @@ fn print_store(kind: u8, first: u8, second: u8, third: u8) {
             byte(second);
             byte(third);
         }
+        SETTING => {
+            byte(first);
+            byte(second);
+        }
         _ => byte(first),
     }
 }
@@ -79,10 +83,7 @@ fn store(b: Book, kind: u8, first: u8, second: u8, third: u8, value: u64) -> Boo
         CAP => next.cap_rate = thirty_two(value),
         INDEX => next.indices[first as usize % INDICES] = thirty_two(value),
         _ => {
-            next.settings[setting_slot(
-                first % OPERATORS as u8,
-                (kind - SETTING) % SETTINGS as u8,
-            )] = value;
+            next.settings[setting_slot(first % OPERATORS as u8, second % SETTINGS as u8)] = value;
         }
     }
     next

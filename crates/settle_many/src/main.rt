@@ -1,6 +1,7 @@
 // Settles a full book of sixteen operators as often as it has arguments, each time with another income, and prints the sum of
 // operator 0's returns. It is for counting the instructions of one settlement: docs/SPEED.md says how.
 ghost use Prim.Native.Nat.{_<_};
+ghost use Rattle.calls.specs.Limits.{operators, settingCount};
 use book::Book;
 use calls::Answer;
 use calls::FIGURE_PLACES;
@@ -52,13 +53,22 @@ fn full_book() -> Book {
 fn settings() -> [u64; SETTING_PLACES] {
     let mut list = [0u64; SETTING_PLACES];
     let mut i = 0;
-    while i < 16 {
-        list[SETTINGS * i] = 1000 + 37 * i as u64;
-        list[SETTINGS * i + 1] = 4000000 - 10007 * i as u64;
-        list[SETTINGS * i + 2] = 100000000000 - 12345 * i as u64;
+    while i < SETTING_PLACES {
+        list[i] = setting((i / SETTINGS) as u64, (i % SETTINGS) as u64);
         i += 1;
     }
     list
+}
+
+// Access points, income, or the cabins of a year, which differ from year to year.
+fn setting(operator: u64, which: u64) -> u64
+    requires { ⌜ (operator < operators) × (which < settingCount) ⌝ }
+{
+    match which {
+        1 => 4000000 - 10007 * operator,
+        2 => 100000000000 - 12345 * operator,
+        _ => 1000 + 37 * operator + 500 * which,
+    }
 }
 
 fn figures() -> [u64; FIGURE_PLACES] {

@@ -14,6 +14,7 @@ use borrow.Author.Tests.{eqb-false, not-false}
 use Rattle.apportion.specs.Sum.{sum}
 use Rattle.apportion.specs.Share.{share}
 use Rattle.apportion.proofs.Shared.{shared}
+use Rattle.calls.specs.Limits.{years}
 use Rattle.calls.specs.Answers.{accepted, yes-said, onAnswer}
 use Rattle.calls.specs.Laws.{applies, risesFrom, Lowest}
 use Rattle.calls.proofs.Flags.{or-right, and-other}
@@ -21,7 +22,7 @@ use Rattle.calls.proofs.Lowest.{lowest}
 use Rattle.book.specs.declared.Book.{Book}
 use Rattle.book.specs.Book.{isJoined, settingOf, inRange}
 use Rattle.book.proofs.Bounds.{bounded}
-use Rattle.values.specs.Operators.{each}
+use Rattle.values.specs.Operators.{each, any}
 use Rattle.values.specs.Indicator.{Indicator, electricity, reliableMask, pool, numbered}
 use Rattle.values.proofs.AnyLaws.{or-left, each-of-none}
 use Rattle.values.proofs.Tables.{each-le-sum, some-place}
@@ -29,7 +30,7 @@ use Rattle.indicators.specs.Points.{points, allPoints, pointsOfAll}
 use Rattle.indicators.proofs.OnesLaws.{some-one}
 use Rattle.indicators.proofs.PointLaws.{points-made-up, points-length, points-reliable, reliable-joined, reliable-small, pool-above}
 use Rattle.money.specs.Money.{pot, contributions, returns}
-use Rattle.settlement.specs.Settlement.{networkMissing, allMarked, settlementBy, settlingLines, settledBy}
+use Rattle.settlement.specs.Settlement.{settingMissing, networkMissing, allMarked, settlementBy, settlingLines, settledBy}
 use Rattle.settlement.specs.Laws.{Worth, Settles, pointsAt, Balanced, Settling}
 use Rattle.settlement.proofs.MarkLaws.{marked-none, marked-more}
 use Rattle.money.proofs.AdjustmentLaws.{adjustments-cancel, within-limits}
@@ -72,11 +73,10 @@ module _ (b : Book) (indicators : List Indicator) where
 
 -- a joined operator has access points
 joined-access : (b : Book) → networkMissing b ≡ false → (operator : ℕ) → operator < 16 → isJoined b operator ≡ true → 0 < settingOf b operator 1
-unfolding networkMissing
+unfolding networkMissing settingMissing
 joined-access b network operator lt joined =
-    let tests : isJoined b operator && (eqb (settingOf b operator 0) 0 || eqb (settingOf b operator 1) 0) ≡ false = each-of-none 16 _ network operator lt in
-    let access : eqb (settingOf b operator 1) 0 ≡ false = or-right (eqb (settingOf b operator 0) 0) _ (and-other _ _ joined tests) in
-    omega (arith, eqb-false (settingOf b operator 1) 0 access)
+    let tests : isJoined b operator && eqb (settingOf b operator 1) 0 ≡ false = each-of-none 16 _ (or-right (any years _) _ network) operator lt in
+    omega (arith, eqb-false (settingOf b operator 1) 0 (and-other _ _ joined tests))
 
 module _ (b : Book) (ranged : inRange b ≡ true) where
   -- where somebody takes part, a joined operator has points

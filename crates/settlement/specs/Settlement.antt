@@ -7,7 +7,7 @@ use lib.Dec.{eqb}
 use lib.IntN.{ℤ, pos}
 use lib.ListN.{replicate}
 use Rattle.settlement.specs.declared.Settlement.{Settlement}
-use Rattle.calls.specs.Limits.{operators, indicatorCount}
+use Rattle.calls.specs.Limits.{operators, years, indicatorCount, cabinsIn}
 use Rattle.calls.specs.Answers.{Said, Acceptance, yes-said, onAnswer, firstOf}
 use Rattle.book.specs.declared.Book.{Book}
 use Rattle.book.specs.Book.{isJoined, isMarked, settingOf, inRange, every}
@@ -16,9 +16,13 @@ use Rattle.values.specs.Indicator.{Indicator, electricity, pool}
 use Rattle.indicators.specs.Points.{pointsOfAll, pointPlaces}
 use Rattle.money.specs.Money.{pot, contributions, returns, limits, adjustments}
 
--- 11: "a joined operator has 0 cabins or access points"
+-- a joined operator has 0 of a setting
+unfoldable pub settingMissing : Book → ℕ → Bool
+settingMissing b which = any operators (λ (operator : ℕ). isJoined b operator && eqb (settingOf b operator which) 0)
+
+-- 11: "a joined operator has 0 cabins or access points", and of cabins "if any of the three is 0" (02, point 3)
 unfoldable pub networkMissing : Book → Bool
-networkMissing b = any operators (λ (operator : ℕ). isJoined b operator && (eqb (settingOf b operator 0) 0 || eqb (settingOf b operator 1) 0))
+networkMissing b = any years (λ (year : ℕ). settingMissing b (cabinsIn year)) || settingMissing b 1
 
 -- 12: "every joined operator marked at all six indicators", here at all of a list
 unfoldable pub isMarkedAtAll : Book → List Indicator → ℕ → Bool

@@ -3,24 +3,30 @@ ghost use mathlib.Core.Path.{_≡_};
 ghost use mathlib.Core.Bool.{true, _&&_, _||_};
 ghost use lib.Dec.{eqb};
 ghost use Rattle.calls.specs.Answers.{refused-by, numberOf, said};
+ghost use Prim.Native.Nat.{_<_};
+ghost use Rattle.calls.specs.Limits.{settingCount};
 ghost use Rattle.calls.specs.Masks.{has};
 ghost use Rattle.book.specs.Book.{inRange};
-ghost use Rattle.values.specs.Operators.{settingsOf};
 ghost use Rattle.values.specs.Parts.{HasMarks};
 ghost use Rattle.values.specs.Indicator.{electricity};
 ghost use Rattle.gathering.specs.Steps.{AllGathered};
 ghost use Rattle.settlement.specs.Steps.{HasCharges, Payable};
-ghost use Rattle.settlement.specs.Settlement.{networkMissing, allMarked, settlementBy, nothing, settled};
+ghost use Rattle.settlement.specs.Settlement.{settingMissing, networkMissing, allMarked, settlementBy, nothing, settled};
 use crate::POINT_PLACES;
 use crate::Settled;
 use crate::Settlement;
 use apportion::share;
 use book::Book;
 use book::in_range;
+use book::setting_slot;
 use calls::Answer;
 use calls::INDICATOR_COUNT;
 use calls::INDICATORS;
+use calls::LAST_OPERATOR;
+use calls::LAST_YEAR;
 use calls::Refusal;
+use calls::SETTING_PLACES;
+use calls::cabins_in;
 use calls::has_bit;
 use gathering::Gathered;
 use gathering::gather;
@@ -42,9 +48,7 @@ pub fn settle(b: Book) -> Settled
         return refuse(Refusal::NoneJoined);
     }
     let settings = b.settings;
-    let cabins = settings_of(&settings, 0);
-    let access = settings_of(&settings, 1);
-    if network_missing(b.joined, cabins, access) {
+    if network_missing(b.joined, &settings) {
         return refuse(Refusal::NetworkMissing);
     }
     let marks = b.marks;
@@ -74,13 +78,28 @@ fn refuse(refusal: Refusal) -> Settled
     }
 }
 
-// Whether a joined operator has no cabins or no access points.
-fn network_missing(joined: u16, cabins: [u64; 16], access: [u64; 16]) -> bool
-    ensures { λ r. ⌜ ((b : Book) → b .joined ≡ joined → cabins ≡ settingsOf b 0 → access ≡ settingsOf b 1 → r ≡ networkMissing b) ⌝ }
+// Whether a joined operator has no cabins in one of the years, or no access points.
+fn network_missing(joined: u16, settings: &[u64; SETTING_PLACES]) -> bool
+    ensures { λ r. ⌜ ((b : Book) → b .joined ≡ joined → b .settings ≡ now (settings .entry) → r ≡ networkMissing b) ⌝ }
+{
+    let mut year = 0;
+    while year <= LAST_YEAR {
+        if setting_missing(joined, settings, cabins_in(year)) {
+            return true;
+        }
+        year += 1;
+    }
+    setting_missing(joined, settings, 1)
+}
+
+// Whether a joined operator has 0 of a setting.
+fn setting_missing(joined: u16, settings: &[u64; SETTING_PLACES], which: u8) -> bool
+    requires { ⌜ which < settingCount ⌝ }
+    ensures { λ r. ⌜ ((b : Book) → b .joined ≡ joined → b .settings ≡ now (settings .entry) → r ≡ settingMissing b which) ⌝ }
 {
     let mut operator = 0;
-    while operator < 16 {
-        if lacks_network(joined, operator as u8, cabins[operator], access[operator]) {
+    while operator <= LAST_OPERATOR {
+        if lacks(joined, operator, settings[setting_slot(operator, which)]) {
             return true;
         }
         operator += 1;
@@ -88,16 +107,14 @@ fn network_missing(joined: u16, cabins: [u64; 16], access: [u64; 16]) -> bool
     false
 }
 
-fn lacks_network(joined: u16, operator: u8, cabins: u64, access: u64) -> bool
-    ensures { λ r. ⌜ r ≡ has joined operator && (eqb cabins 0 || eqb access 0) ⌝ }
+// Whether one has joined and its setting is 0.
+fn lacks(joined: u16, operator: u8, value: u64) -> bool
+    ensures { λ r. ⌜ r ≡ has joined operator && eqb value 0 ⌝ }
 {
     if !has_bit(joined, operator) {
         return false;
     }
-    if cabins == 0 {
-        return true;
-    }
-    access == 0
+    value == 0
 }
 
 // Whether nobody takes part at any indicator.

@@ -1,6 +1,6 @@
 -- What a book in range holds: each value between its limits.
 -- Assumes nothing.
-use Prim.Native.Nat.{ℕ, zero, suc, _^_, _≤_, _<_}
+use Prim.Native.Nat.{ℕ, _^_, _≤_, _<_}
 use mathlib.Core.Path.{_≡_, refl}
 use mathlib.Core.Bool.{true}
 use mathlib.Core.List.{List, []}
@@ -11,6 +11,7 @@ use lib.ListN.{length, getD, List·getD-eq-default}
 use Rattle.book.specs.declared.Book.{Book}
 use Rattle.calls.specs.Limits.{operators, years, figureCount, settingCount, indicatorCount, indexCount, settingLimit, figureLimit, rateLimit, indexMost}
 use Rattle.book.specs.Book.{withJoined, withMarks, withSettings, withFigures, withIndices, freshBook, settingOf, figureOf, indexOf, inRange}
+use Rattle.calls.proofs.SettingLaws.{limit-most}
 use Rattle.book.proofs.Bounds.{most-le, bounded}
 use Rattle.values.specs.Bounds.{accessLimit, incomeLimit}
 use Rattle.values.specs.Operators.{settingsOf, figuresOf}
@@ -75,9 +76,7 @@ module _ (b : Book) (small : SettingsWithin (b .settings)) where
 
   -- no setting passes the largest limit
   pub settings-most : (which : ℕ) → which < settingCount → (k : ℕ) → getD (settingsOf b which) k 0 ≤ incomeLimit
-  settings-most zero lw = each-le _ _ (λ k lt. omega (arith, setting-most k 0 lt (omega arith)))
-  settings-most (suc zero) lw = each-le _ _ (λ k lt. omega (arith, setting-most k 1 lt (omega arith)))
-  settings-most (suc (suc which)) lw = each-le _ _ (λ k lt. setting-most k (suc (suc which)) lt lw)
+  settings-most which lw = each-le _ _ (λ k lt. le-trans (setting-most k which lt lw) (limit-most which))
 
 module _ (b : Book) (small : FiguresWithin (b .figures)) where
   pub figure-most : (operator year figure : ℕ) → operator < operators → year < years → figure < figureCount → figureOf b operator year figure ≤ figureLimit

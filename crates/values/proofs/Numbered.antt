@@ -36,10 +36,10 @@ abbrev pub quotientsBy : ℕ → List ℕ → ℕ → List ℕ → List ℕ
 quotientsBy factor dividends scale divisors = each (λ (k : ℕ). over (factor * getD dividends k 0) (scale * getD divisors k 0))
 
 module _ (b : Book) (year : ℕ) where
-  pub frequencies-same : (figure which : ℕ) → quotientsBy 1000000 (figuresOf b year figure) 1 (settingsOf b which) ≡ yearlyValues b (frequency figure which) year
+  pub frequencies-same : (figure : ℕ) (which : ℕ → ℕ) → quotientsBy 1000000 (figuresOf b year figure) 1 (settingsOf b (which year)) ≡ yearlyValues b (frequency figure which) year
   unfolding yearlyValue
   frequencies-same figure which =
-      each-same _ _ (λ k lt. ap₂ over (omega (arith, each-at (λ (o : ℕ). figureOf b o year figure) k lt)) (omega (arith, each-at (λ (o : ℕ). settingOf b o which) k lt)))
+      each-same _ _ (λ k lt. ap₂ over (omega (arith, each-at (λ (o : ℕ). figureOf b o year figure) k lt)) (omega (arith, each-at (λ (o : ℕ). settingOf b o (which year)) k lt)))
 
   pub durations-same : (seconds weight : ℕ) → quotientsBy 1000 (figuresOf b year seconds) 1 (figuresOf b year weight) ≡ yearlyValues b (duration seconds weight) year
   unfolding yearlyValue

@@ -23,7 +23,7 @@ over-le dividend divisor = cond-le (eqb divisor 0) zero-le (div-le-self dividend
 
 module _ (b : Book) (small : Within (b .settings) (b .figures) (b .indices)) where
   module _ (operator year : ℕ) (lo : operator < operators) (ly : year < years) where
-    frequency-le : (figure which : ℕ) → figure < figureCount → yearlyValue b (frequency figure which) operator year ≤ yearlyMost
+    frequency-le : (figure : ℕ) (which : ℕ → ℕ) → figure < figureCount → yearlyValue b (frequency figure which) operator year ≤ yearlyMost
     unfolding yearlyValue
     frequency-le figure which lf = le-trans (over-le _ _) (omega (arith, figure-most b (small .figures-within) operator year figure lo ly lf))
 
@@ -41,7 +41,7 @@ module _ (b : Book) (small : Within (b .settings) (b .figures) (b .indices)) whe
     unfolding electricity
     yearly-le =
         of-numbered (λ number indicator. yearlyValue b (indicator .measure) operator year ≤ yearlyMost)
-        (frequency-le 0 0 (omega arith), (duration-le 1 0 (omega arith), (frequency-le 2 1 (omega arith), (duration-le 3 2 (omega arith), (fee-le 4 5 (omega arith), (fee-le 6 7 (omega arith), tt))))))
+        (frequency-le 0 _ (omega arith), (duration-le 1 0 (omega arith), (frequency-le 2 _ (omega arith), (duration-le 3 2 (omega arith), (fee-le 4 5 (omega arith), (fee-le 6 7 (omega arith), tt))))))
 
   module _ (number : ℕ) (ln : number < indicatorCount) where
     three-years-le : (operator : ℕ) → operator < operators → threeYears b (numbered number .measure) operator ≤ scoreMost

@@ -9,13 +9,14 @@ use lib.ListN.{getD}
 use Rattle.exact.specs.Division.{over}
 use Rattle.book.specs.declared.Book.{Book}
 use Rattle.book.specs.Book.{figureOf, settingOf, indexOf}
+use Rattle.calls.specs.Limits.{cabinsIn}
 use Rattle.calls.specs.Masks.{has}
 use Rattle.values.specs.Operators.{each}
 
 -- what is measured, by figures and settings
 pub data Measure : Type 0 where
-  -- interruptions (a figure) per piece of network (a setting): A1, A3
-  frequency : ℕ → ℕ → Measure
+  -- interruptions (a figure) per piece of network (a setting, by year): A1, A3
+  frequency : ℕ → (ℕ → ℕ) → Measure
   -- seconds (a figure) per interruption (a figure): A2, A4
   duration : ℕ → ℕ → Measure
   -- fees (a figure) per connection (a figure), in the money of June 2013: D1, D2
@@ -28,19 +29,20 @@ pub record Indicator : Type 0 where
   pub points : ℕ
   pub measure : Measure
 
--- "A1 154, A2 126, A3 66, A4 54, D1 20, D2 5; indicators 0 to 5"
+-- "A1 154, A2 126, A3 66, A4 54, D1 20, D2 5; indicators 0 to 5"; "A1 divides by the year's own" cabins (02, point 3), A3 by the access
+-- points, which are the same for all years
 unfoldable pub electricity : List Indicator
 electricity =
-    record { number = 0; points = 154; measure = frequency 0 0 }
+    record { number = 0; points = 154; measure = frequency 0 cabinsIn }
     ∷ record { number = 1; points = 126; measure = duration 1 0 }
-    ∷ record { number = 2; points = 66; measure = frequency 2 1 }
+    ∷ record { number = 2; points = 66; measure = frequency 2 (λ (year : ℕ). 1) }
     ∷ record { number = 3; points = 54; measure = duration 3 2 }
     ∷ record { number = 4; points = 20; measure = fee 4 5 }
     ∷ record { number = 5; points = 5; measure = fee 6 7 } ∷ []
 
 -- the yearly value of an operator, "rounded down; a zero divisor gives 0"
 unfoldable pub yearlyValue : Book → Measure → ℕ → ℕ → ℕ
-yearlyValue b (frequency figure which) operator year = over (1000000 * figureOf b operator year figure) (settingOf b operator which)
+yearlyValue b (frequency figure which) operator year = over (1000000 * figureOf b operator year figure) (settingOf b operator (which year))
 yearlyValue b (duration seconds weight) operator year = over (1000 * figureOf b operator year seconds) (figureOf b operator year weight)
 yearlyValue b (fee fees connections) operator year =
     over (10 * figureOf b operator year fees * indexOf b 3) (figureOf b operator year connections * indexOf b year)

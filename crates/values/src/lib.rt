@@ -18,6 +18,7 @@ use calls::FIGURE_PLACES;
 use calls::INDICATORS;
 use calls::INDICES;
 use calls::SETTING_PLACES;
+use calls::cabins_in;
 use calls::has_bit;
 use columns::figures_of;
 pub use columns::settings_of;
@@ -84,8 +85,9 @@ fn yearly_values(
     requires { ⌜ ValuesAsked (now settings) (now figures) (now indices) number year ⌝ }
     ensures { λ r. ⌜ ((b : Book) → HasMeasures b (now (settings .entry)) (now (figures .entry)) (now (indices .entry)) → r ≡ yearlyValues b (numbered number .measure) year) ⌝ }
 {
+    let cabins = cabins_in(year);
     match number {
-        0 => frequencies(settings, figures, year, 0, 0),
+        0 => frequencies(settings, figures, year, 0, cabins),
         1 => durations(figures, year, 1, 0),
         2 => frequencies(settings, figures, year, 2, 1),
         3 => durations(figures, year, 3, 2),
@@ -102,7 +104,7 @@ fn frequencies(
     which: u8,
 ) -> [u64; 16]
     requires { ⌜ FrequencyAsked (now settings) (now figures) year figure which ⌝ }
-    ensures { λ r. ⌜ ((b : Book) → b .settings ≡ now (settings .entry) → b .figures ≡ now (figures .entry) → r ≡ yearlyValues b (frequency figure which) year) ⌝ }
+    ensures { λ r. ⌜ ((b : Book) → b .settings ≡ now (settings .entry) → b .figures ≡ now (figures .entry) → (by-year : ℕ → ℕ) → by-year year ≡ which → r ≡ yearlyValues b (frequency figure by-year) year) ⌝ }
 {
     quotients(
         1000000,

@@ -18,7 +18,7 @@ use entries::entry_at;
 use text::Filled;
 
 // The most that a written filing has.
-pub const WRITTEN_MOST: usize = 10667;
+pub const WRITTEN_MOST: usize = 11083;
 
 // A refusal leaves the buffer; otherwise the bytes after the filing stay.
 pub fn write(b: Book, buffer: &mut [u8]) -> Filled

@@ -9,7 +9,7 @@ use text::Filled;
 use writer::write;
 
 // Case M with cap rate 10,000: joins, settings, amounts, cleared marks and rates.
-const CASE_M: [u8; 199] = [
+const CASE_M: [u8; 251] = [
     1,
     0,
     1,
@@ -96,6 +96,58 @@ const CASE_M: [u8; 199] = [
     235,
     194,
     0,
+    2,
+    0,
+    10,
+    0,
+    3,
+    0,
+    0,
+    0,
+    0,
+    0,
+    0,
+    0,
+    100,
+    2,
+    0,
+    10,
+    1,
+    3,
+    0,
+    0,
+    0,
+    0,
+    0,
+    0,
+    0,
+    100,
+    2,
+    0,
+    10,
+    0,
+    4,
+    0,
+    0,
+    0,
+    0,
+    0,
+    0,
+    0,
+    100,
+    2,
+    0,
+    10,
+    1,
+    4,
+    0,
+    0,
+    0,
+    0,
+    0,
+    0,
+    0,
+    100,
     4,
     0,
     12,
@@ -215,16 +267,16 @@ fn main() {
     let reading = read_fresh(&CASE_M);
     let b = reading.book;
     show(b, 0);
-    show(b, 198);
-    show(b, 199);
-    show(b, 202);
+    show(b, 250);
+    show(b, 251);
+    show(b, 254);
 }
 
-// A buffer of 202 bytes, all 170, of which so many are lent.
+// A buffer of 254 bytes, all 170, of which so many are lent.
 fn show(b: Book, length: usize)
-    requires { ⌜ length ≤ 202 ⌝ }
+    requires { ⌜ length ≤ 254 ⌝ }
 {
-    let mut buffer = [170u8; 202];
+    let mut buffer = [170u8; 254];
     let answer = write(b, &mut buffer[..length]);
     io::print_decimal(STDOUT_FILENO, length as u64);
     io::write_all(STDOUT_FILENO, b" = ");
@@ -245,9 +297,9 @@ fn print_answer(answer: Filled) {
     io::write_all(STDOUT_FILENO, b" ");
 }
 
-fn print_bytes(bytes: &[u8; 202]) {
+fn print_bytes(bytes: &[u8; 254]) {
     let mut i = 0;
-    while i < 202 {
+    while i < 254 {
         print_byte(bytes[i]);
         i += 1;
     }

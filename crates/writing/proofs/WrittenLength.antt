@@ -11,6 +11,7 @@ use lib.ListN.{length, length-append}
 use Rattle.book.specs.declared.Book.{Book}
 use Rattle.calls.specs.declared.Call.{Call}
 use Rattle.calls.specs.declared.Call.the-variants.{Join, Setting, Amount, Mark, Rates, Index}
+use Rattle.calls.proofs.SettingLaws.{limit-most}
 use Rattle.calls.specs.Limits.{operators, years, figureCount, settingCount, indicatorCount, indexCount, settingLimit, figureLimit, freshIndex}
 use Rattle.book.specs.Book.{isJoined, isMarked, settingOf, figureOf, indexOf, inRange}
 use Rattle.book.proofs.Bounds.{Bounds, most-le, bounded}
@@ -64,11 +65,6 @@ small-turns (suc n) f bytes each =
     let more : n * bytes + bytes ≡ suc n * bytes = rw suc-mul (omega arith) in
     rw more at (small-then (small-turns n f bytes (λ k lt. each k (omega arith))) (each n (omega arith)))
 
-setting-most : (which : ℕ) → settingLimit which ≤ 100000000000
-setting-most zero = omega arith
-setting-most (suc zero) = omega arith
-setting-most (suc (suc which)) = omega arith
-
 module _ (b : Book) (ranged : inRange b ≡ true) where
   bounds : Bounds b
   bounds = bounded b ranged
@@ -83,7 +79,7 @@ module _ (b : Book) (ranged : inRange b ≡ true) where
       small-turns operators _ (settingCount * 13)
       (λ o lo. small-turns settingCount _ 13
       (λ w lw. small-unless (eqb (settingOf b o w) 0) (Setting o w (settingOf b o w)) 13
-      (omega (arith, bounds .settings .within o w lo lw, most-le (b .joined) o (settingLimit w), setting-most w)) (omega arith)))
+      (omega (arith, bounds .settings .within o w lo lw, most-le (b .joined) o (settingLimit w), limit-most w)) (omega arith)))
 
   amounts-small : Small (amountCalls b) (operators * (years * (figureCount * 15)))
   unfolding amountCalls encoded fieldOf inBytes figureOf

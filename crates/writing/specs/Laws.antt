@@ -21,7 +21,7 @@ NoneRefused (answer ∷ rest) = (isRefused answer ≡ false) × NoneRefused rest
 
 -- "the most a writer needs grows to 10,667 bytes" (02, point 2)
 abbrev pub writtenMost : ℕ
-writtenMost = 10667
+writtenMost = 11083
 
 pub record WrittenOut (b : Book) (ranged : inRange b ≡ true) : Type 0 where
   -- filing the written calls one by one, none is refused, and they lead to the book

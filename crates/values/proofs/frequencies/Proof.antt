@@ -26,10 +26,10 @@ quotients-requires c κs =
 returns : tie.Need-returns
 returns c =
     let start = c .before .before .before in
-    λ b settings figures.
+    λ b settings figures which same.
     c .quotients .ensures
-    ∙ (rw (c .before .before .figures-of .ensures b figures, c .before .settings-of .ensures b settings) refl
-    ∙ frequencies-same b (start .args .year) (start .args .figure) (start .args .which))
+    ∙ (rw (same, c .before .before .figures-of .ensures b figures, c .before .settings-of .ensures b settings) refl
+    ∙ frequencies-same b (start .args .year) (start .args .figure) which)
 
 pub frequencies-spec : {M : Type 1} → statement M
 frequencies-spec =

@@ -2,13 +2,21 @@
 -- Assumes nothing.
 use borrow.Author.Needs.{needs}
 use native.Mathlib.Omega.{arith}
-use mathlib.Core.Path.{_≡_}
+use Prim.Native.Nat.{ℕ, _<_}
+use mathlib.Core.Path.{_≡_, refl, sym}
+use Rattle.calls.specs.Limits.{settingCount, cabinsIn}
+use Rattle.calls.proofs.SettingLaws.{cabins-there}
 use Rattle.values.specs.Indicator.{electricity, numbered}
 use Rattle.values.proofs.yearly_values.Statement.{statement}
 use Rattle.values.proofs.yearly_values.Tie as tie
 
+cabins-in-requires : tie.Need-cabins-in-requires
+cabins-in-requires c κs = search needs
+
 frequencies-requires : tie.Need-frequencies-requires
-frequencies-requires c κs = search needs
+frequencies-requires c κs =
+    let there : c .before .cabins-in .result < settingCount = rw (c .before .cabins-in .ensures) (cabins-there (c .before .before .args .year)) in
+    search needs
 
 durations-requires : tie.Need-durations-requires
 durations-requires c κs = search needs
@@ -28,7 +36,7 @@ fees-requires-2 c κs = search needs
 -- A1
 returns : tie.Need-returns
 unfolding numbered electricity
-returns c = λ b measured. rw (c .before .match .keys1) (c .frequencies .ensures b (measured .settings-are) (measured .figures-are))
+returns c = λ b measured. rw (c .before .match .keys1) (c .frequencies .ensures b (measured .settings-are) (measured .figures-are) cabinsIn (sym (c .before .before .cabins-in .ensures)))
 
 -- A2
 returns-2 : tie.Need-returns-2
@@ -38,7 +46,7 @@ returns-2 c = λ b measured. rw (c .before .match .keys2) (c .durations .ensures
 -- A3
 returns-3 : tie.Need-returns-3
 unfolding numbered electricity
-returns-3 c = λ b measured. rw (c .before .match .keys3) (c .frequencies2 .ensures b (measured .settings-are) (measured .figures-are))
+returns-3 c = λ b measured. rw (c .before .match .keys3) (c .frequencies2 .ensures b (measured .settings-are) (measured .figures-are) (λ (year : ℕ). 1) refl)
 
 -- A4
 returns-4 : tie.Need-returns-4
@@ -54,13 +62,14 @@ returns-5 c = λ b measured. rw (c .before .match .keys5) (c .fees .ensures b (m
 returns-6 : tie.Need-returns-6
 unfolding numbered electricity
 returns-6 c =
-    let last : c .before .before .args .number ≡ 5 = omega arith in
+    let last : c .before .before .before .args .number ≡ 5 = omega arith in
     λ b measured. rw last (c .fees2 .ensures b (measured .figures-are) (measured .indices-are))
 
 pub yearly-values-spec : {M : Type 1} → statement M
 yearly-values-spec =
     tie.close
     (tie.spec
+    cabins-in-requires
     frequencies-requires
     durations-requires
     frequencies-requires-2

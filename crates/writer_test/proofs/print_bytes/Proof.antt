@@ -6,10 +6,10 @@ use Rattle.writer_test.proofs.print_bytes.Statement.{statement}
 use Rattle.writer_test.proofs.print_bytes.Tie as tie
 
 abbrev Inv-loop : tie.InvT-loop
-Inv-loop bytes i₀ t3 i = i ≤ 202
+Inv-loop bytes i₀ t3 i = i ≤ 254
 
 abbrev μ-loop : tie.MeasureT-loop
-μ-loop bytes i₀ t3 i = 202 - i
+μ-loop bytes i₀ t3 i = 254 - i
 
 loop-holds : tie.Need-loop-holds Inv-loop μ-loop
 loop-holds c = search needs

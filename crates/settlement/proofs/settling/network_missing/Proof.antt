@@ -1,86 +1,70 @@
--- `settlement::settling::network_missing` meets its contract: nobody passed lacks a network.
+-- `settlement::settling::network_missing` meets its contract: in no year passed are cabins missing.
 -- Assumes nothing.
 use mathlib.Core.Path.{_≡_, refl, sym, _∙_}
-use mathlib.Core.Bool.{Bool, false, _&&_, _||_}
-use mathlib.Core.List.{List}
+use mathlib.Core.Bool.{false, _||_}
 use Prim.Native.Nat.{ℕ, _-_, _≤_, _<_}
 use native.Mathlib.Omega.{arith}
-use lib.Dec.{eqb}
-use lib.ListN.{getD}
-use Rattle.calls.specs.Masks.{has}
+use Rattle.calls.specs.Limits.{years, cabinsIn}
+use Rattle.calls.proofs.SettingLaws.{cabins-there}
 use Rattle.book.specs.declared.Book.{Book}
-use Rattle.book.specs.Book.{isJoined, settingOf}
-use Rattle.values.specs.Operators.{settingsOf}
-use Rattle.values.proofs.Tables.{each-at}
 use Rattle.values.proofs.AnyLaws.{none-of-each, any-passes}
-use Rattle.settlement.specs.Settlement.{networkMissing}
+use Rattle.settlement.specs.Settlement.{settingMissing, networkMissing}
 use borrow.Author.Count.{below-more}
+use borrow.Author.Needs.{needs}
 use Rattle.settlement.proofs.settling.network_missing.Statement.{statement}
 use Rattle.settlement.proofs.settling.network_missing.Tie as tie
 
--- whether operator k lacks a network, from the columns
-abbrev lacking : ℕ → List ℕ → List ℕ → ℕ → Bool
-lacking joined cabins access k = has joined k && (eqb (getD cabins k 0) 0 || eqb (getD access k 0) 0)
-
--- the same, from a book that the columns belong to
-lacking-same : (b : Book) (joined : ℕ) (cabins access : List ℕ) → b .joined ≡ joined → cabins ≡ settingsOf b 0 → access ≡ settingsOf b 1 → (k : ℕ) → k < 16
-    → lacking joined cabins access k ≡ isJoined b k && (eqb (settingOf b k 0) 0 || eqb (settingOf b k 1) 0)
-unfolding isJoined
-lacking-same b joined cabins access ej ec ea k lt =
-    rw (← ej, ec, ea, each-at (λ (operator : ℕ). settingOf b operator 0) k lt, each-at (λ (operator : ℕ). settingOf b operator 1) k lt) refl
-
 abbrev Inv-loop : tie.InvT-loop
-Inv-loop joined cabins access operator₀ operator = (operator ≤ 16) × ((k : ℕ) → k < operator → lacking joined cabins access k ≡ false)
+Inv-loop joined settings year₀ year =
+    (year ≤ years) × ((b : Book) → b .joined ≡ joined → b .settings ≡ settings → (k : ℕ) → k < year → settingMissing b (cabinsIn k) ≡ false)
 
 abbrev μ-loop : tie.MeasureT-loop
-μ-loop joined cabins access operator₀ operator = 16 - operator
+μ-loop joined settings year₀ year = years - year
 
 loop-holds : tie.Need-loop-holds Inv-loop μ-loop
-loop-holds c = (omega arith, λ k lt. absurd (omega (arith, lt)))
+loop-holds c = (omega arith, λ b joined settings k lt. absurd (omega (arith, lt)))
 
-cast-lacks-network : tie.Need-cast-lacks-network Inv-loop μ-loop
-cast-lacks-network c = omega arith
+cabins-in-requires : tie.Need-cabins-in-requires Inv-loop μ-loop
+cabins-in-requires c κs = search needs
 
-mul-lacks-network : tie.Need-mul-lacks-network Inv-loop μ-loop
-mul-lacks-network c = omega arith
+setting-missing-requires : tie.Need-setting-missing-requires Inv-loop μ-loop
+setting-missing-requires c κs = rw (c .cabins-in .ensures) (cabins-there (c .before .before .loop .year))
 
-array-read-lacks-network : tie.Need-array-read-lacks-network Inv-loop μ-loop
-array-read-lacks-network c = omega arith
+-- what was seen of the year
+seen : (c : tie.After-setting-missing Inv-loop μ-loop) (b : Book) → b .joined ≡ c .before .before .before .before .args .joined
+    → b .settings ≡ c .before .before .before .before .args .settings .now
+    → c .setting-missing .result ≡ settingMissing b (cabinsIn (c .before .before .before .loop .year))
+seen c b joined settings = rw (← c .before .cabins-in .ensures) (c .setting-missing .ensures b joined settings)
 
-mul-lacks-network-2 : tie.Need-mul-lacks-network-2 Inv-loop μ-loop
-mul-lacks-network-2 c = omega arith
-
-array-read-lacks-network-2 : tie.Need-array-read-lacks-network-2 Inv-loop μ-loop
-array-read-lacks-network-2 c = omega arith
-
-lacks-network-requires : tie.Need-lacks-network-requires Inv-loop μ-loop
-lacks-network-requires c κs = tt
-
--- somebody lacks one
+-- a year's cabins are missing
 returns : tie.Need-returns Inv-loop μ-loop
 unfolding networkMissing
-returns c = λ b joined cabins access.
-    let here = c .before .before .before .loop in
-    let same = lacking-same b _ _ _ joined cabins access (here .operator) (omega arith) in
-    sym (any-passes 16 _ (here .operator) (omega arith) (sym same ∙ (sym (c .before .lacks-network .ensures) ∙ c .if1 .taken)))
+returns c = λ b joined settings.
+    let here = c .before .before .before .before .loop in
+    let some = any-passes 3 (λ (year : ℕ). settingMissing b (cabinsIn year)) (here .year) (omega arith) (sym (seen (c .before) b joined settings) ∙ c .if1 .taken) in
+    rw some refl
 
-add-operator : tie.Need-add-operator Inv-loop μ-loop
-add-operator c = omega arith
+add-year : tie.Need-add-year Inv-loop μ-loop
+add-year c = omega arith
 
 loop-less : tie.Need-loop-less Inv-loop μ-loop
 loop-less c = omega arith
 
 loop-again : tie.Need-loop-again Inv-loop μ-loop
 loop-again c =
-    let here = c .before .before .before .loop in
-    (omega arith, below-more _ (here .operator) (here .inv .1) (sym (c .before .lacks-network .ensures) ∙ c .if1 .left))
+    let here = c .before .before .before .before .loop in
+    (omega arith, λ b joined settings. below-more _ (here .year) (here .inv .1 b joined settings) (sym (seen (c .before) b joined settings) ∙ c .if1 .left))
 
--- nobody does
+setting-missing-requires-2 : tie.Need-setting-missing-requires-2 Inv-loop μ-loop
+setting-missing-requires-2 c κs = omega arith
+
+-- none are, and the access points decide
 returns-2 : tie.Need-returns-2 Inv-loop μ-loop
 unfolding networkMissing
-returns-2 c = λ b joined cabins access.
-    let here = c .before .loop in
-    sym (none-of-each 16 _ (λ k lt. sym (lacking-same b _ _ _ joined cabins access k lt) ∙ here .inv .1 k (omega (arith, lt))))
+returns-2 c = λ b joined settings.
+    let here = c .before .before .loop in
+    let none = none-of-each 3 (λ (year : ℕ). settingMissing b (cabinsIn year)) (λ k lt. here .inv .1 b joined settings k (omega (arith, lt))) in
+    rw none (c .setting-missing2 .ensures b joined settings)
 
 pub network-missing-spec : {M : Type 1} → statement M
 network-missing-spec =
@@ -89,14 +73,11 @@ network-missing-spec =
     Inv-loop
     μ-loop
     loop-holds
-    cast-lacks-network
-    mul-lacks-network
-    array-read-lacks-network
-    mul-lacks-network-2
-    array-read-lacks-network-2
-    lacks-network-requires
+    cabins-in-requires
+    setting-missing-requires
     returns
-    add-operator
+    add-year
     loop-less
     loop-again
+    setting-missing-requires-2
     returns-2)

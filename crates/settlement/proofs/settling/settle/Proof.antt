@@ -16,13 +16,11 @@ use Rattle.settlement.proofs.settling.settle.Tie as tie
 ranged : (c : tie.Else1) → inRange (c .before .before .args .b) ≡ true
 ranged c = granted (c .before .in-range .ensures) (c .if1 .left)
 
-missing : (c : tie.After-network-missing) → c .network-missing .result ≡ networkMissing (c .before .before .before .before .before .before .before .before .before .before .args .b)
-missing c =
-    let b = c .before .before .before .before .before .before .before .before .before .before .args .b in
-    c .network-missing .ensures b refl (c .before .before .before .settings-of .ensures b refl) (c .before .settings-of2 .ensures b refl)
+missing : (c : tie.After-network-missing) → c .network-missing .result ≡ networkMissing (c .before .before .before .before .before .before .before .args .b)
+missing c = c .network-missing .ensures _ refl refl
 
-marked : (c : tie.After-all-marked) → c .all-marked .result ≡ allMarked (c .before .before .before .before .before .before .before .before .before .before .before .before .before .before .args .b) electricity
-marked c = c .all-marked .ensures (c .before .before .before .before .before .before .before .before .before .before .before .before .before .before .args .b) (ranged (c .before .before .before .before .before .before .before .before .before .before .before .before)) (record { joined-are = refl; marks-are = refl })
+marked : (c : tie.After-all-marked) → c .all-marked .result ≡ allMarked (c .before .before .before .before .before .before .before .before .before .before .before .args .b) electricity
+marked c = c .all-marked .ensures (c .before .before .before .before .before .before .before .before .before .before .before .args .b) (ranged (c .before .before .before .before .before .before .before .before .before)) (record { joined-are = refl; marks-are = refl })
 
 in-range-requires : tie.Need-in-range-requires
 in-range-requires c κs = search needs
@@ -43,12 +41,6 @@ returns-2 : tie.Need-returns-2
 unfolding settled settledBy settlingLines firstOf onAnswer
 returns-2 c = rw (ranged (c .before .before .before), eq-eqb _ _ (c .before .if2 .taken)) (c .refuse2 .ensures)
 
-settings-of-requires : tie.Need-settings-of-requires
-settings-of-requires c κs = search needs
-
-settings-of-requires-2 : tie.Need-settings-of-requires-2
-settings-of-requires-2 c κs = search needs
-
 network-missing-requires : tie.Need-network-missing-requires
 network-missing-requires c κs = search needs
 
@@ -60,8 +52,8 @@ returns-3 : tie.Need-returns-3
 unfolding settled settledBy settlingLines firstOf onAnswer
 returns-3 c =
     rw (
-      ranged (c .before .before .before .before .before .before .before .before .before .before),
-      ne-eqb _ _ (c .before .before .before .before .before .before .before .before .if2 .left),
+      ranged (c .before .before .before .before .before .before .before),
+      ne-eqb _ _ (c .before .before .before .before .before .if2 .left),
       sym (missing (c .before .before)) ∙ c .before .if3 .taken,
     )
     (c .refuse3 .ensures)
@@ -77,23 +69,23 @@ returns-4 : tie.Need-returns-4
 unfolding settled settledBy settlingLines firstOf onAnswer
 returns-4 c =
     rw (
-      ranged (c .before .before .before .before .before .before .before .before .before .before .before .before .before .before),
-      ne-eqb _ _ (c .before .before .before .before .before .before .before .before .before .before .before .before .if2 .left),
+      ranged (c .before .before .before .before .before .before .before .before .before .before .before),
+      ne-eqb _ _ (c .before .before .before .before .before .before .before .before .before .if2 .left),
       sym (missing (c .before .before .before .before .before .before)) ∙ c .before .before .before .before .before .if3 .left,
       sym (marked (c .before .before)) ∙ c .before .if4 .taken,
     )
     (c .refuse4 .ensures)
 
 settle-in-range-requires : tie.Need-settle-in-range-requires
-settle-in-range-requires c κs = ranged (c .before .before .before .before .before .before .before .before .before .before .before .before .before)
+settle-in-range-requires c κs = ranged (c .before .before .before .before .before .before .before .before .before .before)
 
 -- settled
 returns-5 : tie.Need-returns-5
 unfolding settled settledBy settlingLines firstOf onAnswer
 returns-5 c =
     rw (
-      ranged (c .before .before .before .before .before .before .before .before .before .before .before .before .before .before),
-      ne-eqb _ _ (c .before .before .before .before .before .before .before .before .before .before .before .before .if2 .left),
+      ranged (c .before .before .before .before .before .before .before .before .before .before .before),
+      ne-eqb _ _ (c .before .before .before .before .before .before .before .before .before .if2 .left),
       sym (missing (c .before .before .before .before .before .before)) ∙ c .before .before .before .before .before .if3 .left,
       sym (marked (c .before .before)) ∙ c .before .if4 .left,
     )
@@ -108,8 +100,6 @@ settle-spec =
     returns
     refuse-requires-2
     returns-2
-    settings-of-requires
-    settings-of-requires-2
     network-missing-requires
     refuse-requires-3
     returns-3
