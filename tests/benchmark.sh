@@ -19,7 +19,7 @@ calls() { # KIND
         BEGIN {
             left = 65536
             for (o = 0; o < 16; o++) put("join " o, 4)
-            for (o = 0; o < 16; o++) for (w = 0; w < 3; w++) put("setting " o " " w " " 2000 + 100 * o, 13)
+            for (o = 0; o < 16; o++) for (w = 0; w < 5; w++) put("setting " o " " w " " 2000 + 100 * o, 13)
             for (o = 0; o < 16; o++) for (i = 0; i < 6; i++) put("mark " o " " i " 0", 6)
             put("rates 5000 10000", 11)
             for (i = 0; left >= 100; i++) {

@@ -1,9 +1,9 @@
 -- The settings of an operator: their limits, and those that have the cabins.
 -- Assumes nothing.
-use Prim.Native.Nat.{ℕ, zero, suc, _≤_, _<_}
+use Prim.Native.Nat.{ℕ, zero, suc, _≤_}
 use mathlib.Core.Path.{_≡_, refl}
 use native.Mathlib.Omega.{arith}
-use Rattle.calls.specs.Limits.{settingCount, settingLimit, cabinsIn}
+use Rattle.calls.specs.Limits.{settingLimit, cabinsIn}
 
 -- a setting other than access points and income has the limit of cabins
 pub cabin-limit : (which : ℕ) → (which ≡ 1 → ⊥) → (which ≡ 2 → ⊥) → settingLimit which ≡ settingLimit 0
@@ -19,13 +19,7 @@ limit-most (suc zero) = omega arith
 limit-most (suc (suc zero)) = omega arith
 limit-most (suc (suc (suc which))) = omega arith
 
--- the cabins of a year are among the settings
-pub cabins-there : (year : ℕ) → cabinsIn year < settingCount
-cabins-there zero = omega arith
-cabins-there (suc zero) = omega arith
-cabins-there (suc (suc later)) = omega arith
-
--- and of the years after the first two there is the last
+-- a year other than the first two has the last cabins
 pub last-cabins : (year : ℕ) → (year ≡ 0 → ⊥) → (year ≡ 1 → ⊥) → cabinsIn year ≡ 4
 last-cabins zero not-zero not-one = absurd (not-zero refl)
 last-cabins (suc zero) not-zero not-one = absurd (not-one refl)

@@ -1,6 +1,7 @@
 // The counts and limits of 01, "The book" and "The filing", as specs/Limits.antt says them in definitions.
 ghost use mathlib.Core.Path.{_≡_};
-ghost use Rattle.calls.specs.Limits.{cabinsIn};
+ghost use Prim.Native.Nat.{_<_};
+ghost use Rattle.calls.specs.Limits.{settingCount, cabinsIn};
 
 pub const OPERATORS: usize = 16;
 
@@ -70,7 +71,7 @@ pub(crate) const FIRST_START: i64 = -31536000;
 
 // The setting that has the cabins of a year.
 pub fn cabins_in(year: u8) -> u8
-    ensures { λ r. ⌜ r ≡ cabinsIn year ⌝ }
+    ensures { λ r. ⌜ (r ≡ cabinsIn year) × (r < settingCount) ⌝ }
 {
     match year {
         0 => 0,

@@ -1,9 +1,10 @@
 -- `entries::setting_entry` meets its contract.
 -- Assumes nothing.
-use mathlib.Core.Path.{refl}
+use mathlib.Core.Path.{_≡_, refl}
 use native.Mathlib.Omega.{arith}
 use borrow.Author.Tests.{eq-eqb, ne-eqb}
 use Rattle.calls.specs.Limits.{settingCount}
+use Rattle.book.specs.Book.{settingSlot}
 use Rattle.entries.specs.Entries.{settingAt}
 use Rattle.entries.proofs.EntryLaws.{nothing-there, setting-there}
 use Prim.Native.Nat.{_/_, _%_}
@@ -28,7 +29,10 @@ element-copy-out-value c = search needs
 
 returns : tie.Need-returns
 unfolding settingAt
-returns c = nothing-there (rw (← c .before .before .setting-slot .ensures .0, eq-eqb _ 0 (c .if1 .taken)) refl)
+returns c =
+    let place = c .before .before .before .args .place in
+    let at : c .before .before .setting-slot .result ≡ settingSlot (place / settingCount) (place % settingCount) = c .before .before .setting-slot .ensures .0 in
+    nothing-there (rw (← at, eq-eqb _ 0 (c .if1 .taken)) refl)
 
 mul-t14 : tie.Need-mul-t14
 mul-t14 c = search needs

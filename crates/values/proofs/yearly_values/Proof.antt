@@ -2,10 +2,9 @@
 -- Assumes nothing.
 use borrow.Author.Needs.{needs}
 use native.Mathlib.Omega.{arith}
-use Prim.Native.Nat.{ℕ, _<_}
+use Prim.Native.Nat.{ℕ}
 use mathlib.Core.Path.{_≡_, refl, sym}
-use Rattle.calls.specs.Limits.{settingCount, cabinsIn}
-use Rattle.calls.proofs.SettingLaws.{cabins-there}
+use Rattle.calls.specs.Limits.{cabinsIn}
 use Rattle.values.specs.Indicator.{electricity, numbered}
 use Rattle.values.proofs.yearly_values.Statement.{statement}
 use Rattle.values.proofs.yearly_values.Tie as tie
@@ -14,9 +13,7 @@ cabins-in-requires : tie.Need-cabins-in-requires
 cabins-in-requires c κs = search needs
 
 frequencies-requires : tie.Need-frequencies-requires
-frequencies-requires c κs =
-    let there : c .before .cabins-in .result < settingCount = rw (c .before .cabins-in .ensures) (cabins-there (c .before .before .args .year)) in
-    search needs
+frequencies-requires c κs = search needs
 
 durations-requires : tie.Need-durations-requires
 durations-requires c κs = search needs
@@ -36,7 +33,7 @@ fees-requires-2 c κs = search needs
 -- A1
 returns : tie.Need-returns
 unfolding numbered electricity
-returns c = λ b measured. rw (c .before .match .keys1) (c .frequencies .ensures b (measured .settings-are) (measured .figures-are) cabinsIn (sym (c .before .before .cabins-in .ensures)))
+returns c = λ b measured. rw (c .before .match .keys1) (c .frequencies .ensures b (measured .settings-are) (measured .figures-are) cabinsIn (sym (c .before .before .cabins-in .ensures .0)))
 
 -- A2
 returns-2 : tie.Need-returns-2

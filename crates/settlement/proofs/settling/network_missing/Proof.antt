@@ -1,11 +1,10 @@
 -- `settlement::settling::network_missing` meets its contract: in no year passed are cabins missing.
 -- Assumes nothing.
-use mathlib.Core.Path.{_≡_, refl, sym, _∙_}
-use mathlib.Core.Bool.{false, _||_}
+use mathlib.Core.Path.{_≡_, sym, ap, _∙_}
+use mathlib.Core.Bool.{Bool, false, _||_}
 use Prim.Native.Nat.{ℕ, _-_, _≤_, _<_}
 use native.Mathlib.Omega.{arith}
 use Rattle.calls.specs.Limits.{years, cabinsIn}
-use Rattle.calls.proofs.SettingLaws.{cabins-there}
 use Rattle.book.specs.declared.Book.{Book}
 use Rattle.values.proofs.AnyLaws.{none-of-each, any-passes}
 use Rattle.settlement.specs.Settlement.{settingMissing, networkMissing}
@@ -28,13 +27,15 @@ cabins-in-requires : tie.Need-cabins-in-requires Inv-loop μ-loop
 cabins-in-requires c κs = search needs
 
 setting-missing-requires : tie.Need-setting-missing-requires Inv-loop μ-loop
-setting-missing-requires c κs = rw (c .cabins-in .ensures) (cabins-there (c .before .before .loop .year))
+setting-missing-requires c κs = search needs
 
 -- what was seen of the year
 seen : (c : tie.After-setting-missing Inv-loop μ-loop) (b : Book) → b .joined ≡ c .before .before .before .before .args .joined
     → b .settings ≡ c .before .before .before .before .args .settings .now
     → c .setting-missing .result ≡ settingMissing b (cabinsIn (c .before .before .before .loop .year))
-seen c b joined settings = rw (← c .before .cabins-in .ensures) (c .setting-missing .ensures b joined settings)
+seen c b joined settings =
+    let which : c .before .cabins-in .result ≡ cabinsIn (c .before .before .before .loop .year) = c .before .cabins-in .ensures .0 in
+    rw (← which) (c .setting-missing .ensures b joined settings)
 
 -- a year's cabins are missing
 returns : tie.Need-returns Inv-loop μ-loop
@@ -42,7 +43,7 @@ unfolding networkMissing
 returns c = λ b joined settings.
     let here = c .before .before .before .before .loop in
     let some = any-passes 3 (λ (year : ℕ). settingMissing b (cabinsIn year)) (here .year) (omega arith) (sym (seen (c .before) b joined settings) ∙ c .if1 .taken) in
-    rw some refl
+    sym (ap (λ (t : Bool). t || settingMissing b 1) some)
 
 add-year : tie.Need-add-year Inv-loop μ-loop
 add-year c = omega arith
@@ -56,7 +57,7 @@ loop-again c =
     (omega arith, λ b joined settings. below-more _ (here .year) (here .inv .1 b joined settings) (sym (seen (c .before) b joined settings) ∙ c .if1 .left))
 
 setting-missing-requires-2 : tie.Need-setting-missing-requires-2 Inv-loop μ-loop
-setting-missing-requires-2 c κs = omega arith
+setting-missing-requires-2 c κs = search needs
 
 -- none are, and the access points decide
 returns-2 : tie.Need-returns-2 Inv-loop μ-loop
@@ -64,7 +65,7 @@ unfolding networkMissing
 returns-2 c = λ b joined settings.
     let here = c .before .before .loop in
     let none = none-of-each 3 (λ (year : ℕ). settingMissing b (cabinsIn year)) (λ k lt. here .inv .1 b joined settings k (omega (arith, lt))) in
-    rw none (c .setting-missing2 .ensures b joined settings)
+    c .setting-missing2 .ensures b joined settings ∙ sym (ap (λ (t : Bool). t || settingMissing b 1) none)
 
 pub network-missing-spec : {M : Type 1} → statement M
 network-missing-spec =
