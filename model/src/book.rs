@@ -2,7 +2,7 @@
 //! the range of every value.
 
 pub const OPERATORS: usize = 16;
-pub const SETTINGS: usize = 3;
+pub const SETTINGS: usize = 5;
 pub const INDICATORS: usize = 6;
 pub const YEARS: usize = 3;
 pub const FIGURES: usize = 13;
@@ -14,13 +14,41 @@ pub const INDICES: usize = 4;
 pub const MOST_CABINS: u128 = 100_000;
 pub const MOST_ACCESS_POINTS: u128 = 4_000_000;
 pub const MOST_INCOME: u128 = 100_000_000_000;
-/// The most of each setting, in the order of the filing's `which`.
-pub const MOST_SETTINGS: [u128; SETTINGS] = [MOST_CABINS, MOST_ACCESS_POINTS, MOST_INCOME];
 pub const MOST_FIGURE: u128 = 100_000_000_000;
 pub const MOST_RATE: u128 = 20_000;
 pub const LEAST_INDEX: u128 = 1;
 pub const MOST_INDEX: u128 = 100_000;
 pub const FRESH_INDEX: u128 = 10_000;
+
+/// What a setting of an operator is.
+#[derive(Clone, Copy, Debug, PartialEq, Eq)]
+pub enum Setting {
+    /// With the year that they are of.
+    Cabins(usize),
+    AccessPoints,
+    Income,
+}
+
+/// The settings by number, the filing's `which`.
+/// Follows 01: "which (0 cabins, 1 access points, 2 income)"; and 02, point 3:
+/// "Setting 0 is year 0; settings 3 and 4 are years 1 and 2".
+pub const NUMBERED_SETTINGS: [Setting; SETTINGS] = [
+    Setting::Cabins(0),
+    Setting::AccessPoints,
+    Setting::Income,
+    Setting::Cabins(1),
+    Setting::Cabins(2),
+];
+
+impl Setting {
+    pub fn most(self) -> u128 {
+        match self {
+            Setting::Cabins(_) => MOST_CABINS,
+            Setting::AccessPoints => MOST_ACCESS_POINTS,
+            Setting::Income => MOST_INCOME,
+        }
+    }
+}
 
 /// What the book keeps of one operator.
 #[derive(Clone, Debug, PartialEq, Eq)]
@@ -28,7 +56,8 @@ pub struct Operator {
     pub joined: bool,
     /// By indicator; true = unreliable.
     pub marks: Vec<bool>,
-    pub cabins: u128,
+    /// By year.
+    pub cabins: [u128; YEARS],
     pub access_points: u128,
     /// In cents.
     pub income: u128,
@@ -43,22 +72,41 @@ impl Operator {
         Operator {
             joined: false,
             marks: vec![false; INDICATORS],
-            cabins: 0,
+            cabins: [0; YEARS],
             access_points: 0,
             income: 0,
             figures: vec![vec![0; FIGURES]; YEARS],
         }
     }
 
-    /// Cabins, access points and income, in the order of the filing's `which`.
+    pub fn setting(&self, setting: Setting) -> u128 {
+        match setting {
+            Setting::Cabins(year) => self.cabins[year],
+            Setting::AccessPoints => self.access_points,
+            Setting::Income => self.income,
+        }
+    }
+
+    /// Sets a value without any check.
+    pub fn put_setting(&mut self, setting: Setting, value: u128) {
+        match setting {
+            Setting::Cabins(year) => self.cabins[year] = value,
+            Setting::AccessPoints => self.access_points = value,
+            Setting::Income => self.income = value,
+        }
+    }
+
+    /// All settings, by number.
     pub fn settings(&self) -> [u128; SETTINGS] {
-        [self.cabins, self.access_points, self.income]
+        NUMBERED_SETTINGS.map(|setting| self.setting(setting))
     }
 
     /// Not joined, and every value is the fresh one.
     pub fn is_fresh(&self) -> bool {
         !self.joined
-            && self.settings() == [0; SETTINGS]
+            && self.cabins == [0; YEARS]
+            && self.access_points == 0
+            && self.income == 0
             && !self.marks.contains(&true)
             && self.figures == [[0; FIGURES]; YEARS]
     }
@@ -69,7 +117,7 @@ impl Operator {
             return self.is_fresh();
         }
         let year_in_range = |year: &Vec<u128>| year.iter().all(|&figure| figure <= MOST_FIGURE);
-        self.cabins <= MOST_CABINS
+        self.cabins.iter().all(|&cabins| cabins <= MOST_CABINS)
             && self.access_points <= MOST_ACCESS_POINTS
             && self.income <= MOST_INCOME
             && self.figures.iter().all(year_in_range)
@@ -169,7 +217,7 @@ mod tests {
             *operator = Operator {
                 joined: true,
                 marks: vec![true; INDICATORS],
-                cabins: 100_000,
+                cabins: [100_000; 3],
                 access_points: 4_000_000,
                 income: 100_000_000_000,
                 figures: vec![vec![100_000_000_000; 13]; 3],
@@ -200,7 +248,7 @@ mod tests {
         let fresh = Operator {
             joined: false,
             marks: vec![false; 6],
-            cabins: 0,
+            cabins: [0; 3],
             access_points: 0,
             income: 0,
             figures: vec![vec![0; 13]; 3],
@@ -211,6 +259,24 @@ mod tests {
         assert_eq!((book.pot_rate, book.cap_rate), (0, 0));
         assert_eq!(book.indices, vec![10_000; 4]);
         assert!(book.in_range());
+    }
+
+    #[test]
+    fn settings_by_number() {
+        let mut operator = Operator::fresh();
+        operator.cabins = [1, 2, 3];
+        operator.access_points = 4;
+        operator.income = 5;
+        // Cabins of year 0, access points, income, cabins of years 1 and 2.
+        assert_eq!(operator.settings(), [1, 4, 5, 2, 3]);
+        let mut other = Operator::fresh();
+        for (setting, value) in NUMBERED_SETTINGS.into_iter().zip([1, 4, 5, 2, 3]) {
+            other.put_setting(setting, value);
+        }
+        assert_eq!(other, operator);
+        let most = NUMBERED_SETTINGS.map(Setting::most);
+        let cabins = 100_000;
+        assert_eq!(most, [cabins, 4_000_000, 100_000_000_000, cabins, cabins]);
     }
 
     #[test]
@@ -236,7 +302,9 @@ mod tests {
     #[test]
     fn one_past_a_range() {
         let full = full();
-        out_of_range_with(&full, |operator| operator.cabins += 1);
+        for year in 0..3 {
+            out_of_range_with(&full, |operator| operator.cabins[year] += 1);
+        }
         out_of_range_with(&full, |operator| operator.access_points += 1);
         out_of_range_with(&full, |operator| operator.income += 1);
         for (year, figure) in figure_places() {
@@ -264,7 +332,9 @@ mod tests {
     #[test]
     fn other_values_of_an_operator_not_joined() {
         let fresh = Book::fresh();
-        out_of_range_with(&fresh, |operator| operator.cabins = 1);
+        for year in 0..3 {
+            out_of_range_with(&fresh, |operator| operator.cabins[year] = 1);
+        }
         out_of_range_with(&fresh, |operator| operator.access_points = 1);
         out_of_range_with(&fresh, |operator| operator.income = 1);
         for indicator in 0..6 {

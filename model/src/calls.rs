@@ -3,7 +3,7 @@
 
 use crate::book::{
     Book, FIGURES, FIRST_COUNT, INDICATORS, INDICES, LEAST_INDEX, MOST_FIGURE, MOST_INDEX,
-    MOST_RATE, MOST_SETTINGS, OPERATORS, YEARS,
+    MOST_RATE, NUMBERED_SETTINGS, OPERATORS, YEARS,
 };
 
 #[cfg(test)]
@@ -72,21 +72,18 @@ pub fn join(book: &mut Book, operator: u8) -> Answer {
     Answer::Yes
 }
 
-/// Sets cabins (`which` 0), active access points (1) or income (2).
+/// Sets cabins of year 0 (`which` 0), active access points (1), income (2) or
+/// cabins of years 1 and 2 (3 and 4).
 /// Follows 01: "the latest accepted value stands".
 pub fn setting(book: &mut Book, operator: u8, which: u8, value: u64) -> Answer {
+    let which = usize::from(which);
     let value = u128::from(value);
-    let most = MOST_SETTINGS.get(usize::from(which));
-    let in_range = most.is_some_and(|&most| value <= most);
+    let named = NUMBERED_SETTINGS.get(which);
+    let in_range = named.is_some_and(|setting| value <= setting.most());
     if let Some(number) = operator_refusal(book, operator, in_range) {
         return Answer::Refused(number);
     }
-    let operator = &mut book.operators[usize::from(operator)];
-    match which {
-        0 => operator.cabins = value,
-        1 => operator.access_points = value,
-        _ => operator.income = value,
-    }
+    book.operators[usize::from(operator)].put_setting(NUMBERED_SETTINGS[which], value);
     Answer::Yes
 }
 

@@ -447,6 +447,8 @@ mod tests {
             &[2, 0, 10, 15, 0, 0, 0, 0, 0, 0, 1, 134, 160],
             &[2, 0, 10, 15, 1, 0, 0, 0, 0, 0, 61, 9, 0],
             &[2, 0, 10, 15, 2, 0, 0, 0, 23, 72, 118, 232, 0],
+            &[2, 0, 10, 15, 3, 0, 0, 0, 0, 0, 0, 1, 2],
+            &[2, 0, 10, 15, 4, 0, 0, 0, 0, 0, 0, 3, 4],
             &[3, 0, 24, 15, 0, 0, 4],
             &[255, 255, 255, 255, 254, 30, 204, 128],
             &[0, 0, 0, 0, 0, 0, 0, 0],
@@ -458,7 +460,7 @@ mod tests {
     fn amount_of_eight_bytes() {
         let start = joined_and_set();
         let past_most = [4, 0, 12, 15, 2, 7, 0, 1, 2, 3, 4, 5, 6, 7, 8];
-        refused(&joined(&[&start, &past_most]), 8, start.len(), 5);
+        refused(&joined(&[&start, &past_most]), 8, start.len(), 7);
     }
 
     #[test]
@@ -474,7 +476,7 @@ mod tests {
         let mut expected = Book::fresh();
         let operator = &mut expected.operators[15];
         operator.joined = true;
-        operator.cabins = 100_000;
+        operator.cabins = [100_000, 258, 772];
         operator.access_points = 4_000_000;
         operator.income = 100_000_000_000;
         operator.figures[0][0] = 258;
@@ -485,7 +487,16 @@ mod tests {
         expected.pot_rate = 5000;
         expected.cap_rate = 10_000;
         expected.indices[3] = 100_000;
-        assert_eq!(taken(&filing, 10), expected);
+        assert_eq!(taken(&filing, 12), expected);
+    }
+
+    #[test]
+    fn setting_past_the_last() {
+        let field = |which: u8| [2, 0, 10, 0, which, 0, 0, 0, 0, 0, 0, 0, 1];
+        let book = taken(&joined(&[&JOIN_0, &field(4)]), 2);
+        assert_eq!(book.operators[0].cabins, [0, 0, 1]);
+        refused(&joined(&[&JOIN_0, &field(5)]), 5, 4, 1);
+        refused(&joined(&[&JOIN_0, &field(255)]), 5, 4, 1);
     }
 
     #[test]

@@ -2,6 +2,7 @@
 //! A filing depends on the seed and its number only; most of them settle.
 
 mod asked;
+mod cabins;
 mod counts;
 mod damage;
 mod draft;
@@ -43,17 +44,21 @@ pub enum Kind {
     NearlyAllMarked,
     /// Books that don't settle: 10, 11 and 12.
     Incomplete,
+    /// Cabins of a year or access points are missing: 11.
+    WithoutSize,
     /// Bytes cut, changed, added: 1, 2 and 3 above all.
     Damaged,
     /// A field that gets 4 to 9.
     Refused,
     /// A field that is refused because of a count.
     RefusedByCount,
+    /// A setting past its limit, or one that there is not.
+    RefusedSetting,
     /// About the longest filing that the program reads.
     Long,
 }
 
-const TURNS: [Kind; 23] = [
+const TURNS: [Kind; 25] = [
     Kind::Small,
     Kind::Wide,
     Kind::Ends,
@@ -77,6 +82,8 @@ const TURNS: [Kind; 23] = [
     Kind::LeftOut,
     Kind::RefusedByCount,
     Kind::LeftOut,
+    Kind::WithoutSize,
+    Kind::RefusedSetting,
 ];
 
 /// One filing in so many is a long one.
@@ -107,9 +114,11 @@ pub fn filing(seed: u64, number: u64) -> Vec<u8> {
     match kind {
         Kind::Mean => draft.mean(),
         Kind::Incomplete => draft.incomplete(),
+        Kind::WithoutSize => draft.without_size(),
         Kind::Damaged => return draft.damaged(),
         Kind::Refused => draft.refused(),
         Kind::RefusedByCount => draft.refused_by_count(),
+        Kind::RefusedSetting => draft.refused_setting(),
         Kind::Long => {
             let turn = number / LONG_TURN % LONG_LENGTHS.len() as u64;
             draft.long(LONG_LENGTHS[turn as usize]);

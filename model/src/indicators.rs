@@ -20,6 +20,7 @@ pub enum Kind {
 /// What a yearly value is divided by.
 #[derive(Clone, Copy, Debug, PartialEq, Eq)]
 pub enum Divisor {
+    /// Those of the same year.
     Cabins,
     AccessPoints,
     /// The figure with that number, of the same year.
@@ -109,7 +110,8 @@ pub fn yearly_value(
     let figures = &operator.figures[year];
     let mut dividend = indicator.factor * figures[indicator.figure];
     let mut divisor = match indicator.divisor {
-        Divisor::Cabins => operator.cabins,
+        // Follows 02, point 3: "A1 divides by the year's own."
+        Divisor::Cabins => operator.cabins[year],
         Divisor::AccessPoints => operator.access_points,
         Divisor::Figure(figure) => figures[figure],
     };
@@ -251,11 +253,12 @@ mod tests {
         [&figures[..], &[999; COUNTS]].concat()
     }
 
-    /// A joined operator with the given figures in year 0, all marks cleared.
+    /// A joined operator with the same cabins in every year and the given figures in
+    /// year 0, all marks cleared.
     fn operator(cabins: u128, access_points: u128, figures: [u128; 8]) -> Operator {
         let mut operator = Operator::fresh();
         operator.joined = true;
-        operator.cabins = cabins;
+        operator.cabins = [cabins; YEARS];
         operator.access_points = access_points;
         operator.figures[0] = year_of(figures);
         operator
@@ -338,6 +341,95 @@ mod tests {
             .map(|indicator| value_sum(indicator, &one, &indices))
             .collect();
         assert_eq!(sums, [3_300_000, 3000, 3_300_000, 3000, 175, 175]);
+    }
+
+    /// An operator with these cabins and MV weights by year; it has 10 access points
+    /// and an LV weight of 1 in each year.
+    fn network(cabins: [u128; 3], weights: [u128; 3]) -> Operator {
+        let mut one = operator(1, 10, [0; 8]);
+        one.cabins = cabins;
+        one.figures = weights
+            .map(|weight| year_of([weight, 0, 1, 0, 0, 0, 0, 0]))
+            .to_vec();
+        one
+    }
+
+    /// The yearly values at an indicator.
+    fn by_year(number: usize, operator: &Operator) -> [u128; 3] {
+        let indicator = &indicators()[number];
+        [0, 1, 2].map(|year| yearly_value(indicator, operator, year, &FRESH))
+    }
+
+    #[test]
+    fn a1_divides_by_the_cabins_of_its_year() {
+        // 5 / 100, 9 / 200 and 40 / 400. Divided by year 0's cabins it would be
+        // 50,000 + 90,000 + 400,000, with years 1 and 2 exchanged 50,000 + 22,500 +
+        // 200,000, with years 0 and 2 exchanged 12,500 + 45,000 + 400,000.
+        let one = network([100, 200, 400], [5, 9, 40]);
+        assert_eq!(by_year(0, &one), [50_000, 45_000, 100_000]);
+        assert_eq!(value_sum(&indicators()[0], &one, &FRESH), 195_000);
+        // A shrinking network: 40 / 400, 9 / 200 and 5 / 100 have the same sum.
+        let one = network([400, 200, 100], [40, 9, 5]);
+        assert_eq!(by_year(0, &one), [100_000, 45_000, 50_000]);
+        assert_eq!(value_sum(&indicators()[0], &one, &FRESH), 195_000);
+        // Rounded down by year: 2 / 3, 2 / 7 and 2 / 9; 666666.67, 285714.29 and
+        // 222222.22 would sum to 1174603.17.
+        let one = network([3, 7, 9], [2; 3]);
+        assert_eq!(by_year(0, &one), [666_666, 285_714, 222_222]);
+        assert_eq!(value_sum(&indicators()[0], &one, &FRESH), 1_174_602);
+    }
+
+    #[test]
+    fn a3_divides_by_the_access_points_in_every_year() {
+        // 1 / 10, whatever the cabins.
+        for cabins in [[1, 1, 1], [100, 200, 400], [400, 200, 100], [0, 0, 0]] {
+            let one = network(cabins, [5, 9, 40]);
+            assert_eq!(by_year(2, &one), [100_000; 3], "{cabins:?}");
+        }
+        // The weights may differ by year all the same: 1 / 10, 2 / 10, 4 / 10.
+        let mut one = network([100, 200, 400], [5, 9, 40]);
+        one.figures[1][2] = 2;
+        one.figures[2][2] = 4;
+        assert_eq!(by_year(2, &one), [100_000, 200_000, 400_000]);
+        assert_eq!(by_year(0, &one), [50_000, 45_000, 100_000]);
+    }
+
+    #[test]
+    fn only_a1_depends_on_the_cabins() {
+        let mut one = operator(3, 7, [2, 7, 5, 3, 11, 13, 23, 19]);
+        one.figures = vec![one.figures[0].clone(); 3];
+        let sums = |one: &Operator| -> Vec<u128> {
+            let list = indicators();
+            let sums = list
+                .iter()
+                .map(|indicator| value_sum(indicator, one, &FRESH));
+            sums.collect()
+        };
+        let before = sums(&one);
+        for year in 0..3 {
+            let mut other = one.clone();
+            other.cabins[year] = 4;
+            let after = sums(&other);
+            // 666,666 in two years, 500,000 in one.
+            assert_eq!((before[0], after[0]), (1_999_998, 1_833_332), "{year}");
+            assert_eq!(after[1..], before[1..], "{year}");
+        }
+    }
+
+    #[test]
+    fn a_year_without_cabins_gives_zero_alone() {
+        assert_eq!(
+            by_year(0, &network([0, 2, 4], [1; 3])),
+            [0, 500_000, 250_000]
+        );
+        assert_eq!(
+            by_year(0, &network([1, 0, 4], [1; 3])),
+            [1_000_000, 0, 250_000]
+        );
+        assert_eq!(
+            by_year(0, &network([1, 2, 0], [1; 3])),
+            [1_000_000, 500_000, 0]
+        );
     }
 
     #[test]

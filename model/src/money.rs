@@ -114,7 +114,7 @@ mod tests {
     fn operators(settings: &[(u128, u128)]) -> Vec<Operator> {
         let operator = |&(access_points, income): &(u128, u128)| Operator {
             joined: true,
-            cabins: 1,
+            cabins: [1; 3],
             access_points,
             income,
             ..Operator::fresh()

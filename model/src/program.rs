@@ -90,7 +90,13 @@ mod tests {
     use crate::script;
 
     /// An operator with its settings in, and no attestation.
-    const FRESHLY_JOINED: [&str; 3] = ["join 0", "setting 0 0 1", "setting 0 1 1"];
+    const FRESHLY_JOINED: [&str; 5] = [
+        "join 0",
+        "setting 0 0 1",
+        "setting 0 1 1",
+        "setting 0 3 1",
+        "setting 0 4 1",
+    ];
 
     /// The filing of text commands.
     fn encoded(commands: &[&str]) -> Vec<u8> {
@@ -134,6 +140,36 @@ mod tests {
     }
 
     #[test]
+    fn cabins_in_each_year() {
+        // At A1, where alone the marks are cleared, s is 50,000 + 45,000 + 100,000
+        // and 200,000; k is 975 and 1000. With settings 3 and 4 exchanged the first
+        // s would be 50,000 + 22,500 + 200,000.
+        let filing = encoded(&[
+            "join 0",
+            "setting 0 4 400",
+            "setting 0 3 200",
+            "setting 0 0 100",
+            "setting 0 1 1",
+            "amount 0 0 0 0 5",
+            "amount 0 1 0 0 9",
+            "amount 0 2 0 0 40",
+            "mark 0 0 0",
+            "join 1",
+            "setting 1 0 10",
+            "setting 1 1 1",
+            "setting 1 3 10",
+            "setting 1 4 10",
+            "amount 1 1 0 0 2",
+            "mark 1 0 0",
+        ]);
+        prints(
+            &filing,
+            "operator points out in adjustment\n\
+             0 23389 0 0 0\n1 22811 0 0 0\nall 46200 0 0 0\n",
+        );
+    }
+
+    #[test]
     fn missing_and_empty() {
         assert_eq!(printed(None), b"refused 10\n");
         assert_eq!(printed(Some(&[])), b"refused 10\n");
@@ -157,16 +193,20 @@ mod tests {
                 "interruption 9 0 0 4 100 300 3",
                 "amount 9 2 7 0 5",
                 "amount 2 0 6 0 8",
+                "setting 9 4 2",
                 "setting 9 2 4",
                 "setting 9 0 6",
+                "setting 2 3 3",
                 "setting 2 1 1",
             ],
             &[
                 "join 2",
                 "join 9",
                 "setting 2 1 1",
+                "setting 2 3 3",
                 "setting 9 0 6",
                 "setting 9 2 4",
+                "setting 9 4 2",
                 "amount 2 0 6 0 8",
                 "amount 9 0 0 0 3",
                 "amount 9 0 1 0 600",
@@ -193,10 +233,12 @@ mod tests {
             &[
                 "join 0",
                 "setting 0 2 7",
+                "setting 0 3 7",
                 "mark 0 1 0",
                 "amount 0 1 4 0 9",
                 "interruption 0 0 1 0 0 181 1",
                 "setting 0 2 0",
+                "setting 0 3 0",
                 "mark 0 1 1",
                 "amount 0 1 4 1 9",
                 "interruption 0 1 1 0 0 181 1",
@@ -291,6 +333,12 @@ mod tests {
         // Six marks without cabins and access points: the lower number.
         prints(&encoded(&["join 0"]), "refused 11\n");
         prints(&encoded(&FRESHLY_JOINED), "refused 12\n");
+        // All but one of the settings.
+        for missing in 1..5 {
+            let mut calls = FRESHLY_JOINED.to_vec();
+            calls.remove(missing);
+            prints(&encoded(&calls), "refused 11\n");
+        }
     }
 
     /// A freshly joined operator settles once this mark is cleared, and not once
@@ -324,6 +372,27 @@ mod tests {
         calls.retain(|call| !call.starts_with("mark"));
         assert_eq!(calls.len() + 12, case_m::calls().len());
         prints(&encoded(&calls), "refused 12\n");
+    }
+
+    #[test]
+    fn filing_with_cabins_of_year_0_alone() {
+        // Case M as it was before there were settings 3 and 4 is read, and settles
+        // no more.
+        let is_of_a_later_year = |call: &str| {
+            let words: Vec<&str> = call.split(' ').collect();
+            words[0] == "setting" && ["3", "4"].contains(&words[2])
+        };
+        let mut calls = case_m::calls();
+        calls.retain(|call| !is_of_a_later_year(call));
+        assert_eq!(calls.len() + 4, case_m::calls().len());
+        prints(&encoded(&calls), "refused 11\n");
+        // With the settings filed afterwards it is case M.
+        calls.extend(
+            case_m::calls()
+                .iter()
+                .filter(|call| is_of_a_later_year(call)),
+        );
+        prints(&encoded(&calls), case_m::PRINTED);
     }
 
     #[test]

@@ -50,11 +50,11 @@ mod tests {
     use crate::generator;
     use crate::script;
 
-    /// A joined operator with one cabin, all marks cleared.
+    /// A joined operator with one cabin in every year, all marks cleared.
     fn operator(access_points: u128, income: u128) -> Operator {
         Operator {
             joined: true,
-            cabins: 1,
+            cabins: [1; 3],
             access_points,
             income,
             ..Operator::fresh()
@@ -126,12 +126,14 @@ mod tests {
         refuses(&book, 10);
         book.operators[15].joined = true;
         refuses(&book, 11);
-        book.operators[15].cabins = 1;
-        refuses(&book, 11);
+        for year in 0..3 {
+            book.operators[15].cabins[year] = 1;
+            refuses(&book, 11);
+        }
         book.operators[15].access_points = 1;
         book.operators[15].marks = vec![true; 6];
         refuses(&book, 12);
-        book.operators[15].cabins = 0;
+        book.operators[15].cabins[2] = 0;
         refuses(&book, 11);
         book.operators[0].marks[0] = true;
         refuses(&book, 5);

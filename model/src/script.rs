@@ -2,7 +2,8 @@
 //! values put into the book, and the book, its settlement or a sheet of it printed
 //! on one line.
 
-use crate::book::{Book, Operator, FIGURES, INDICATORS, INDICES, OPERATORS, YEARS};
+use crate::book::{Book, Operator, NUMBERED_SETTINGS};
+use crate::book::{FIGURES, INDICATORS, INDICES, OPERATORS, SETTINGS, YEARS};
 use crate::calls::{Answer, Interruption, Reason};
 use crate::filing::{self, Field};
 use crate::numbers::{number, signed_number};
@@ -151,7 +152,7 @@ fn store(book: &mut Book, words: &[&str]) -> Result<(), String> {
             let [_, indicator, mask] = after(words)?;
             book.put_mark_mask(place(indicator, INDICATORS)?, number(mask)?);
         }
-        Some("cabins" | "access" | "income") => store_setting(book, words)?,
+        Some("setting") => store_setting(book, words)?,
         Some("figure") => store_figure(book, words)?,
         Some("pot") => {
             let [_, rate] = after(words)?;
@@ -173,14 +174,10 @@ fn store(book: &mut Book, words: &[&str]) -> Result<(), String> {
 }
 
 fn store_setting(book: &mut Book, words: &[&str]) -> Result<(), String> {
-    let [which, operator, value] = after(words)?;
+    let [_, operator, which, value] = after(words)?;
     let operator = &mut book.operators[place(operator, OPERATORS)?];
-    let setting = match which {
-        "cabins" => &mut operator.cabins,
-        "access" => &mut operator.access_points,
-        _ => &mut operator.income,
-    };
-    *setting = u128::from(number::<u64>(value)?);
+    let setting = NUMBERED_SETTINGS[place(which, SETTINGS)?];
+    operator.put_setting(setting, u128::from(number::<u64>(value)?));
     Ok(())
 }
 
@@ -331,6 +328,9 @@ mod tests {
             ("setting 2 0 7", "yes"),
             ("setting 2 1 8", "yes"),
             ("setting 2 2 9", "yes"),
+            ("setting 2 3 5", "yes"),
+            ("setting 2 4 6", "yes"),
+            ("setting 15 4 3", "yes"),
             ("amount 2 0 0 0 11", "yes"),
             ("amount 2 0 7 0 12", "yes"),
             ("amount 2 1 0 0 13", "yes"),
@@ -348,7 +348,7 @@ mod tests {
             (
                 "show",
                 "32772 5000 10000 | 0:4 1:32772 2:32772 3:32772 4:32772 5:32768 \
-                 | 0:1 1:10000 2:10000 3:4 | 6:7 7:8 8:9 \
+                 | 0:1 1:10000 2:10000 3:4 | 10:7 11:8 12:9 13:5 14:6 79:3 \
                  | 78:11 85:12 86:15 90:16 91:13 111:14 116:17",
             ),
         ]);
@@ -359,9 +359,12 @@ mod tests {
         let book = run(&[
             ("store joined 3", STORED),
             ("store marks 4 65535", STORED),
-            ("store cabins 1 18446744073709551615", STORED),
-            ("store access 1 2", STORED),
-            ("store income 1 3", STORED),
+            ("store setting 1 0 18446744073709551615", STORED),
+            ("store setting 1 1 2", STORED),
+            ("store setting 1 2 3", STORED),
+            ("store setting 1 3 7", STORED),
+            ("store setting 1 4 8", STORED),
+            ("store setting 15 4 18446744073709551615", STORED),
             ("store figure 1 2 7 4", STORED),
             ("store figure 14 0 0 5", STORED),
             ("store figure 14 1 12 18446744073709551615", STORED),
@@ -377,7 +380,8 @@ mod tests {
         for k in 0..16 {
             expected.operators[k].marks[4] = true;
         }
-        expected.operators[1].cabins = 18_446_744_073_709_551_615;
+        expected.operators[1].cabins = [18_446_744_073_709_551_615, 7, 8];
+        expected.operators[15].cabins = [0, 0, 18_446_744_073_709_551_615];
         expected.operators[1].access_points = 2;
         expected.operators[1].income = 3;
         expected.operators[1].figures[2][7] = 4;
@@ -393,20 +397,28 @@ mod tests {
     fn all_operators_are_shown() {
         run(&[
             (
-                "store cabins 1 5",
-                "0 0 0 | | 0:10000 1:10000 2:10000 3:10000 | 3:5 |",
+                "store setting 1 0 5",
+                "0 0 0 | | 0:10000 1:10000 2:10000 3:10000 | 5:5 |",
             ),
             (
                 "store marks 3 8",
-                "0 0 0 | 3:8 | 0:10000 1:10000 2:10000 3:10000 | 3:5 |",
+                "0 0 0 | 3:8 | 0:10000 1:10000 2:10000 3:10000 | 5:5 |",
             ),
             (
                 "store figure 15 2 12 6",
-                "0 0 0 | 3:8 | 0:10000 1:10000 2:10000 3:10000 | 3:5 | 623:6",
+                "0 0 0 | 3:8 | 0:10000 1:10000 2:10000 3:10000 | 5:5 | 623:6",
             ),
             (
                 "store joined 2",
-                "2 0 0 | 3:8 | 0:10000 1:10000 2:10000 3:10000 | 3:5 | 623:6",
+                "2 0 0 | 3:8 | 0:10000 1:10000 2:10000 3:10000 | 5:5 | 623:6",
+            ),
+            (
+                "store setting 15 4 7",
+                "2 0 0 | 3:8 | 0:10000 1:10000 2:10000 3:10000 | 5:5 79:7 | 623:6",
+            ),
+            (
+                "store setting 15 4 0",
+                "2 0 0 | 3:8 | 0:10000 1:10000 2:10000 3:10000 | 5:5 | 623:6",
             ),
         ]);
     }
@@ -468,9 +480,13 @@ mod tests {
             ("join 15", "yes"),
             ("setting 15 0 1", "yes"),
             ("setting 15 1 1", "yes"),
+            ("setting 15 3 1", "yes"),
+            ("setting 15 4 1", "yes"),
             ("join 2", "yes"),
             ("setting 2 0 1", "yes"),
             ("setting 2 1 1", "yes"),
+            ("setting 2 3 1", "yes"),
+            ("setting 2 4 1", "yes"),
             ("mark 2 0 0", "yes"),
             ("mark 15 0 0", "yes"),
             ("mark 15 5 0", "yes"),
@@ -490,6 +506,10 @@ mod tests {
             ("setting 3 0 1", "yes"),
             ("settle", "refused 11 0 | | | | | |"),
             ("setting 3 1 1", "yes"),
+            ("settle", "refused 11 0 | | | | | |"),
+            ("setting 3 4 1", "yes"),
+            ("settle", "refused 11 0 | | | | | |"),
+            ("setting 3 3 1", "yes"),
             ("settle", "refused 12 0 | | | | | |"),
             ("mark 3 4 0", "yes"),
             ("settle", "yes 0 | 4:6000 | 67:6000 | | | |"),
@@ -500,7 +520,7 @@ mod tests {
         ]);
         let mut expected = Book::fresh();
         expected.operators[3].joined = true;
-        expected.operators[3].cabins = 1;
+        expected.operators[3].cabins = [1; 3];
         expected.operators[3].access_points = 1;
         expected.operators[3].marks = vec![true; 6];
         expected.indices[0] = 0;
@@ -519,10 +539,14 @@ mod tests {
             ("index 0 5", "refused 5"),
             ("store joined 1", STORED),
             ("index 0 5", "yes"),
-            ("store cabins 1 1", STORED),
+            ("store setting 1 3 1", STORED),
             ("index 0 6", "refused 5"),
             ("store joined 3", STORED),
             ("index 0 6", "yes"),
+            ("store setting 1 4 100001", STORED),
+            ("index 0 7", "refused 5"),
+            ("store setting 1 4 100000", STORED),
+            ("index 0 7", "yes"),
         ]);
     }
 
@@ -615,10 +639,19 @@ mod tests {
         "store joined 0 0",
         "store marks 6 0",
         "store marks 0 65536",
-        "store cabins 16 0",
-        "store access 16 0",
-        "store income 16 0",
-        "store cabins 0 18446744073709551616",
+        "store setting",
+        "store setting 0",
+        "store setting 0 0",
+        "store setting 0 0 0 0",
+        "store setting 16 0 0",
+        "store setting 0 5 0",
+        "store setting 0 255 0",
+        "store setting 0 4 18446744073709551616",
+        "store setting 0 -1 0",
+        "store cabins 0 0",
+        "store access 0 0",
+        "store income 0 0",
+        "store cabins 0 0 0",
         "store figure 0 3 0 0",
         "store figure 0 0 13 0",
         "store figure 16 0 0 0",

@@ -39,14 +39,16 @@ pub fn settle(book: &Book) -> (Answer, Settlement) {
 }
 
 /// The number by which settling is refused, if any.
-/// Follows 01's table of answers, numbers 5, 10, 11 and 12.
+/// Follows 01's table of answers, numbers 5, 10, 11 and 12; and for the cabins 02,
+/// point 3: "Refusal 11 is given if any of the three is 0." Marks don't matter to it.
 pub fn refusal(book: &Book) -> Option<u8> {
     let joined: Vec<&Operator> = book
         .operators
         .iter()
         .filter(|operator| operator.joined)
         .collect();
-    let without_size = |operator: &&Operator| operator.cabins == 0 || operator.access_points == 0;
+    let without_size =
+        |operator: &&Operator| operator.cabins.contains(&0) || operator.access_points == 0;
     let all_marked = |operator: &&Operator| !operator.marks.contains(&false);
     lowest(&[
         (5, !book.in_range()),

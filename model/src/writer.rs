@@ -24,7 +24,8 @@ pub fn written(book: &Book) -> Vec<u8> {
 /// amounts, marks (by operator, then year, then which, figure or indicator),
 /// indices, rates (one field if either isn't 0); amounts with sign 0". All joins
 /// come before all settings, these before all amounts, and so on. Of the marks
-/// 02, point 1, decides which are written.
+/// 02, point 1, decides which are written; point 3 has it that "an operator's
+/// settings are written by number".
 pub fn fields(book: &Book) -> Vec<Field> {
     [
         by_operator(book, joins),
@@ -143,7 +144,7 @@ mod tests {
         Operator {
             joined: true,
             marks: vec![false; 6],
-            cabins: 1 + k,
+            cabins: [1 + k, 1001 + k, 2001 + k],
             access_points: 4_000_000 - k,
             income: 100_000_000_000 - k,
             figures: (0..3).map(year).collect(),
@@ -189,8 +190,8 @@ mod tests {
     /// Reading the written filing gives the book back, which is written the same.
     fn round_trip(book: &Book) {
         let filing = written(book);
-        // Follows 02, point 2: "the most a writer needs grows to 10,667 bytes".
-        assert!(filing.len() <= 10_667);
+        // Follows 02, point 3: "The most a writer needs grows to 11,083 bytes."
+        assert!(filing.len() <= 11_083);
         let mut again = Book::fresh();
         let reading = read(&mut again, &filing);
         assert_eq!(reading.refusal, None);
@@ -245,7 +246,7 @@ mod tests {
     fn some_operator() -> Operator {
         let mut operator = Operator::fresh();
         operator.joined = true;
-        operator.cabins = 1;
+        operator.cabins = [1, 4, 5];
         operator.access_points = 2;
         operator.income = 3;
         operator.figures[0][7] = 4;
@@ -258,10 +259,10 @@ mod tests {
         operator
     }
 
-    /// The bytes of its settings.
+    /// The bytes of its settings, which are by number 1, 2, 3, 4 and 5.
     fn some_settings(operator: u8) -> Vec<u8> {
         let setting = |which: u8| [2, 0, 10, operator, which, 0, 0, 0, 0, 0, 0, 0, which + 1];
-        [setting(0), setting(1), setting(2)].concat()
+        [0, 1, 2, 3, 4].map(setting).concat()
     }
 
     /// The bytes of its amounts.
@@ -305,6 +306,41 @@ mod tests {
         round_trip(&book);
     }
 
+    /// Operator 3 with these settings by number is written as its join and these of
+    /// its settings.
+    fn writes_settings(settings: [u128; 5], written: &[u8]) {
+        let mut operator = Operator::fresh();
+        operator.joined = true;
+        operator.marks = vec![true; 6];
+        operator.cabins = [settings[0], settings[3], settings[4]];
+        operator.access_points = settings[1];
+        operator.income = settings[2];
+        let mut book = Book::fresh();
+        book.operators[3] = operator;
+        let field = |which: u8| {
+            let value = settings[usize::from(which)] as u64;
+            [&[2, 0, 10, 3, which][..], &value.to_be_bytes()].concat()
+        };
+        let fields: Vec<u8> = written.iter().flat_map(|&which| field(which)).collect();
+        writes(&book, &[&[1, 0, 1, 3], &fields[..]].concat());
+        round_trip(&book);
+    }
+
+    #[test]
+    fn only_settings_above_0_are_written() {
+        writes_settings([0; 5], &[]);
+        for which in 0..5 {
+            let place = usize::from(which);
+            let mut alone = [0; 5];
+            alone[place] = 100_000;
+            writes_settings(alone, &[which]);
+            let mut missing = [1, 2, 3, 4, 5];
+            missing[place] = 0;
+            let others: Vec<u8> = (0..5).filter(|&other| other != which).collect();
+            writes_settings(missing, &others);
+        }
+    }
+
     /// The rates are written as these bytes after tag and length.
     fn writes_rates(pot: u128, cap: u128, content: [u8; 8]) {
         let mut book = Book::fresh();
@@ -323,29 +359,31 @@ mod tests {
 
     #[test]
     fn longest_filing() {
-        // 16 joins, 48 settings, 624 amounts, 96 cleared marks, 4 indices and the
-        // rates.
+        // 16 joins of 4 bytes, 80 settings of 13, 624 amounts of 15, 96 cleared
+        // marks of 6, 4 indices of 8 and the rates of 11.
         let book = full();
         assert!(book.in_range());
-        assert_eq!(fields(&book).len(), 16 + 48 + 624 + 96 + 4 + 1);
+        assert_eq!(fields(&book).len(), 16 + 80 + 624 + 96 + 4 + 1);
         let filing = written(&book);
-        assert_eq!(filing.len(), 10_667);
+        assert_eq!(filing.len(), 11_083);
         writes(&book, &filing);
         round_trip(&book);
         // Any value back at its fresh one, and any mark set again, makes it shorter.
         let mut other = book.clone();
         other.indices[2] = 10_000;
-        assert_eq!(written(&other).len(), 10_667 - 8);
+        assert_eq!(written(&other).len(), 11_083 - 8);
         other.operators[3].marks[2] = true;
-        assert_eq!(written(&other).len(), 10_667 - 8 - 6);
+        assert_eq!(written(&other).len(), 11_083 - 8 - 6);
         other.operators[15].figures[2][12] = 0;
-        assert_eq!(written(&other).len(), 10_667 - 8 - 6 - 15);
+        assert_eq!(written(&other).len(), 11_083 - 8 - 6 - 15);
         other.operators[0].income = 0;
-        assert_eq!(written(&other).len(), 10_667 - 8 - 6 - 15 - 13);
+        assert_eq!(written(&other).len(), 11_083 - 8 - 6 - 15 - 13);
+        other.operators[15].cabins[2] = 0;
+        assert_eq!(written(&other).len(), 11_083 - 8 - 6 - 15 - 26);
         other.pot_rate = 0;
-        assert_eq!(written(&other).len(), 10_667 - 8 - 6 - 15 - 13);
+        assert_eq!(written(&other).len(), 11_083 - 8 - 6 - 15 - 26);
         other.cap_rate = 0;
-        assert_eq!(written(&other).len(), 10_667 - 8 - 6 - 15 - 13 - 11);
+        assert_eq!(written(&other).len(), 11_083 - 8 - 6 - 15 - 26 - 11);
         round_trip(&other);
     }
 
@@ -355,12 +393,12 @@ mod tests {
         for operator in &mut book.operators {
             operator.marks = vec![true; 6];
         }
-        assert_eq!(written(&book).len(), 10_667 - 96 * 6);
+        assert_eq!(written(&book).len(), 11_083 - 96 * 6);
         round_trip(&book);
     }
 
     fn refuses_every_buffer(book: &Book) {
-        for length in [0, 3, 10_666, 10_667, 12_000] {
+        for length in [0, 3, 11_082, 11_083, 12_000] {
             leaves_buffer(book, length, 5);
         }
     }
@@ -369,6 +407,8 @@ mod tests {
     fn book_out_of_range() {
         let mut past = full();
         past.operators[15].figures[2][12] = 100_000_000_001;
+        let mut past_cabins = full();
+        past_cabins.operators[15].cabins[2] = 100_001;
         let mut not_joined = full();
         not_joined.operators[15].joined = false;
         let mut marked = Book::fresh();
@@ -376,6 +416,7 @@ mod tests {
         let mut index = Book::fresh();
         index.indices[0] = 0;
         refuses_every_buffer(&past);
+        refuses_every_buffer(&past_cabins);
         refuses_every_buffer(&not_joined);
         refuses_every_buffer(&marked);
         refuses_every_buffer(&index);

@@ -19,12 +19,31 @@ fn one_book_is_kept_over_the_commands() {
 
 #[test]
 fn settling_leaves_the_book() {
-    let input = "settle\njoin 7\nsetting 7 0 1\nsetting 7 1 1\nsettle\n\
+    let input =
+        "settle\njoin 7\nsetting 7 0 1\nsetting 7 1 1\nsetting 7 3 1\nsetting 7 4 1\nsettle\n\
         mark 7 0 0\nmark 7 5 0\nsettle\nsettle\njoin 7\n";
     let none = "0 | | | | | |\n";
     let settled = "yes 0 | 0:46200 5:1500 | 7:46200 87:1500 | | | |\n";
-    let refused = format!("refused 10 {none}yes\nyes\nyes\nrefused 12 {none}");
+    let refused = format!("refused 10 {none}{}refused 12 {none}", "yes\n".repeat(5));
     let output = format!("{refused}yes\nyes\n{settled}{settled}refused 6\n");
+    assert_eq!(run(input), (0, output, String::new()));
+}
+
+#[test]
+fn stored_settings_are_shown_by_number() {
+    let input = "store setting 1 0 7\nstore setting 1 3 8\nstore setting 1 4 9\n\
+        store setting 1 1 5\nstore setting 1 2 6\nshow\n";
+    let start = "0 0 0 | | 0:10000 1:10000 2:10000 3:10000";
+    let output: String = [
+        "5:7",
+        "5:7 8:8",
+        "5:7 8:8 9:9",
+        "5:7 6:5 8:8 9:9",
+        "5:7 6:5 7:6 8:8 9:9",
+        "5:7 6:5 7:6 8:8 9:9",
+    ]
+    .map(|settings| format!("{start} | {settings} |\n"))
+    .concat();
     assert_eq!(run(input), (0, output, String::new()));
 }
 

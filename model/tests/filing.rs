@@ -20,7 +20,7 @@ fn done(output: impl Into<Vec<u8>>) -> (i32, Vec<u8>, Vec<u8>) {
 #[test]
 fn case_m_from_commands_to_print() {
     let (status, filing, _) = run(&["encode"], case_m::calls().join("\n").as_bytes());
-    assert_eq!((status, filing.len()), (0, 199));
+    assert_eq!((status, filing.len()), (0, 251));
     let file = folder("case_m").join("filing.q");
     fs::write(&file, &filing).unwrap();
     let file = file.to_str().unwrap();
@@ -29,7 +29,9 @@ fn case_m_from_commands_to_print() {
     // Rewritten: the settings by operator. Once more: the same bytes.
     let by_operator = b"join 0\njoin 1\n\
         setting 0 0 100\nsetting 0 1 1000\nsetting 0 2 100000000\n\
+        setting 0 3 100\nsetting 0 4 100\n\
         setting 1 0 100\nsetting 1 1 3000\nsetting 1 2 200000000\n\
+        setting 1 3 100\nsetting 1 4 100\n\
         amount 1 0 4 0 50000\namount 1 0 5 0 100\n\
         mark 0 0 0\nmark 0 1 0\nmark 0 2 0\nmark 0 3 0\nmark 0 4 0\nmark 0 5 0\n\
         mark 1 0 0\nmark 1 1 0\nmark 1 2 0\nmark 1 3 0\nmark 1 4 0\nmark 1 5 0\n\
@@ -124,7 +126,7 @@ fn refused_files() {
 /// differs from the fresh one, in the order of the writer.
 fn largest_book() -> Vec<String> {
     let joins = (0..16).map(|operator| format!("join {operator}"));
-    let settings = places(&[16, 3]).map(|place| format!("setting {place} 1"));
+    let settings = places(&[16, 5]).map(|place| format!("setting {place} 1"));
     let amounts = places(&[16, 3, 13]).map(|place| format!("amount {place} 0 1"));
     let marks = places(&[16, 6]).map(|place| format!("mark {place} 0"));
     let indices = (0..4).map(|number| format!("index {number} 1"));
@@ -154,7 +156,7 @@ fn places(counts: &[u32]) -> impl Iterator<Item = String> {
 fn largest_book_is_rewritten() {
     let calls = largest_book();
     let (_, expected, _) = run(&["encode"], calls.join("\n").as_bytes());
-    assert_eq!(expected.len(), 10_667);
+    assert_eq!(expected.len(), 11_083);
     // The joins, then the other calls from the last to the first.
     let others = calls[16..].iter().rev();
     let turned: Vec<String> = calls[..16].iter().chain(others).cloned().collect();

@@ -4,7 +4,7 @@
 #[path = "../src/case_m.rs"]
 mod case_m;
 
-use model::book::{Book, Operator, INDICATORS, OPERATORS};
+use model::book::{Book, Operator, INDICATORS, NUMBERED_SETTINGS, OPERATORS, YEARS};
 use model::calls::{self, Answer};
 use model::indicators::{indicators, points, value_sum, Kind, Points};
 use model::money::{money, Money};
@@ -14,6 +14,8 @@ use model::script;
 use model::settlement::{settle, Settlement};
 
 const MOST: u128 = 100_000_000_000;
+/// Access points, and the cabins of each year.
+const SIZE_SETTINGS: [u8; 4] = [0, 1, 3, 4];
 
 /// Settles a book that must not be refused, and checks the sums.
 fn settled(book: &Book) -> Settlement {
@@ -158,11 +160,12 @@ fn check_adjustment(cut: i128, adjustment: i128, surplus: i128) {
     assert!(cut * surplus > 0 || adjustment == cut);
 }
 
-/// A joined operator without interruptions and fees, all marks cleared.
+/// A joined operator with the same cabins in every year, without interruptions and
+/// fees, all marks cleared.
 fn operator(cabins: u128, access_points: u128, income: u128) -> Operator {
     let mut operator = Operator::fresh();
     operator.joined = true;
-    operator.cabins = cabins;
+    operator.cabins = [cabins; YEARS];
     operator.access_points = access_points;
     operator.income = income;
     operator
@@ -243,8 +246,9 @@ fn freshly_joined(operators: &[u8]) -> Book {
     let mut book = Book::fresh();
     for &k in operators {
         assert_eq!(calls::join(&mut book, k), Answer::Yes);
-        assert_eq!(calls::setting(&mut book, k, 0, 1), Answer::Yes);
-        assert_eq!(calls::setting(&mut book, k, 1, 1), Answer::Yes);
+        for which in SIZE_SETTINGS {
+            assert_eq!(calls::setting(&mut book, k, which, 1), Answer::Yes);
+        }
     }
     book
 }
@@ -276,7 +280,7 @@ fn freshly_joined_operators_meet_12_until_one_mark_is_cleared() {
 }
 
 /// Case M with one of its operators altered.
-fn case_m_with(k: usize, alter: fn(&mut Operator)) -> Book {
+fn case_m_with(k: usize, alter: impl Fn(&mut Operator)) -> Book {
     let mut book = case_m();
     alter(&mut book.operators[k]);
     book
@@ -293,6 +297,65 @@ fn needs_size(k: usize) {
 #[test]
 fn refusal_11_is_for_any_joined_operator() {
     [0, 1, 15].into_iter().for_each(needs_size);
+}
+
+/// The book is refused by 11 while one setting of an operator is 0, whatever its
+/// other settings are.
+fn needs_setting(book: &Book, k: u8, which: u8) {
+    let mut without = book.clone();
+    assert_eq!(calls::setting(&mut without, k, which, 0), Answer::Yes);
+    refuses(&without, 11);
+    let setting = NUMBERED_SETTINGS[usize::from(which)];
+    let value = book.operators[usize::from(k)].setting(setting) as u64;
+    assert_eq!(calls::setting(&mut without, k, which, value), Answer::Yes);
+    assert_eq!(settled(&without), settled(book));
+}
+
+/// The same for each of the four settings that every operator needs, and for either
+/// operator of a book that has two.
+fn needs_four_settings(book: &Book) {
+    for (k, which) in (0..2).flat_map(|k| SIZE_SETTINGS.map(|which| (k, which))) {
+        needs_setting(book, k, which);
+    }
+}
+
+#[test]
+fn refusal_11_is_for_each_of_the_four_settings() {
+    needs_four_settings(&case_m());
+    // An income of 0 settles.
+    let mut book = case_m();
+    assert_eq!(calls::setting(&mut book, 0, 2, 0), Answer::Yes);
+    settled(&book);
+}
+
+#[test]
+fn refusal_11_is_for_marked_operators_too() {
+    // Marked at A1, which alone divides by the cabins; at A1 and A3; at every
+    // indicator but the last; at every one, which the other operator is not.
+    for marked in [&[0][..], &[0, 2], &[0, 1, 2, 3, 4], &[0, 1, 2, 3, 4, 5]] {
+        for k in 0..2 {
+            let mut book = case_m();
+            for &indicator in marked {
+                assert_eq!(calls::mark(&mut book, k, indicator, 1), Answer::Yes);
+            }
+            needs_four_settings(&book);
+        }
+    }
+    // Everyone is marked at A1.
+    let mut book = case_m();
+    assert_eq!(calls::mark(&mut book, 0, 0, 1), Answer::Yes);
+    assert_eq!(calls::mark(&mut book, 1, 0, 1), Answer::Yes);
+    needs_four_settings(&book);
+}
+
+#[test]
+fn refusal_11_needs_no_figures() {
+    // No year of case M has an interruption, so that A1 is 0 without cabins as well.
+    for year in 0..YEARS {
+        refuses(&case_m_with(1, |one| one.cabins[year] = 0), 11);
+    }
+    refuses(&case_m_with(1, |one| one.cabins = [100, 0, 0]), 11);
+    refuses(&case_m_with(1, |one| one.cabins = [0, 100, 100]), 11);
 }
 
 /// Case M with all marks but those of these operators at these indicators.
@@ -326,7 +389,10 @@ fn refusal_5_comes_first() {
     is_out_of_range(|book| book.pot_rate = 20_001);
     is_out_of_range(|book| book.cap_rate = 20_001);
     is_out_of_range(|book| book.indices[3] = 0);
-    is_out_of_range(|book| book.operators[0].cabins = 100_001);
+    is_out_of_range(|book| book.operators[0].cabins[0] = 100_001);
+    is_out_of_range(|book| book.operators[1].cabins[1] = 100_001);
+    is_out_of_range(|book| book.operators[1].cabins[2] = 100_001);
+    is_out_of_range(|book| book.operators[9].cabins[2] = 1);
     is_out_of_range(|book| book.operators[1].figures[2][7] = MOST + 1);
     is_out_of_range(|book| book.operators[9].marks[0] = true);
     is_out_of_range(|book| book.operators[9].income = 1);
@@ -355,6 +421,11 @@ fn two_refusals_at_once() {
     refuses(&book, 11);
     // 5, 11 and 12.
     book.pot_rate = 20_001;
+    refuses(&book, 5);
+    // 5 and 11, both by the cabins.
+    let mut book = Book::fresh();
+    book.operators[4] = operator(1, 1, 0);
+    book.operators[4].cabins = [1, 0, 100_001];
     refuses(&book, 5);
 }
 
@@ -439,6 +510,57 @@ fn interruptions_by_hand() {
             [12_600, 6600, 5400, 2000, 500]
         );
     }
+}
+
+/// An operator with these cabins and MV weights by year.
+fn network(cabins: [u128; 3], weights: [u128; 3]) -> Operator {
+    let mut one = operator(1, 1, 0);
+    one.cabins = cabins;
+    for (year, weight) in weights.into_iter().enumerate() {
+        one.figures[year][0] = weight;
+    }
+    one
+}
+
+/// The points at A1 of the first operators, which are these.
+fn points_at_a1<const COUNT: usize>(operators: [Operator; COUNT]) -> [u128; COUNT] {
+    let mut book = Book::fresh();
+    book.operators.splice(..COUNT, operators);
+    let points = settled(&book).points.points;
+    std::array::from_fn(|k| points[k][0])
+}
+
+#[test]
+fn networks_that_grow_and_shrink_by_hand() {
+    // 5 / 100, 9 / 200, 40 / 400; the same backwards; 195 / 1000: s is 195,000 for
+    // each, so that nobody is better. Divided by year 0's cabins s would be 540,000,
+    // 135,000 and 195,000; with years 1 and 2 exchanged 272,500, 217,500 and 195,000.
+    let alike = points_at_a1([
+        network([100, 200, 400], [5, 9, 40]),
+        network([400, 200, 100], [40, 9, 5]),
+        network([1000; 3], [195, 0, 0]),
+    ]);
+    assert_eq!(alike, [15_400; 3]);
+    // s is 195,000 and 200,000; k is 975 and 1000; the first is better. The weights
+    // are 377,008,091 and 367,695,116: 46200 × 377008091 / 744703207 = 23388.88.
+    let nearly = points_at_a1([
+        network([100, 200, 400], [5, 9, 40]),
+        network([10; 3], [0, 2, 0]),
+    ]);
+    assert_eq!(nearly, [23_389, 22_811]);
+}
+
+#[test]
+fn cabins_of_a_year_without_interruptions_do_not_matter() {
+    let one = |cabins: [u128; 3]| {
+        points_at_a1([network(cabins, [0, 9, 0]), network([200, 50, 7], [0, 0, 1])])
+    };
+    // 9 / 200 = 45,000 and 1 / 7 = 142,857.
+    let expected = one([200; 3]);
+    assert!(expected[0] > expected[1]);
+    assert_eq!(one([1, 200, 100_000]), expected);
+    assert_eq!(one([100_000, 200, 1]), expected);
+    assert_ne!(one([200, 2, 200]), expected);
 }
 
 /// Everyone is marked at one indicator: nobody has points there.
@@ -760,6 +882,11 @@ fn random_operator(random: &mut Random, alike: bool, marked: u64) -> Operator {
         uneven(random, 3_999_999) + 1,
         uneven(random, MOST as u64),
     );
+    // The cabins of years 1 and 2 differ from those of year 0, mostly.
+    if !alike {
+        one.cabins[1] = uneven(random, 99_999) + 1;
+        one.cabins[2] = uneven(random, 99_999) + 1;
+    }
     let most = if alike { 1 } else { MOST as u64 };
     for figure in one.figures.iter_mut().flatten() {
         *figure = uneven(random, most);

@@ -4,7 +4,7 @@ use Prim.Native.Nat.{ℕ, _≤_}
 use mathlib.Core.Path.{_≡_, refl, sym, ap, _∙_}
 use mathlib.Core.List.{List, [], _∷_, map}
 use native.Mathlib.Omega.{arith}
-use lib.IntN.{pos, negℤ}
+use lib.IntN.{ℤ, pos, negℤ}
 use lib.ListN.{length, take}
 use Rattle.calls.specs.Limits.{years}
 use Rattle.values.specs.Operators.{table}
@@ -73,13 +73,20 @@ output-m : outputOf filingM ≡ linesM
 unfolding outputOf printedOf readingText settlementText onAnswer
 output-m = rw (read-m, settles-m) printed-m
 
--- M with cap rate 50
-cut-applied : take 2 (settled (appliedFrom freshBook (caseM 50)) .settlement .adjustments) ≡ pos 5000 ∷ negℤ (pos 5000) ∷ []
-unfolding output-opened appliedFrom
-cut-applied = refl
+-- M with cap rate 50, and the two networks: what two operators are adjusted by
+abbrev adjusted : Book → List ℤ
+adjusted b = take 2 (settled b .settlement .adjustments)
 
-cut-m : take 2 (settled (bookOf (caseM 50)) .settlement .adjustments) ≡ pos 5000 ∷ negℤ (pos 5000) ∷ []
-cut-m = ap (λ (b : Book). take 2 (settled b .settlement .adjustments)) (book-of (caseM 50)) ∙ cut-applied
+adjusted-after : {amounts : List ℤ} (calls : List Call) → adjusted (appliedFrom freshBook calls) ≡ amounts → adjusted (bookOf calls) ≡ amounts
+adjusted-after calls same = ap adjusted (book-of calls) ∙ same
+
+cut-m : adjusted (bookOf (caseM 50)) ≡ pos 5000 ∷ negℤ (pos 5000) ∷ []
+unfolding output-opened appliedFrom
+cut-m = adjusted-after (caseM 50) refl
+
+adjusted-grown : adjusted (bookOf growing) ≡ negℤ (pos 70762) ∷ pos 70762 ∷ []
+unfolding output-opened appliedFrom
+adjusted-grown = adjusted-after growing refl
 
 -- what settling says of the book that calls leave
 said-after : {answer : Said Acceptance} (calls : List Call) → settled (appliedFrom freshBook calls) .said ≡ answer → settled (bookOf calls) .said ≡ answer
@@ -123,4 +130,4 @@ join-too-long = refl
 pub all-hold : All marked
 unfolding output-opened
 all-hold =
-    (refl, (refl, (refl, (refl, (refl, (refl, (refl, (refl, (refl, (refl, (output-m, (cut-m, (filings-refused, (refl, (refl, (refl, (joined-only, (marked-six, (joined-new, (cleared-one, (lost, (grown 0 ∙ grown-applied .0, (grown 1 ∙ grown-applied .1, (join-too-long, (refl, tt)))))))))))))))))))))))))
+    (refl, (refl, (refl, (refl, (refl, (refl, (refl, (refl, (refl, (refl, (output-m, (cut-m, (filings-refused, (refl, (refl, (refl, (joined-only, (marked-six, (joined-new, (cleared-one, (lost, (grown 0 ∙ grown-applied .0, (grown 1 ∙ grown-applied .1, (adjusted-grown, (join-too-long, (refl, tt))))))))))))))))))))))))))

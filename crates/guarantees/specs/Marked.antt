@@ -1,4 +1,5 @@
--- The cases that document 01 marks, and its examples in bytes, gathered in one list of statements. One theorem covers the list: `all-hold` of proofs/MarkedHold.antt.
+-- The cases that document 01 marks, its examples in bytes, and cases of the points of 02, gathered in one list of statements. One theorem
+-- covers the list: `all-hold` of proofs/MarkedHold.antt.
 -- Assumes nothing.
 use mathlib.Core.Path.{_≡_}
 use mathlib.Core.List.{List, [], _∷_, map}
@@ -131,6 +132,7 @@ marked =
     ∷ All (map (λ (which : ℕ). settled (bookOf (losing which)) .said ≡ refused-by 11) (0 ∷ 3 ∷ 4 ∷ 1 ∷ []))
     -- "A1 divides by the year's own" (02, point 3): a million times 5 / 100, 9 / 200, 40 / 400, and 17 / 400, 8 / 200, 6 / 100
     ∷ (frequenciesOf 0 ≡ 50000 ∷ 45000 ∷ 100000 ∷ []) ∷ (frequenciesOf 1 ≡ 42500 ∷ 40000 ∷ 60000 ∷ [])
+    ∷ (take 2 (settled (bookOf growing) .settlement .adjustments) ≡ negℤ (pos 70762) ∷ pos 70762 ∷ [])
     -- "writer, 3 bytes, one join"
     ∷ (writerAnswer (bookOf (Join 0 ∷ [])) (0 ∷ 0 ∷ 0 ∷ []) ≡ refused-by 13)
     -- "weights 10, 8, 4 with the first two better become 18, 18, 8"

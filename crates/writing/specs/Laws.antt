@@ -19,7 +19,7 @@ abbrev pub NoneRefused : List (Said Acceptance) → Type 0
 NoneRefused [] = Unit {0}
 NoneRefused (answer ∷ rest) = (isRefused answer ≡ false) × NoneRefused rest
 
--- "the most a writer needs grows to 10,667 bytes" (02, point 2)
+-- "The most a writer needs grows to 11,083 bytes" (02, point 3)
 abbrev pub writtenMost : ℕ
 writtenMost = 11083
 

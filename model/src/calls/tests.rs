@@ -265,16 +265,37 @@ fn settings_are_replaced() {
     assert_eq!(setting(&mut book, 3, 0, 100), Answer::Yes);
     assert_eq!(setting(&mut book, 3, 1, 1000), Answer::Yes);
     assert_eq!(setting(&mut book, 3, 2, 100_000_000), Answer::Yes);
+    assert_eq!(setting(&mut book, 3, 3, 200), Answer::Yes);
+    assert_eq!(setting(&mut book, 3, 4, 400), Answer::Yes);
     assert_eq!(setting(&mut book, 3, 0, 99), Answer::Yes);
+    assert_eq!(setting(&mut book, 3, 3, 199), Answer::Yes);
     let mut expected = with(&[3]);
-    expected.operators[3].cabins = 99;
+    expected.operators[3].cabins = [99, 199, 400];
     expected.operators[3].access_points = 1000;
     expected.operators[3].income = 100_000_000;
     assert_eq!(book, expected);
-    for which in 0..3 {
+    for which in 0..5 {
         assert_eq!(setting(&mut book, 3, which, 0), Answer::Yes);
     }
     assert_eq!(book, with(&[3]));
+}
+
+/// A setting alters the value that its number names, and nothing else.
+fn sets_only(which: u8, expected: impl Fn(&mut Operator)) {
+    let mut book = with(&[3, 9]);
+    assert_eq!(setting(&mut book, 9, which, 7), Answer::Yes);
+    let mut altered = with(&[3, 9]);
+    expected(&mut altered.operators[9]);
+    assert_eq!(book, altered, "{which}");
+}
+
+#[test]
+fn each_setting_has_its_number() {
+    sets_only(0, |operator| operator.cabins = [7, 0, 0]);
+    sets_only(1, |operator| operator.access_points = 7);
+    sets_only(2, |operator| operator.income = 7);
+    sets_only(3, |operator| operator.cabins = [0, 7, 0]);
+    sets_only(4, |operator| operator.cabins = [0, 0, 7]);
 }
 
 fn setting_has_range(which: u8, most: u64) {
@@ -294,14 +315,27 @@ fn settings_have_ranges() {
     setting_has_range(0, 100_000);
     setting_has_range(1, 4_000_000);
     setting_has_range(2, MOST);
+    setting_has_range(3, 100_000);
+    setting_has_range(4, 100_000);
+}
+
+#[test]
+fn cabins_have_no_other_range() {
+    // The limits of the access points and of the income.
+    let book = with(&[0]);
+    for value in [4_000_000, 4_000_001, MOST, MOST + 1] {
+        for which in [0, 3, 4] {
+            refuses(&book, 5, |book| setting(book, 0, which, value));
+        }
+    }
 }
 
 #[test]
 fn unknown_settings() {
     let book = with(&[0]);
-    refuses_each(&book, 5, 3..=255, |book, which| setting(book, 0, which, 0));
-    refuses_each(&book, 5, 3..=255, |book, which| setting(book, 1, which, 0));
-    refuses_each(&book, 4, 3..=255, |book, which| {
+    refuses_each(&book, 5, 5..=255, |book, which| setting(book, 0, which, 0));
+    refuses_each(&book, 5, 5..=255, |book, which| setting(book, 1, which, 0));
+    refuses_each(&book, 4, 5..=255, |book, which| {
         setting(book, 255, which, 0)
     });
 }
@@ -660,7 +694,7 @@ fn refused_by_every_call(book: &Book) {
 
 fn refused_by_every_call_of(book: &Book, operator: u8) {
     refuses(book, 5, |book| join(book, operator));
-    refuses_each(book, 5, 0..=2, |book, which| {
+    refuses_each(book, 5, 0..=4, |book, which| {
         setting(book, operator, which, 1)
     });
     refuses(book, 5, |book| amount(book, operator, 0, 0, 0, 0));
@@ -692,7 +726,9 @@ fn refused_with_operator(book: &Book, alter: impl Fn(&mut Operator)) {
 /// Every value of an operator past its range.
 fn refused_with_operator_past(cabins: u128, access_points: u128, most: u128) {
     let book = with_all();
-    refused_with_operator(&book, |operator| operator.cabins = cabins);
+    for year in 0..3 {
+        refused_with_operator(&book, |operator| operator.cabins[year] = cabins);
+    }
     refused_with_operator(&book, |operator| operator.access_points = access_points);
     refused_with_operator(&book, |operator| operator.income = most);
     for (year, figure) in figure_places() {
@@ -741,7 +777,9 @@ fn refused_with_not_joined(alter: impl Fn(&mut Operator)) {
 
 #[test]
 fn book_with_values_of_an_operator_not_joined() {
-    refused_with_not_joined(|operator| operator.cabins = 1);
+    for year in 0..3 {
+        refused_with_not_joined(|operator| operator.cabins[year] = 1);
+    }
     refused_with_not_joined(|operator| operator.access_points = 1);
     refused_with_not_joined(|operator| operator.income = 1);
     for indicator in 0..6 {

@@ -2,7 +2,7 @@
 //! that are drawn for it.
 
 use crate::book::{joined, Book, FIGURES, INDICATORS, INDICES, MOST_FIGURE, OPERATORS, YEARS};
-use crate::book::{MOST_SETTINGS, SETTINGS};
+use crate::book::{Setting, NUMBERED_SETTINGS, SETTINGS};
 use crate::calls::{Answer, Interruption, EARLIEST_START, LATEST_END, YEAR_SECONDS};
 use crate::filing::{apply, encode, Field};
 use crate::random::Random;
@@ -78,7 +78,12 @@ pub fn six_marks(operator: u8, value: u8) -> Vec<Field> {
 }
 
 pub fn most_setting(which: usize) -> u64 {
-    MOST_SETTINGS[which] as u64
+    NUMBERED_SETTINGS[which].most() as u64
+}
+
+/// The least with which a book settles: only the income may be 0.
+pub fn least_setting(which: usize) -> u64 {
+    u64::from(NUMBERED_SETTINGS[which] != Setting::Income)
 }
 
 impl Draft {
@@ -366,9 +371,7 @@ impl Draft {
             }
             _ => {
                 let which = self.random.place(SETTINGS);
-                // Only an income of 0 settles.
-                let least = u64::from(which != 2);
-                let value = self.value(Style::Digits, least, most_setting(which));
+                let value = self.value(Style::Digits, least_setting(which), most_setting(which));
                 setting(operator, which, value)
             }
         }
@@ -379,13 +382,6 @@ impl Draft {
             operator,
             ..self.interruption()
         })
-    }
-
-    /// Takes the cabins or the access points from an operator.
-    pub fn take_size(&mut self) {
-        let operator = self.joined_operator();
-        let which = self.random.place(2);
-        self.file(setting(operator, which, 0));
     }
 
     // Marks.

@@ -1,8 +1,10 @@
 //! Sound filings: what each kind of them has, and the making of it.
 
-use super::draft::{amount, mark, most_setting, setting, six_marks, Draft, Style, MOST};
+use super::cabins::size_settings;
+use super::draft::{amount, mark, setting, six_marks, Draft, Style, MOST};
 use super::Kind;
-use crate::book::{figure_places, Operator, INDICATORS, OPERATORS, SETTINGS, YEARS};
+use crate::book::{figure_places, Operator, Setting, MOST_ACCESS_POINTS, MOST_INCOME};
+use crate::book::{INDICATORS, NUMBERED_SETTINGS, OPERATORS, SETTINGS, YEARS};
 use crate::filing::Field;
 
 /// What a filing has.
@@ -13,6 +15,11 @@ pub struct Plan {
     figures: Style,
     /// How many of a hundred figures have an amount.
     filled: u64,
+    /// Whether the MV weights are suited to the cabins.
+    suited_weights: bool,
+    /// How many of a hundred operators have cabins of year 0 alone, as all had before
+    /// there was a setting for each year.
+    pub later_cabins_missing: u64,
     /// So many sets of values are shared by the operators; 0: each has its own.
     patterns: usize,
     /// How many of a hundred marks are kept; the others are cleared.
@@ -25,7 +32,7 @@ pub struct Plan {
     withdrawals: u64,
     /// How many steps move a count.
     counts: u64,
-    corrections: u64,
+    pub corrections: u64,
 }
 
 /// The first fields of a filing, before they are put in an order.
@@ -63,6 +70,14 @@ impl Alike {
     }
 }
 
+/// Whether the field sets the cabins of a year after year 0.
+fn sets_later_cabins(field: &Field) -> bool {
+    let Field::Setting { which, .. } = *field else {
+        return false;
+    };
+    matches!(NUMBERED_SETTINGS[usize::from(which)], Setting::Cabins(1..))
+}
+
 impl Draft {
     /// A filing of a kind that settles; now and then one that just doesn't.
     pub fn sound(&mut self, kind: Kind) {
@@ -96,6 +111,8 @@ impl Draft {
             incomes: self.random.pick(&[Style::Digits, Style::Wide]),
             figures: Style::Digits,
             filled: self.random.pick(&[10, 50, 80, 100]),
+            suited_weights: self.random.one_in(3),
+            later_cabins_missing: 0,
             patterns: 0,
             marked: 0,
             unattested: 0,
@@ -119,11 +136,13 @@ impl Draft {
             Kind::Wide => {
                 plan.settings = Style::Wide;
                 plan.figures = Style::Wide;
+                plan.suited_weights = false;
             }
             Kind::Ends => {
                 plan.settings = Style::Ends;
                 plan.incomes = Style::Ends;
                 plan.figures = Style::Ends;
+                plan.suited_weights = false;
                 plan.interruptions = self.random.pick(&[0, 10]);
             }
             Kind::Ties => self.suit_ties(plan),
@@ -256,13 +275,21 @@ impl Draft {
 
     fn pattern(&mut self, plan: &Plan) -> Operator {
         let mut values = Operator::fresh();
-        values.cabins = u128::from(self.value(plan.settings, 1, most_setting(0)));
-        values.access_points = u128::from(self.value(plan.settings, 1, most_setting(1)));
-        values.income = u128::from(self.value(plan.incomes, 0, most_setting(2)));
+        values.cabins = self.cabins_by_year(plan.settings);
+        let access_points = self.value(plan.settings, 1, MOST_ACCESS_POINTS as u64);
+        values.access_points = u128::from(access_points);
+        values.income = self.planned_income(plan);
         for (year, figure) in figure_places() {
             values.figures[year][figure] = u128::from(self.planned_figure(plan));
         }
+        if plan.suited_weights {
+            self.suit_weights(&mut values);
+        }
         values
+    }
+
+    fn planned_income(&mut self, plan: &Plan) -> u128 {
+        u128::from(self.value(plan.incomes, 0, MOST_INCOME as u64))
     }
 
     fn planned_figure(&mut self, plan: &Plan) -> u64 {
@@ -284,7 +311,10 @@ impl Draft {
             values.figures[year][figure] = u128::from(self.value(plan.figures, 0, MOST));
         }
         if self.random.one_in(6) {
-            values.income = u128::from(self.value(plan.incomes, 0, most_setting(2)));
+            values.income = self.planned_income(plan);
+        }
+        if self.random.one_in(4) {
+            self.turn_years(&mut values);
         }
         values
     }
@@ -292,7 +322,10 @@ impl Draft {
     /// The settings, amounts and marks of one operator.
     fn operator_fields(&mut self, operator: u8, plan: &Plan, patterns: &[Operator]) -> Vec<Field> {
         let values = self.values(plan, patterns);
-        let settings = self.setting_fields(operator, values.settings());
+        let mut settings = self.setting_fields(operator, values.settings());
+        if self.random.percent(plan.later_cabins_missing) {
+            settings.retain(|field| !sets_later_cabins(field));
+        }
         let amounts = figure_places()
             .flat_map(|(year, figure)| {
                 let total = values.figures[year][figure] as u64;
@@ -358,11 +391,7 @@ impl Draft {
     pub fn mean(&mut self) {
         let count = 3 + self.random.place(OPERATORS - 2);
         let alike = Alike {
-            settings: [
-                self.random.pick(&[1, 8, 100, 1000, 100_000]),
-                self.random.pick(&[1, 8, 100, 1000, 1_000_000]),
-                self.value(Style::Digits, 0, most_setting(2)),
-            ],
+            settings: NUMBERED_SETTINGS.map(|setting| self.even_setting(setting)),
             base: self.random.pick(&[1, 2, 5, 10, 100]),
             step: 1 + self.random.up_to(9),
             place: (self.random.place(YEARS), self.random.place(4)),
@@ -376,6 +405,15 @@ impl Draft {
         if self.random.one_in(3) {
             let cap = 1 + self.random.up_to(99) as u32;
             self.file(Field::Rates { pot: 20_000, cap });
+        }
+    }
+
+    /// A setting by which a million is divided without a remainder, or any income.
+    fn even_setting(&mut self, setting: Setting) -> u64 {
+        match setting {
+            Setting::Cabins(_) => self.random.pick(&[1, 8, 100, 1000, 100_000]),
+            Setting::AccessPoints => self.random.pick(&[1, 8, 100, 1000, 1_000_000]),
+            Setting::Income => self.value(Style::Digits, 0, MOST_INCOME as u64),
         }
     }
 
@@ -439,14 +477,15 @@ impl Draft {
         }
     }
 
-    /// A join with cabins or access points at most, after a sound filing.
+    /// A join with the cabins of a year or access points at most, after a sound
+    /// filing.
     fn join_without_size(&mut self, mut plan: Plan) {
         plan.operators = plan.operators.min(OPERATORS - 1);
         self.make(&plan);
         let operator = self.other_operator();
         self.file(Field::Join { operator });
         if self.random.one_in(2) {
-            let which = self.random.place(2);
+            let which = self.random.pick(&size_settings());
             self.file(setting(operator, which, 1));
         }
     }

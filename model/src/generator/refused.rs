@@ -142,7 +142,10 @@ impl Draft {
         let indicator = self.random.place(INDICATORS);
         let index = self.random.place(INDICES) as u8;
         match self.random.up_to(23) {
-            0 => setting(operator, self.past(3), self.value(Style::Small, 0, 9)),
+            0 => {
+                let value = self.value(Style::Small, 0, 9);
+                setting(operator, self.past(SETTINGS as u64), value)
+            }
             1..=3 => self.setting_past_most(operator),
             way @ 4..=14 => self.interruption_out_of_range(way, interruption),
             15 => amount(operator, (self.past(3), figure), sign, value),
@@ -167,7 +170,7 @@ impl Draft {
     }
 
     /// The value of a byte, from that one on.
-    fn past(&mut self, least: u64) -> usize {
+    pub fn past(&mut self, least: u64) -> usize {
         self.random.edge(least, 255) as usize
     }
 

@@ -97,11 +97,11 @@ fn refused_cases(filed: &[(MarkPlace, u8)]) -> Vec<(&'static str, bool)> {
 /// At least how many of 2000 filings show it.
 const LEAST_SHOWN: [(&str, u32); 8] = [
     ("all cleared", 800),
-    ("some of each", 300),
+    ("some of each", 270),
     ("an operator keeps six", 120),
     ("only one cleared", 5),
-    ("set again", 250),
-    ("set for a while", 200),
+    ("set again", 230),
+    ("set for a while", 180),
     ("12 without a clearing", 10),
     ("12 after a clearing", 10),
 ];
