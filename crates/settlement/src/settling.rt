@@ -1,9 +1,9 @@
 // Settling: the refusals first, then points, money and adjustments.
 ghost use mathlib.Core.Path.{_≡_};
-ghost use mathlib.Core.Bool.{true, _&&_, _||_};
+ghost use mathlib.Core.Bool.{true, _&&_};
+ghost use Prim.Native.Nat.{_<_};
 ghost use lib.Dec.{eqb};
 ghost use Rattle.calls.specs.Answers.{refused-by, numberOf, said};
-ghost use Prim.Native.Nat.{_<_};
 ghost use Rattle.calls.specs.Limits.{settingCount};
 ghost use Rattle.calls.specs.Masks.{has};
 ghost use Rattle.book.specs.Book.{inRange};
