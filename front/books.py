@@ -6,7 +6,6 @@ from front.words import word_of
 
 # The value that is not written, by the call that would write it: a join sets its operator's marks.
 FRESH = {"join": 0, "setting": 0, "amount": 0, "mark": 1, "index": 10_000, "rates": 0}
-CABINS, ACCESS_POINTS, INCOME = range(3)
 
 
 class Book:

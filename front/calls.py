@@ -10,6 +10,8 @@ class Place(NamedTuple):
     bits: int
     expected: str
     words: Tuple[str, ...] = ()
+    # Words that were taken once, each with what is expected now.
+    former: Tuple[Tuple[str, str], ...] = ()
     signed: bool = False
     is_time: bool = False
 
@@ -20,6 +22,10 @@ class Place(NamedTuple):
             if word == known.lower():
                 return number
         return None
+
+    def expected_for(self, word):
+        """What is expected in the place of a word that stands for no number here."""
+        return dict(self.former).get(word.lower(), self.expected)
 
     def fits(self, number):
         """Whether the number can be put into the bytes of this place; its range is the program's to judge."""
@@ -60,9 +66,9 @@ class Call(NamedTuple):
         return None
 
 
-def _worded(name, what, words):
+def _worded(name, what, words, former=()):
     numbers = f"a number 0 to {len(words) - 1}"
-    return Place(name, 8, f"{what}: {', '.join(words)}, or {numbers}", words)
+    return Place(name, 8, f"{what}: {', '.join(words)}, or {numbers}", words, former)
 
 
 def _number(name, bits, what):
@@ -79,12 +85,19 @@ def _time(name):
     )
 
 
+YEARS = ("2017", "2018", "2019")
+SETTINGS = ("cabins-2017", "access-points", "income", "cabins-2018", "cabins-2019")
+# The settings with the cabins of each year, from 2017 on, whose numbers do not follow each other; then the others.
+CABINS = tuple(SETTINGS.index(f"cabins-{year}") for year in YEARS)
+ACCESS_POINTS, INCOME = map(SETTINGS.index, ("access-points", "income"))
+PLAIN_CABINS = "cabins", "{}, {} or {}: each year has its own cabins".format(*(SETTINGS[which] for which in CABINS))
+
 # How many interruptions there were, by what became of them.
 COUNTS = ("count-counted", "count-short", "count-planned", "count-coupled", "count-exceptional")
 FIGURES = ("mv-weight", "mv-seconds", "lv-weight", "lv-seconds", "fees", "connections", "reconnection-fees", "reconnections", *COUNTS)
 
 OPERATOR = _number("operator", 8, "an operator, 0 to 15")
-YEAR = _worded("year", "a year", ("2017", "2018", "2019"))
+YEAR = _worded("year", "a year", YEARS)
 SIGN = _worded("sign", "a sign", ("file", "withdraw"))
 
 KINDS = (
@@ -94,7 +107,7 @@ KINDS = (
         "setting",
         (
             OPERATOR,
-            _worded("setting", "a setting", ("cabins", "access-points", "income")),
+            _worded("setting", "a setting", SETTINGS, (PLAIN_CABINS,)),
             _number("value", 64, "cabins up to 100000, access points up to 4000000, or income in cents up to 100000000000"),
         ),
     ),

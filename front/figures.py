@@ -2,10 +2,10 @@
 
 from typing import NamedTuple
 
+from front import times
 from front.calls import FIGURES
 
 MOST = 100_000_000_000
-YEAR_SECONDS = 31_536_000
 
 
 class Move(NamedTuple):
@@ -45,4 +45,4 @@ def _moves_of_interruption(word, operator, _sign, level, _cause, start, end, wei
     """The count of what becomes of it, in the year of its end; of a counted one weight and weighted seconds of its level before that."""
     measured = [(2 * level, weight), (2 * level + 1, weight * (end - start))] if word == "counted" else []
     counts = [(FIGURES.index(f"count-{word}"), 1)]
-    return [Move(operator, end // YEAR_SECONDS, figure, amount) for figure, amount in [*measured, *counts]]
+    return [Move(operator, times.year_of(end), figure, amount) for figure, amount in [*measured, *counts]]

@@ -18,7 +18,8 @@ MEANINGS = {
     8: "The figure would pass 100,000,000,000. Correct the value, or withdraw first what should not be there.",
     9: "The figure would fall below 0: more is withdrawn than stands in it by then. Correct the value, or file first what is withdrawn.",
     10: "No operator has joined, so there is nobody to settle. Add a join, and the settings, of each operator.",
-    11: "An operator that has joined has no cabins, or no access points. File both settings of each operator, above 0.",
+    11: "An operator that has joined lacks the cabins of a year, or access points. File the cabins of all three years and the access "
+    "points of each operator, above 0, also of one that is marked at A1.",
     12: "Every operator that has joined is marked unreliable at all six indicators, so no points can be given. A join sets the "
     "six marks: clear one when its attestation is in, as in: mark 0 A1 0",
     13: "The room lent for the output is too short. The programs here lend enough, so tell whoever keeps them.",

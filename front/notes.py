@@ -5,8 +5,7 @@ from itertools import product
 from typing import NamedTuple, Optional
 
 from front import times
-from front.books import CABINS, INCOME
-from front.calls import BY_NAME
+from front.calls import BY_NAME, CABINS, INCOME, YEARS
 from front.filing import Field
 from front.words import is_number, word_of
 
@@ -41,7 +40,12 @@ def notes_of(source, programs):
     """The notes on a filing that was settled: on its book, and on its calls as they follow."""
     fields = source.fields()
     book = programs.book(source.data)
-    on_book = [*_marks(fields, book), *_incomes(fields, book), *_rates(fields, book), *_undivided(fields, book)]
+    on_book = [
+        *_marks(fields, book),
+        *_incomes(fields, book),
+        *_rates(fields, book),
+        *_undivided(fields, book),
+    ]
     on_calls = [
         *_repeated(source, fields),
         *_interruptions(source, fields, book),
@@ -128,9 +132,10 @@ def _interruptions(source, fields, book):
 def _oddities(call, row, book):
     """What is odd about an interruption by itself."""
     start, end, weight = (call.value(name) for name in ("start", "end", "weight"))
-    cabins = book.value("setting", call.value("operator"), CABINS)
+    year = times.year_of(end)
+    cabins = book.value("setting", call.value("operator"), CABINS[year])
     if weight > cabins:
-        yield f"its weight, {weight:,}, is more than the operator's cabins, {cabins:,}; correct one of them"
+        yield f"its weight, {weight:,}, is more than the operator's cabins in {YEARS[year]}, {cabins:,}; correct one of them"
     if end - start > LONGEST:
         yield f"it lasts longer than 30 days, from {times.clock_of(start)} to {times.clock_of(end)}; see whether a date is wrong"
     if row is None:

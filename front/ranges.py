@@ -1,16 +1,18 @@
 """The ranges of the values of a call, and which of its values are outside: what a refusal by 5 means."""
 
+from front.calls import ACCESS_POINTS, CABINS, INCOME, YEARS
 from front.words import word_of
 
-YEARS = "2017-01-01T00:00 to 2019-12-31T23:59:59"
+PERIOD = "2017-01-01T00:00 to 2019-12-31T23:59:59"
 MOST_END = 94_607_999
 LEAST_START = -31_536_000
 MOST_WEIGHT = 100_000
-SETTINGS = (
-    (100_000, "cabins are 0 to 100,000"),
-    (4_000_000, "access points are 0 to 4,000,000"),
-    (100_000_000_000, "income is 0 to 100,000,000,000 cents"),
-)
+# The most of each setting, and its range in words.
+SETTINGS = {
+    **{which: (100_000, f"cabins of {year} are 0 to 100,000") for which, year in zip(CABINS, YEARS)},
+    ACCESS_POINTS: (4_000_000, "access points are 0 to 4,000,000"),
+    INCOME: (100_000_000_000, "income is 0 to 100,000,000,000 cents"),
+}
 MOST_RATE = 20_000
 MOST_INDEX = 100_000
 
@@ -35,14 +37,14 @@ def _none(_call):
 
 def _setting(call):
     which = call.value("setting")
-    if which < len(SETTINGS) and call.value("value") > SETTINGS[which][0]:
+    if which in SETTINGS and call.value("value") > SETTINGS[which][0]:
         yield "value", SETTINGS[which][1]
 
 
 def _interruption(call):
     start, end, weight = (call.value(name) for name in ("start", "end", "weight"))
     if not 0 <= end <= MOST_END:
-        yield "end", f"it is {YEARS}"
+        yield "end", f"it is {PERIOD}"
     if start < LEAST_START:
         yield "start", "it is not before 2016-01-02T00:00"
     if start > end:

@@ -1,6 +1,8 @@
 """The programs' refusals in words: the field, what the number means, what to do, and what to look at."""
 
-from front.calls import YEAR
+from itertools import groupby
+
+from front.calls import ACCESS_POINTS, CABINS, SETTINGS, YEAR
 from front.figures import moves_of
 from front.ranges import outside
 from front.trouble import Trouble
@@ -10,6 +12,10 @@ OF_INTERRUPTIONS = (
     "An interruption counts in the year of its end; one of 180 seconds or less, or left out for its cause, moves its count and "
     "nothing else."
 )
+
+# What an operator must have to be settled.
+NETWORK = (*CABINS, ACCESS_POINTS)
+ONLY_2017 = "Only the cabins of 2017 are filed here, as was done before each year had its own. Add those of 2018 and 2019."
 
 MOST_SHOWN = 16
 MOST_PLACES = 12
@@ -157,19 +163,32 @@ def _of_sheet(source, refusal, like):
 
 
 def _without_network(source, refusal):
-    """For 11: the operators whose cabins or access points were never filed, or last filed as 0."""
+    """For 11: what was never filed, or last filed as 0, and whether cabins were filed for the first year alone."""
     if refusal.number != 11:
         return []
     calls = [field.call for field in source.fields()]
     latest = {call.values[:2]: call.value("value") for call in calls if call.kind.name == "setting"}
-    wanting = [
-        f"operator {call.value('operator')} {name}"
-        for call in calls
-        if call.kind.name == "join"
-        for which, name in enumerate(("cabins", "access-points"))
-        if not latest.get((call.value("operator"), which))
-    ]
-    return [f"  Look at {', '.join(wanting)}."]
+    lines = [f"  Missing, or 0, of {_operators(those)}: {_listed(lacks)}." for lacks, those in _lacking(calls, latest).items() if lacks]
+    years = {which for _, which in latest}.intersection(CABINS)
+    return [*lines, f"  {ONLY_2017}"] if years == {CABINS[0]} else lines
+
+
+def _lacking(calls, latest):
+    """The operators that have joined, by the settings that they lack, if any, to be settled."""
+    lacking = {}
+    for operator in sorted(call.value("operator") for call in calls if call.kind.name == "join"):
+        lacks = tuple(SETTINGS[which] for which in NETWORK if not latest.get((operator, which)))
+        lacking.setdefault(lacks, []).append(operator)
+    return lacking
+
+
+def _operators(numbers):
+    """Rising operators; three or more that follow each other are told by the first and the last."""
+    parts = []
+    for _, run in groupby(enumerate(numbers), key=lambda pair: pair[1] - pair[0]):
+        run = [number for _, number in run]
+        parts += [f"{run[0]} to {run[-1]}"] if len(run) > 2 else map(str, run)
+    return f"operator{'s' if len(numbers) > 1 else ''} {_listed(parts)}"
 
 
 def _places(source, fields):

@@ -6,6 +6,8 @@ from datetime import datetime, timedelta
 START = datetime(2017, 1, 1)
 SECOND = timedelta(seconds=1)
 HOUR = timedelta(hours=1)
+# None of the three is a leap year.
+YEAR_SECONDS = 31_536_000
 CLOCK = r"([0-9]{1,2}):([0-9]{2})(?::([0-9]{2}))?"
 YEAR_FIRST = re.compile(rf"([0-9]{{4}})-([0-9]{{2}})-([0-9]{{2}})(?:T| +){CLOCK}", re.IGNORECASE)
 DAY_FIRST = re.compile(rf"([0-9]{{1,2}})/([0-9]{{1,2}})/([0-9]{{4}})(?:T| +){CLOCK}", re.IGNORECASE)
@@ -42,6 +44,11 @@ def _existing(*parts):
         return datetime(*(int(part or 0) for part in parts))
     except ValueError:
         return None
+
+
+def year_of(seconds):
+    """The year of the seconds, 0 for 2017."""
+    return seconds // YEAR_SECONDS
 
 
 def clock_of(seconds):

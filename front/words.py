@@ -105,7 +105,7 @@ def _expected(place, word):
     """What is expected at a place; a time that names a zone is told in winter time."""
     here = times.without_zone(word) if place.is_time else None
     if here is None:
-        return place.expected
+        return place.expected_for(word)
     return f"a clock time without a zone: all times are winter time, all year, in which this one is {here}"
 
 

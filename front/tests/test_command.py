@@ -28,7 +28,7 @@ class Paths(InFolder):
         self.file("calls.txt", "join 1\n")
         run = settle(self.folder)
         self.assertEqual(run.output, b"refused 11\n")
-        self.assertIn("operator 1 cabins", run.said)
+        self.assertIn("of operator 1: cabins-2017, ", run.said)
         self.assertIn(f"note: {self.folder}/calls.txt was read; {self.folder}/calls.csv beside it says something else", run.said)
         self.file("filing.q", CASE_M)
         run = settle(self.folder)
@@ -73,7 +73,7 @@ class Output(InFolder):
             expected += b"".join(line for line in lines if line.startswith(b"#")) + program_on((example / "filing.q").read_bytes())
         run = settle(cwd=self.folder)
         self.assertEqual((run.status, run.output), (0, expected))
-        self.assertIn("examples/refused/filing.q: field 4 at byte 30: refused: amount 2 2017 fees file 50000", run.said)
+        self.assertIn("examples/refused/filing.q: field 6 at byte 56: refused: amount 2 2017 fees file 50000", run.said)
 
     def test_a_reader_that_leaves_is_no_error(self):
         end, other = os.pipe()

@@ -13,15 +13,17 @@ MORE = [
     ("amount 1 2017 fees file 7", ["operator 1, 2017, fees: 50000 here, 50007 there"]),
     ("amount 0 2019 connections file 7", ["operator 0, 2019, connections: 0 here, 7 there"]),
     ("setting 1 access-points 2000", ["operator 1, access-points: 3000 here, 2000 there"]),
-    ("setting 0 cabins 0", ["operator 0, cabins: 100 here, 0 there"]),
+    ("setting 0 cabins-2017 0", ["operator 0, cabins-2017: 100 here, 0 there"]),
+    ("setting 0 cabins-2018 101", ["operator 0, cabins-2018: 100 here, 101 there"]),
+    ("setting 1 cabins-2019 99", ["operator 1, cabins-2019: 100 here, 99 there"]),
     ("mark 1 D2 1", ["operator 1, mark at D2: cleared here, set there"]),
     ("rates 5001 10000", ["pot rate: 5000 here, 5001 there"]),
     ("rates 0 0", ["pot rate: 5000 here, 0 there", "cap rate: 10000 here, 0 there"]),
     ("index june-2018 10250", ["index june-2018: 10000 here, 10250 there"]),
     ("join 7", ["operator 7: not joined here, joined there"]),
     (
-        "join 7\nsetting 7 cabins 5\nmark 7 A1 0",
-        ["operator 7: not joined here, joined there", "operator 7, cabins: 0 here, 5 there"],
+        "join 7\nsetting 7 cabins-2019 5\nmark 7 A1 0",
+        ["operator 7: not joined here, joined there", "operator 7, cabins-2019: 0 here, 5 there"],
     ),
     (
         "interruption 0 file MV own 2017-12-31T23:00 2018-01-01T01:00 4",
@@ -59,11 +61,12 @@ class Compared(InFolder):
             self.assertEqual(run.output.decode().splitlines(), [f"# here: {CASE_M}/filing.q, there: {path}", *lines])
 
     def test_the_other_way_round_and_the_order_of_values(self):
-        more = "join 15\nrates 7 8\nindex june-2013 9\nmark 0 A2 1\namount 0 2017 fees file 1\nsetting 0 income 1\n"
+        more = "join 15\nrates 7 8\nindex june-2013 9\nmark 0 A2 1\namount 0 2017 fees file 1\nsetting 0 cabins-2018 7\nsetting 0 income 1\n"
         path = self.file("there.txt", f"{CALLS}{more}")
         lines = [
             ("operator 15", "not joined", "joined"),
             ("operator 0, income", "100000000", "1"),
+            ("operator 0, cabins-2018", "100", "7"),
             ("operator 0, 2017, fees", "0", "1"),
             ("operator 0, mark at A2", "cleared", "set"),
             ("index june-2013", "10000", "9"),

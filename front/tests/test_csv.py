@@ -24,6 +24,11 @@ class Taken(InFolder):
         self.assertEqual([row[4] for row in numbers(table)], [8, 9, 10, 11, 12, 8, 12])
         self.assertEqual(numbers(table)[0], (2, "amount", 3, 2, 8, 1, 4))
 
+    def test_the_settings(self):
+        settings = ["cabins-2017", "access-points", "Income", "cabins-2018", "CABINS-2019", "0", "4"]
+        table = "call;operator;setting;value\n" + "".join(f"setting;3;{setting};7\n" for setting in settings)
+        self.assertEqual([row[3] for row in numbers(table)], [0, 1, 2, 3, 4, 0, 4])
+
     def test_separators_quotes_blanks_and_case(self):
         for table in [
             "call,pot,cap\nrates,5000,10000\n",
@@ -45,23 +50,23 @@ class Taken(InFolder):
 
     def test_what_spreadsheets_add(self):
         for table in [
-            "sep=;\ncall;operator;value;setting\nsetting;0;7;cabins\n",
-            "\ufeffsep=;\r\ncall;operator;value;setting\r\nsetting;0;7;cabins\r\n",
-            "SEP=,\ncall,operator,value,setting\nsetting,0,7,cabins\n",
-            ";;;;\ncall;operator;value;setting\nsetting;0;7;cabins\n",
+            "sep=;\ncall;operator;value;setting\nsetting;0;7;cabins-2019\n",
+            "\ufeffsep=;\r\ncall;operator;value;setting\r\nsetting;0;7;cabins-2019\r\n",
+            "SEP=,\ncall,operator,value,setting\nsetting,0,7,cabins-2019\n",
+            ";;;;\ncall;operator;value;setting\nsetting;0;7;cabins-2019\n",
         ]:
             lines = table.count("\n")
-            self.assertEqual(numbers(table), [(lines, "setting", 0, 0, 7)], table)
+            self.assertEqual(numbers(table), [(lines, "setting", 0, 4, 7)], table)
 
     def test_columns_that_are_not_read(self):
         for table in [
-            "call,operator,value,setting,,,\nsetting,0,7,cabins,,,\n",
-            "call,operator,Note,value,setting\nsetting,0,all # of them,7,cabins\n",
-            'call,operator,#checked by,value,setting,note\nsetting,0,"x, y",7,cabins,join # 5\n',
-            "call,operator,#,#,value,setting\nsetting,0,a,b,7,cabins\n",
-            "call,operator,value,setting # the columns\nsetting,0,7,cabins\n",
+            "call,operator,value,setting,,,\nsetting,0,7,cabins-2019,,,\n",
+            "call,operator,Note,value,setting\nsetting,0,all # of them,7,cabins-2019\n",
+            'call,operator,#checked by,value,setting,note\nsetting,0,"x, y",7,cabins-2019,join # 5\n',
+            "call,operator,#,#,value,setting\nsetting,0,a,b,7,cabins-2019\n",
+            "call,operator,value,setting # the columns\nsetting,0,7,cabins-2019\n",
         ]:
-            self.assertEqual(numbers(table), [(2, "setting", 0, 0, 7)], table)
+            self.assertEqual(numbers(table), [(2, "setting", 0, 4, 7)], table)
 
     def test_times_as_spreadsheets_write_them(self):
         table = "call;operator;sign;level;cause;weight;start;end\ninterruption;1;file;MV;own;3;14/01/2017 08:10;2017-01-14 09:00\n"
@@ -74,6 +79,9 @@ class Taken(InFolder):
 CALLS = "a call: join, setting, interruption, amount, mark, rates, index"
 COLUMN = f"the name of a column: {COLUMNS}; or note, or a name that begins with #, for what is not read"
 OPERATOR = "an operator, 0 to 15, as a whole number in digits alone (operator of join)"
+
+SETTING = "a setting: cabins-2017, access-points, income, cabins-2018, cabins-2019, or a number 0 to 4 (setting of setting)"
+EACH_YEAR = "cabins-2017, cabins-2018 or cabins-2019: each year has its own cabins (setting of setting)"
 
 # A table, and line, word and what is expected of each of its errors.
 ERRORS = [
@@ -92,6 +100,8 @@ ERRORS = [
     ("call,pot\njoin,\n", [(2, "", OPERATOR)]),
     ("call,operator\njoin\n", [(2, "", OPERATOR)]),
     ("call,operator,value\njoin,0,5\n", [(2, "5", "an empty cell (join has no value)")]),
+    ("call,operator,setting,value\nsetting,0, cabins ,5\nsetting,0,Cabins,6\n", [(2, "cabins", EACH_YEAR), (3, "Cabins", EACH_YEAR)]),
+    ("call,operator,setting,value\nsetting,0,cabin,5\nsetting,0,,5\n", [(2, "cabin", SETTING), (3, "", SETTING)]),
     ("call,operator\njoin,0,5\n", [(2, "5", "no cell under a column without a name")]),
     ('call,operator\njoin,0\njoin,"1\n', [(3, 'join,"1', "cells with quotes that match (unexpected end of data)")]),
     (

@@ -99,6 +99,13 @@ class Shown(InFolder):
             self.assertEqual(settle_here("--show", self.file("filing.q", data)), (0, f"{call}\n".encode(), ""))
             self.assertEqual(settle_here("--encode", "-", self.file("calls.txt", call)), (0, data, ""))
 
+    def test_the_settings_by_bytes_and_by_words(self):
+        for number, word in [(0, "cabins-2017"), (1, "access-points"), (2, "income"), (3, "cabins-2018"), (4, "cabins-2019"), (5, "5")]:
+            call = f"setting 1 {word} 300"
+            data = bytes([2, 0, 10, 1, number, 0, 0, 0, 0, 0, 0, 1, 44])
+            self.assertEqual(settle_here("--show", self.file("filing.q", data)), (0, f"{call}\n".encode(), ""))
+            self.assertEqual(settle_here("--encode", "-", self.file("calls.txt", call)), (0, data, ""))
+
     def test_a_filing_as_calls_alone(self):
         amount = "04 000c 03 00 0a 00 0000000000000001"
         interruption = "03 0018 03 01 00 01 00000000005249a0 0000000000526cc8 00000078"
@@ -170,3 +177,11 @@ class Exercise(InFolder):
             self.assertEqual(settle("--quiet", EXERCISE / way), (0, printed, ""), way)
             self.assertEqual(settle(EXERCISE / way)[:2], (0, printed), way)
             self.assertEqual(settle_here("--encode", "-", EXERCISE / way).output, data, way)
+
+    def test_the_cabins_of_each_year_make_a_difference(self):
+        calls = (EXERCISE / "words" / "calls.txt").read_text(encoding="utf-8")
+        settled = settle_here("--quiet", EXERCISE / "words").output
+        for one, other in [("2017", "2018"), ("2018", "2019"), ("2019", "2017")]:
+            text = calls.replace(f"2 cabins-{one}", "2 cabins-x").replace(f"2 cabins-{other}", f"2 cabins-{one}")
+            run = settle_here("--quiet", self.file("calls.txt", text.replace("cabins-x", f"cabins-{other}")))
+            self.assertEqual((run.status, run.output == settled), (0, False), (one, other))

@@ -8,6 +8,7 @@ TABLE = Path(__file__).parent / "csv" / "calls.csv"
 
 # What a person corrects in the table after the errors of its text were told, and after its refusals.
 TYPING = [
+    ("setting;2;cabins;", "setting;2;cabins-2019;"),
     ("107.03", "10703"),
     ("2017-07-03T10:00+02:00", "2017-07-03T09:00"),
     ("2017-07-03T11:00+02:00", "2017-07-03T10:00"),
@@ -18,17 +19,17 @@ REFUSED = [("05/06/2018 10:00;2;", "05/06/2018 10:00;1;"), ("922500", "2250"), (
 NOTES = """\
 :4: note: operator 1 is marked at A3 since its join, and gets no points there; if its attestation is in, file: mark 1 A3 0
 :5: note: operator 2 has an income of 0, so its limit is 0 and it has no adjustment; file it in cents: setting 2 income ..
-:38: note: operator 0 has reconnection-fees in 2019 and no reconnections, so that year counts as 0 at D2; \
+:44: note: operator 0 has reconnection-fees in 2019 and no reconnections, so that year counts as 0 at D2; \
 file its reconnections, or correct the year
-:44: note: operator 2 has lv-seconds in 2019 and no lv-weight, so that year counts as 0 at A4; file its lv-weight, or correct the year
-:23: note: the same call stands in line 22; take one out if it is meant once
-:24: note: its weight, 330, is more than the operator's cabins, 260; correct one of them
-:27: note: no LV interruption of these very values is left here to withdraw; correct it to what was filed
-:29: note: the clocks changed in the night of 2017-03-26; times are winter time, all year, and here 7,200 seconds are counted \
+:50: note: operator 2 has lv-seconds in 2019 and no lv-weight, so that year counts as 0 at A4; file its lv-weight, or correct the year
+:29: note: the same call stands in line 28; take one out if it is meant once
+:30: note: its weight, 330, is more than the operator's cabins in 2018, 260; correct one of them
+:33: note: no LV interruption of these very values is left here to withdraw; correct it to what was filed
+:35: note: the clocks changed in the night of 2017-03-26; times are winter time, all year, and here 7,200 seconds are counted \
 from start to end; take an hour off a time that was read in summer time
-:32: note: it lasts longer than 30 days, from 2018-06-03T09:00 to 2018-08-03T10:00; see whether a date is wrong
-:33: note: 20170314 is taken as seconds, that is 2017-08-22T10:51:54; for that date write 2017-03-14T00:00, with its clock time
-:33: note: 20170315 is taken as seconds, that is 2017-08-22T10:51:55; for that date write 2017-03-15T00:00, with its clock time
+:38: note: it lasts longer than 30 days, from 2018-06-03T09:00 to 2018-08-03T10:00; see whether a date is wrong
+:39: note: 20170314 is taken as seconds, that is 2017-08-22T10:51:54; for that date write 2017-03-14T00:00, with its clock time
+:39: note: 20170315 is taken as seconds, that is 2017-08-22T10:51:55; for that date write 2017-03-15T00:00, with its clock time
 """
 
 
@@ -45,16 +46,16 @@ class Table(InFolder):
         path = self.file("table.csv", text)
         run = settle(path)
         self.assertEqual((run.status, run.output), (2, b""))
-        self.assertEqual([line.split("'")[0] for line in run.said.splitlines()[:-1]], [f"{path}:{line}: " for line in (17, 28, 28, 35)])
+        self.assertEqual([line.split("'")[0] for line in run.said.splitlines()[:-1]], [f"{path}:{line}: " for line in (18, 23, 34, 34, 41)])
 
         self.file("table.csv", corrected(text, TYPING))
         run = settle(path)
-        self.assertEqual((run.status, run.output), (1, b"refused 5 at 583\n"))
+        self.assertEqual((run.status, run.output), (1, b"refused 5 at 661\n"))
         for said in [
-            ":34: refused: interruption 2 file LV own 2018-06-05T09:00 2018-06-05T10:00 2\n",
+            ":40: refused: interruption 2 file LV own 2018-06-05T09:00 2018-06-05T10:00 2\n",
             "\n  The weight is 2: for LV it is 1.\n",
-            ":40: would be refused too: amount 1 2018 fees withdraw 922500: 9: ",
-            ":45: would be refused too: amount 3 2018 fees file 7300: 7: ",
+            ":46: would be refused too: amount 1 2018 fees withdraw 922500: 9: ",
+            ":51: would be refused too: amount 3 2018 fees file 7300: 7: ",
             ": nothing is settled\n",
         ]:
             self.assertIn(said, run.said)
@@ -71,15 +72,20 @@ class Table(InFolder):
 GOOD = """\
 join 0
 join 1
-setting 0 cabins 100
+setting 0 cabins-2017 100
+setting 0 cabins-2018 110
+setting 0 cabins-2019 120
 setting 0 access-points 1000
 setting 0 income 100000000
-setting 1 cabins 100
+setting 1 cabins-2017 100
+setting 1 cabins-2018 50
+setting 1 cabins-2019 100
 setting 1 access-points 3000
 setting 1 income 200000000
 rates 5000 10000
 """
 GOOD += "".join(f"mark {operator} {indicator} 0\n" for operator in (0, 1) for indicator in ("A1", "A2", "A3", "A4", "D1", "D2"))
+LINES = GOOD.count("\n")
 MARKED = "is marked at {} since its join, and gets no points there; if its attestation is in, file: mark {} 0"
 COUNTS = (
     "the clocks changed in the night of {}; times are winter time, all year, and here {} seconds are counted from start to end; "
@@ -87,7 +93,7 @@ COUNTS = (
 )
 TWIN = "no {} interruption of these very values is left here to withdraw; correct it to what was filed"
 AGAIN = "the same call stands in line {}; take one out if it is meant once"
-HEAVY = "its weight, 101, is more than the operator's cabins, 100; correct one of them"
+HEAVY = "its weight, {}, is more than the operator's cabins in {}, {}; correct one of them"
 NO_RATES = "so nobody pays or gets anything; file them, as in: rates 5000 10000"
 
 
@@ -107,9 +113,8 @@ class Notes(InFolder):
 
     def added(self, *lines):
         """The notes on the good exercise with these lines after it, by the line from the end of it: 1 for the first."""
-        there = GOOD.count("\n")
         found = [note.partition(": note: ") for note in self.notes(GOOD + "".join(f"{line}\n" for line in lines))]
-        return [(int(line) - there, text) for line, _, text in found]
+        return [(int(line) - LINES, text) for line, _, text in found]
 
     def test_nothing_to_note(self):
         self.assertEqual(self.notes(GOOD), [])
@@ -152,7 +157,7 @@ class Notes(InFolder):
         self.assertEqual(gone, [(2, said)])
 
     def test_the_same_call_twice(self):
-        again = AGAIN.format(22)
+        again = AGAIN.format(LINES + 1)
         filed, withdrawn = "amount 0 2017 fees file 5", "amount 0 2017 fees withdraw 5"
         count = "amount 0 2017 connections file 1"
         self.assertEqual(self.added(filed, count, filed), [(3, again)])
@@ -160,19 +165,35 @@ class Notes(InFolder):
         self.assertEqual(self.added(filed, count, filed, withdrawn), [])
         self.assertEqual(self.added(filed, count, filed, withdrawn, filed), [(5, again)])
         self.assertEqual(self.added(filed, count, "amount 0 2017 fees file 6"), [])
-        self.assertEqual(self.added("amount 0 2017 fees file 15", count, withdrawn, withdrawn), [(4, AGAIN.format(24))])
-        self.assertEqual(self.added("mark 0 A1 1", "mark 0 A1 0"), [(2, AGAIN.format(10))])
+        self.assertEqual(self.added("amount 0 2017 fees file 15", count, withdrawn, withdrawn), [(4, AGAIN.format(LINES + 3))])
+        cleared = GOOD.splitlines().index("mark 0 A1 0") + 1
+        self.assertEqual(self.added("mark 0 A1 1", "mark 0 A1 0"), [(2, AGAIN.format(cleared))])
 
     def test_heavy_and_long_interruptions(self):
         self.assertEqual(
             self.added("interruption 0 file MV planned 2017-05-01T00:00 2017-05-02T00:00 101"),
-            [(1, HEAVY)],
+            [(1, HEAVY.format(101, 2017, 100))],
         )
         self.assertEqual(self.added("interruption 0 file MV own 2017-05-01T00:00 2017-05-31T00:00 9"), [])
         self.assertEqual(
             self.added("interruption 0 file MV own 2017-05-01T00:00 2017-05-31T00:00:01 9"),
             [(1, "it lasts longer than 30 days, from 2017-05-01T00:00 to 2017-05-31T00:00:01; see whether a date is wrong")],
         )
+
+    def test_the_cabins_are_those_of_the_year_of_the_end(self):
+        for year, cabins in [(2017, 100), (2018, 110), (2019, 120)]:
+            ends = [f"{year}-01-01T00:00", f"{year}-05-02T00:00", f"{year}-12-31T23:59:59"]
+            # The first begins in the year before.
+            starts = [f"{year - 1}-12-31T23:00", f"{year}-05-01T23:00", f"{year}-12-31T23:00"]
+            for start, end in zip(starts, ends):
+                call = f"interruption 0 file MV own {start} {end}"
+                self.assertEqual(self.added(f"{call} {cabins}"), [])
+                self.assertEqual(self.added(f"{call} {cabins + 1}"), [(1, HEAVY.format(cabins + 1, year, cabins))])
+        # As they stand at the end, of this operator.
+        call = "interruption 0 file MV own 2018-05-01T00:00 2018-05-02T00:00 111"
+        self.assertEqual(self.added(call, "setting 0 cabins-2018 111", "setting 1 cabins-2018 99"), [])
+        self.assertEqual(self.added(call, "setting 0 cabins-2018 90"), [(1, HEAVY.format(111, 2018, 90))])
+        self.assertEqual(self.added("interruption 1 file MV own 2018-05-01T00:00 2018-05-02T00:00 51"), [(1, HEAVY.format(51, 2018, 50))])
 
     def test_withdrawals_that_are_left_out(self):
         """Each takes 1 from its count, which is noted only where another one was filed."""
@@ -185,7 +206,7 @@ class Notes(InFolder):
             filed, withdrawn = (f"interruption 0 {sign} MV {cause} 0 {seconds} 5" for sign in ("file", "withdraw"))
             self.assertEqual(self.added(filed, withdrawn), [])
             self.assertEqual(self.added(f"interruption 0 file {other}", withdrawn), [(2, TWIN.format("MV"))])
-            self.assertEqual(self.added(filed, filed), [(2, AGAIN.format(22))])
+            self.assertEqual(self.added(filed, filed), [(2, AGAIN.format(LINES + 1))])
 
     def test_withdrawals_of_what_was_not_filed(self):
         filed = "interruption 0 file MV own 0 300 5"
@@ -195,7 +216,7 @@ class Notes(InFolder):
         self.assertEqual(self.added(filed, other, *enough)[0], (2, TWIN.format("MV")))
         self.assertEqual(self.added(*enough, filed, same), [])
         self.assertEqual(self.added(*enough, same, filed), [])
-        self.assertEqual(self.added(*enough, filed, same, same), [(6, AGAIN.format(26)), (6, TWIN.format("MV"))])
+        self.assertEqual(self.added(*enough, filed, same, same), [(6, AGAIN.format(LINES + 5)), (6, TWIN.format("MV"))])
         self.assertEqual(
             [line for line, text in self.added(*enough, filed, same, same, same) if text == TWIN.format("MV")], [6, 7]
         )
@@ -225,7 +246,7 @@ class Notes(InFolder):
         path = self.file("calls.txt", GOOD + "interruption 0 file MV own 2017-03-26T02:30 2017-03-26T04:00 101\n")
         made = self.folder / "made.q"
         settle_here("--encode", made, path)
-        self.assertEqual(settle_here(made).said, f"{made}: field 22 at byte 169: note: {HEAVY}\n")
+        self.assertEqual(settle_here(made).said, f"{made}: field 26 at byte 221: note: {HEAVY.format(101, 2017, 100)}\n")
 
     def test_many_notes_are_cut(self):
         notes = self.notes(GOOD + "interruption 0 file MV own 0 300 101\n" * 30)

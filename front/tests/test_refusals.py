@@ -2,10 +2,11 @@
 
 import unittest
 
+from front.filing import fields_of
 from front.meanings import MEANINGS
-from front.tests.common import InFolder, program_on, settle, settle_here
+from front.tests.common import ROOT, InFolder, program_on, settle, settle_here
 
-NETWORK = "join 0\nsetting 0 cabins 5\nsetting 0 access-points 7\n"
+NETWORK = "join 0\nsetting 0 cabins-2017 5\nsetting 0 cabins-2018 6\nsetting 0 cabins-2019 8\nsetting 0 access-points 7\n"
 MARKED = NETWORK + "mark 0 A1 0\n" + "".join(f"mark 0 {indicator} 1\n" for indicator in ("A1", "A2", "A3", "A4", "D1", "D2"))
 
 OF_INTERRUPTIONS = (
@@ -29,10 +30,10 @@ FILINGS = [
 TEXTS = [
     ("# one\njoin 16", "refused 4 at 0", "2: refused: join 16", ""),
     (
-        "join 0\nsetting 0 cabins 100001",
+        "join 0\nsetting 0 cabins-2018 100001",
         "refused 5 at 4",
-        "2: refused: setting 0 cabins 100001",
-        "\n  The value is 100001: cabins are 0 to 100,000.\n",
+        "2: refused: setting 0 cabins-2018 100001",
+        "\n  The value is 100001: cabins of 2018 are 0 to 100,000.\n",
     ),
     ("join 4\n\njoin 4", "refused 6 at 4", "3: refused: join 4", "It joined in line 1."),
     ("join 0\nmark 1 A1 1", "refused 7 at 4", "2: refused: mark 1 A1 1", ""),
@@ -150,8 +151,12 @@ TEXTS = [
 SETTLING = [
     ("# nothing at all\n", "refused 10", ""),
     ("rates 5000 10000", "refused 10", ""),
-    (NETWORK + "join 1\nsetting 1 cabins 5\nsetting 0 cabins 0", "refused 11", "Look at operator 0 cabins, operator 1 access-points."),
-    ("join 2", "refused 11", "Look at operator 2 cabins, operator 2 access-points."),
+    (
+        NETWORK + "join 1\nsetting 1 cabins-2019 5\nsetting 0 cabins-2018 0",
+        "refused 11",
+        "  Missing, or 0, of operator 0: cabins-2018.\n  Missing, or 0, of operator 1: cabins-2017, cabins-2018 and access-points.\n",
+    ),
+    ("join 2", "refused 11", "  Missing, or 0, of operator 2: cabins-2017, cabins-2018, cabins-2019 and access-points.\n"),
     (NETWORK, "refused 12", ""),
     (MARKED, "refused 12", ""),
 ]
@@ -159,9 +164,15 @@ SETTLING = [
 
 # A line that 5 refuses, and what is said of each value that is outside its range.
 OUTSIDE = [
+    ("setting 0 cabins-2017 100001", ["The value is 100001: cabins of 2017 are 0 to 100,000."]),
+    ("setting 0 cabins-2018 4000000", ["The value is 4000000: cabins of 2018 are 0 to 100,000."]),
+    ("setting 0 cabins-2019 100001", ["The value is 100001: cabins of 2019 are 0 to 100,000."]),
     ("setting 0 access-points 4000001", ["The value is 4000001: access points are 0 to 4,000,000."]),
     ("setting 0 income 100000000001", ["The value is 100000000001: income is 0 to 100,000,000,000 cents."]),
-    ("setting 0 3 1", ["The setting is 3: it is one of cabins, access-points, income, or a number 0 to 2."]),
+    (
+        "setting 0 5 100001",
+        ["The setting is 5: it is one of cabins-2017, access-points, income, cabins-2018, cabins-2019, or a number 0 to 4."],
+    ),
     ("amount 0 3 fees file 1", ["The year is 3: it is one of 2017, 2018, 2019, or a number 0 to 2."]),
     (
         "amount 0 2017 13 file 1",
@@ -254,8 +265,84 @@ class Refusals(InFolder):
     def test_the_value_that_is_outside_its_range(self):
         for line, sentences in OUTSIDE:
             run = settle_here(self.file("calls.txt", f"{NETWORK}{line}\n"))
-            self.assertEqual(run.output, b"refused 5 at 30\n", line)
+            self.assertEqual(run.output, b"refused 5 at 56\n", line)
             self.assertEqual([told[2:] for told in run.said.splitlines()[2:] if told.startswith("  ")], sentences)
+
+
+CABINS_2017 = "  Only the cabins of 2017 are filed here, as was done before each year had its own. Add those of 2018 and 2019.\n"
+ALL_FOUR = ("cabins-2017", "cabins-2018", "cabins-2019", "access-points")
+
+
+def network_of(operator, *words, value=5):
+    """The lines that set these words of an operator."""
+    return "".join(f"setting {operator} {word} {value}\n" for word in words)
+
+
+class Lacking(InFolder):
+    """What 11 says of each operator: which of the four it lacks, and nothing else."""
+
+    def besides(self, text):
+        """What stands under the meaning of 11."""
+        path = self.file("calls.txt", text)
+        run = settle_here(path)
+        self.assertEqual((run.status, run.output), (1, b"refused 11\n"), text)
+        start = f"{path}: the filing is read, and settling it is refused\n  11: {MEANINGS[11]}\n"
+        self.assertTrue(run.said.startswith(start), run.said)
+        return run.said[len(start) :]
+
+    def test_each_of_the_four_alone(self):
+        for lacking in ALL_FOUR:
+            filed = network_of(3, *(word for word in ALL_FOUR if word != lacking))
+            expected = f"  Missing, or 0, of operator 3: {lacking}.\n"
+            for text in [f"join 3\n{filed}", f"join 3\n{filed}{network_of(3, lacking, value=0)}"]:
+                self.assertEqual(self.besides(text), expected)
+            # The latest value counts.
+            self.assertEqual(self.besides(f"join 3\n{network_of(3, *ALL_FOUR)}{network_of(3, lacking, value=0)}"), expected)
+            clear = "".join(f"mark 3 {indicator} 0\n" for indicator in ("A2", "D1"))
+            self.assertEqual(self.besides(f"join 3\n{filed}{clear}rates 5000 10000\n"), expected)
+
+    def test_income_is_not_among_them(self):
+        text = f"join 3\n{network_of(3, *ALL_FOUR)}"
+        self.assertEqual(settle_here(self.file("calls.txt", text)).output, b"refused 12\n")
+        self.assertEqual(settle_here(self.file("calls.txt", f"{text}mark 3 D1 0\n")).status, 0)
+
+    def test_those_that_lack_the_same_stand_together(self):
+        joins = "".join(f"join {operator}\n" for operator in reversed(range(16)))
+        every = "cabins-2017, cabins-2018, cabins-2019 and access-points"
+        self.assertEqual(self.besides(joins), f"  Missing, or 0, of operators 0 to 15: {every}.\n")
+        whole = "".join(network_of(operator, *ALL_FOUR) for operator in (2, 5, 6, 9, 13))
+        cabins = network_of(7, *ALL_FOUR[:3]) + network_of(0, *ALL_FOUR[:2]) + network_of(15, *ALL_FOUR[:3])
+        self.assertEqual(
+            self.besides(joins + whole + cabins),
+            "  Missing, or 0, of operator 0: cabins-2019 and access-points.\n"
+            f"  Missing, or 0, of operators 1, 3, 4, 8, 10 to 12 and 14: {every}.\n"
+            "  Missing, or 0, of operators 7 and 15: access-points.\n",
+        )
+
+    def test_cabins_of_2017_alone(self):
+        text = "join 0\njoin 1\nsetting 0 0 100\nsetting 0 1 1000\nsetting 1 0 100\nsetting 1 1 3000\n"
+        missing = "  Missing, or 0, of operators 0 and 1: cabins-2018 and cabins-2019.\n"
+        self.assertEqual(self.besides(text), missing + CABINS_2017)
+        # Whoever has filed the cabins of another year knows of them.
+        for word in ("cabins-2018", "cabins-2019"):
+            self.assertNotIn("Only the cabins of 2017", self.besides(f"{text}setting 1 {word} 100\n"))
+        self.assertNotIn("Only the cabins of 2017", self.besides("join 0\nsetting 0 1 1000\n"))
+
+    def test_a_course_filing_from_before_each_year_had_its_cabins(self):
+        fields = fields_of((ROOT / "examples" / "course" / "filing.q").read_bytes())
+        data = b"".join(field.data for field in fields if not (field.data[0] == 2 and field.data[4] in (3, 4)))
+        path = self.file("filing.q", data)
+        run = settle(path)
+        self.assertEqual((run.status, run.output), (1, b"refused 11\n"))
+        self.assertEqual(
+            run.said,
+            f"{path}: the filing is read, and settling it is refused\n  11: {MEANINGS[11]}\n"
+            "  Missing, or 0, of operators 0 to 15: cabins-2018 and cabins-2019.\n" + CABINS_2017,
+        )
+        # It is whole with two settings more of each operator.
+        added = "".join(network_of(operator, "cabins-2018", "cabins-2019", value=4000) for operator in range(16))
+        calls = self.file("calls.txt", settle("--show", path).output.decode() + added)
+        self.assertEqual(settle("--quiet", calls).status, 0)
 
 
 class WhatElse(InFolder):
@@ -268,10 +355,10 @@ class WhatElse(InFolder):
         return [line.replace(f"{path}:", "") for line in run.said.splitlines() if not line.startswith("  ")]
 
     def test_nothing_else(self):
-        self.assertEqual(self.said_of(f"{NETWORK}mark 0 A1 0\njoin 0\n"), ["5: refused: join 0", f" {ALONE}"])
+        self.assertEqual(self.said_of(f"{NETWORK}mark 0 A1 0\njoin 0\n"), ["7: refused: join 0", f" {ALONE}"])
 
     def test_lines_and_settling(self):
-        said = self.said_of("join 0\njoin 0\n\nmark 1 A1 0\namount 0 2017 fees withdraw 5\nrates 20001 7\nsetting 0 cabins 5\n")
+        said = self.said_of("join 0\njoin 0\n\nmark 1 A1 0\namount 0 2017 fees withdraw 5\nrates 20001 7\nsetting 0 cabins-2017 5\n")
         self.assertEqual(
             said,
             [
@@ -280,15 +367,15 @@ class WhatElse(InFolder):
                 "5: would be refused too: amount 0 2017 fees withdraw 5: "
                 "9: The figure would fall below 0: more is withdrawn than stands in it by then.",
                 "6: would be refused too: rates 20001 7: 5: The pot is 20001: a rate is 0 to 20,000 millionths.",
-                " then settling would be refused: 11: An operator that has joined has no cabins, or no access points.",
+                " then settling would be refused: 11: An operator that has joined lacks the cabins of a year, or access points.",
                 " nothing is settled",
             ],
         )
 
     def test_at_most_ten(self):
-        said = self.said_of(NETWORK + "setting 5 cabins 1\n" * 40)
+        said = self.said_of(NETWORK + "setting 5 cabins-2019 1\n" * 40)
         self.assertEqual(len(said), 12)
-        self.assertEqual(said[10].split(":")[0], "14")
+        self.assertEqual(said[10].split(":")[0], "16")
         self.assertEqual(said[11], " nothing is settled, and there may be more")
 
     def test_the_fields_of_a_filing_keep_their_places(self):

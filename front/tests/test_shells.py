@@ -158,7 +158,7 @@ class Failures(InFolder):
     def test_errors_that_nobody_hears(self):
         for to in ("2>/dev/full", "2>&-"):
             self.assertEqual(self.shell(f"settle examples/course {to} </dev/null")[0::2], (0, ""))
-            self.assertEqual(self.shell(f"settle examples/refused {to} </dev/null"), (1, b"refused 7 at 30\n", ""))
+            self.assertEqual(self.shell(f"settle examples/refused {to} </dev/null"), (1, b"refused 7 at 56\n", ""))
 
     def test_a_reader_that_leaves(self):
         for words in ("settle --show examples/course", "settle examples/course examples/course 2>&1", "settle --help"):

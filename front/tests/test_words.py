@@ -22,9 +22,11 @@ class Taken(InFolder):
     def test_every_word_has_its_number(self):
         for text, call in [
             ("join 3", ("join", 3)),
-            ("setting 0 cabins 100", ("setting", 0, 0, 100)),
+            ("setting 0 cabins-2017 100", ("setting", 0, 0, 100)),
             ("setting 0 access-points 100", ("setting", 0, 1, 100)),
             ("setting 0 income 100", ("setting", 0, 2, 100)),
+            ("setting 0 cabins-2018 100", ("setting", 0, 3, 100)),
+            ("setting 0 cabins-2019 100", ("setting", 0, 4, 100)),
             ("amount 1 2017 mv-weight file 5", ("amount", 1, 0, 0, 0, 5)),
             ("amount 1 2018 mv-seconds withdraw 5", ("amount", 1, 1, 1, 1, 5)),
             ("amount 1 2019 lv-weight file 5", ("amount", 1, 2, 2, 0, 5)),
@@ -61,6 +63,7 @@ class Taken(InFolder):
     def test_numbers_stay_good_and_case_does_not_matter(self):
         self.assertEqual(numbers("amount 1 1 4 0 007"), numbers("Amount 1 2018 FEES File 7"))
         self.assertEqual(numbers("amount 1 2 10 1 7"), numbers("amount 1 2019 Count-Planned withdraw 7"))
+        self.assertEqual(numbers("setting 3 4 7\nsetting 3 0 8"), numbers("setting 3 CABINS-2019 7\nsetting 3 Cabins-2017 8"))
         self.assertEqual(numbers("mark 2 0 1"), numbers("mark 2 a1 1"))
         self.assertEqual(numbers("interruption 3 1 0 1 0 181 1"), numbers("interruption 3 withdraw mv planned 0 181 1"))
 
@@ -112,7 +115,8 @@ class Taken(InFolder):
             ("join 0\nmark 0 6 1", b"refused 5 at 4\n"),
             ("join 0\namount 0 3 fees file 1", b"refused 5 at 4\n"),
             ("join 0\namount 0 0 13 file 1", b"refused 5 at 4\n"),
-            ("join 0\nsetting 0 cabins 18446744073709551615", b"refused 5 at 4\n"),
+            ("join 0\nsetting 0 cabins-2018 18446744073709551615", b"refused 5 at 4\n"),
+            ("join 0\nsetting 0 5 1", b"refused 5 at 4\n"),
             ("join 0\ninterruption 0 file MV own 2015-12-31T00:00 2017-01-01T00:00 1", b"refused 5 at 4\n"),
             ("join 0\ninterruption 0 file MV own -9223372036854775808 9223372036854775807 4294967295", b"refused 5 at 4\n"),
             ("rates 4294967295 0", b"refused 5 at 0\n"),
@@ -127,6 +131,9 @@ FIGURES = (
     "mv-weight, mv-seconds, lv-weight, lv-seconds, fees, connections, reconnection-fees, reconnections, "
     "count-counted, count-short, count-planned, count-coupled, count-exceptional"
 )
+
+SETTING = "a setting: cabins-2017, access-points, income, cabins-2018, cabins-2019, or a number 0 to 4 (setting of setting)"
+EACH_YEAR = "cabins-2017, cabins-2018 or cabins-2019: each year has its own cabins (setting of setting)"
 
 # A line, and the word and what is expected of each of its errors.
 ERRORS = [
@@ -169,9 +176,15 @@ ERRORS = [
             )
         ],
     ),
-    ("setting 0 cabin 5", [("cabin", "a setting: cabins, access-points, income, or a number 0 to 2 (setting of setting)")]),
+    ("setting 0 cabin 5", [("cabin", SETTING)]),
+    ("setting 0 cabins-2020 5", [("cabins-2020", SETTING)]),
+    ("setting 0 cabins2018 5", [("cabins2018", SETTING)]),
+    ("setting 0 256 5", [("256", SETTING)]),
+    ("setting 0 cabins 5", [("cabins", EACH_YEAR)]),
+    ("setting 0 Cabins 5", [("Cabins", EACH_YEAR)]),
+    ("setting 0 CABINS 5", [("CABINS", EACH_YEAR)]),
     (
-        "setting 0 cabins many",
+        "setting 0 cabins-2017 many",
         [
             (
                 "many",
