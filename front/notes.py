@@ -10,6 +10,8 @@ from front.filing import Field
 from front.words import is_number, word_of
 
 LONGEST = 30 * 86_400
+# Cabins that grow or shrink by more than this from one year to the next may be mistyped.
+MOST_GROWTH = 2
 # A figure that counts by another one, which must not be 0 then.
 DIVIDED = ((1, 0, "A2"), (3, 2, "A4"), (4, 5, "D1"), (6, 7, "D2"))
 SIGN_PLACE = {"interruption": 1, "amount": 3}
@@ -43,6 +45,7 @@ def notes_of(source, programs):
     on_book = [
         *_marks(fields, book),
         *_incomes(fields, book),
+        *_cabins(fields, book),
         *_rates(fields, book),
         *_undivided(fields, book),
     ]
@@ -83,6 +86,16 @@ def _incomes(fields, book):
             field = _last(fields, "setting", operator, INCOME) or _last(fields, "join", operator)
             what = f"operator {operator} has an income of 0, so its limit is 0 and it has no adjustment"
             yield Note(field, f"{what}; file it in cents: setting {operator} income ..")
+
+
+def _cabins(fields, book):
+    """Cabins of a year that are more than twice, or less than half, those of the year before."""
+    for operator, year in product(book.joined(), range(1, len(YEARS))):
+        before, now = (book.value("setting", operator, which) for which in CABINS[year - 1 : year + 1])
+        if now > MOST_GROWTH * before or before > MOST_GROWTH * now:
+            share = "more than twice" if now > before else "less than half"
+            what = f"operator {operator} has {now:,} cabins in {YEARS[year]}, {share} the {before:,} of {YEARS[year - 1]}"
+            yield Note(_last(fields, "setting", operator, CABINS[year]), f"{what}; see whether a digit or a year is wrong")
 
 
 def _rates(fields, book):

@@ -2,7 +2,7 @@
 
 from pathlib import Path
 
-from front.tests.common import InFolder, program_on, settle, settle_here
+from front.tests.common import ROOT, InFolder, program_on, settle, settle_here
 
 TABLE = Path(__file__).parent / "csv" / "calls.csv"
 
@@ -19,6 +19,8 @@ REFUSED = [("05/06/2018 10:00;2;", "05/06/2018 10:00;1;"), ("922500", "2250"), (
 NOTES = """\
 :4: note: operator 1 is marked at A3 since its join, and gets no points there; if its attestation is in, file: mark 1 A3 0
 :5: note: operator 2 has an income of 0, so its limit is 0 and it has no adjustment; file it in cents: setting 2 income ..
+:12: note: operator 1 has 260 cabins in 2018, less than half the 2,600 of 2017; see whether a digit or a year is wrong
+:13: note: operator 1 has 2,540 cabins in 2019, more than twice the 260 of 2018; see whether a digit or a year is wrong
 :44: note: operator 0 has reconnection-fees in 2019 and no reconnections, so that year counts as 0 at D2; \
 file its reconnections, or correct the year
 :50: note: operator 2 has lv-seconds in 2019 and no lv-weight, so that year counts as 0 at A4; file its lv-weight, or correct the year
@@ -94,6 +96,7 @@ COUNTS = (
 TWIN = "no {} interruption of these very values is left here to withdraw; correct it to what was filed"
 AGAIN = "the same call stands in line {}; take one out if it is meant once"
 HEAVY = "its weight, {}, is more than the operator's cabins in {}, {}; correct one of them"
+JUMP = "operator {} has {} cabins in {}, {} of {}; see whether a digit or a year is wrong"
 NO_RATES = "so nobody pays or gets anything; file them, as in: rates 5000 10000"
 
 
@@ -194,6 +197,36 @@ class Notes(InFolder):
         self.assertEqual(self.added(call, "setting 0 cabins-2018 111", "setting 1 cabins-2018 99"), [])
         self.assertEqual(self.added(call, "setting 0 cabins-2018 90"), [(1, HEAVY.format(111, 2018, 90))])
         self.assertEqual(self.added("interruption 1 file MV own 2018-05-01T00:00 2018-05-02T00:00 51"), [(1, HEAVY.format(51, 2018, 50))])
+
+    def test_cabins_that_jump(self):
+        twice, half = "more than twice the", "less than half the"
+        for lines, notes in [
+            (["setting 0 cabins-2018 201"], [(1, JUMP.format(0, 201, 2018, f"{twice} 100", 2017))]),
+            (["setting 0 cabins-2018 200"], []),
+            (["setting 0 cabins-2019 221"], [(1, JUMP.format(0, 221, 2019, f"{twice} 110", 2018))]),
+            (["setting 0 cabins-2019 220"], []),
+            (["setting 0 cabins-2019 55"], []),
+            (["setting 0 cabins-2019 54"], [(1, JUMP.format(0, 54, 2019, f"{half} 110", 2018))]),
+            # The line is that of the later year, and the latest value counts.
+            (
+                ["setting 1 cabins-2018 90", "setting 1 cabins-2017 1000", "setting 1 cabins-2018 91"],
+                [(3, JUMP.format(1, 91, 2018, f"{half} 1,000", 2017))],
+            ),
+            (["setting 0 cabins-2019 1100", "setting 0 cabins-2019 111"], []),
+            # One year that is wrong is so beside the year before and the year after, whose line comes before these.
+            (
+                ["setting 0 cabins-2018 1100"],
+                [
+                    (1, JUMP.format(0, "1,100", 2018, f"{twice} 100", 2017)),
+                    (GOOD.splitlines().index("setting 0 cabins-2019 120") + 1 - LINES, JUMP.format(0, 120, 2019, f"{half} 1,100", 2018)),
+                ],
+            ),
+        ]:
+            self.assertEqual(self.added(*lines), notes, lines)
+
+    def test_the_examples_have_no_jump(self):
+        for example in ("case-m", "course", "growing"):
+            self.assertNotIn("cabins", settle_here(ROOT / "examples" / example).said)
 
     def test_withdrawals_that_are_left_out(self):
         """Each takes 1 from its count, which is noted only where another one was filed."""
