@@ -5,6 +5,7 @@ import re
 from front import csv_calls, words
 from front.calls import KINDS
 from front.meanings import MEANINGS, UNJOINED_SHEET
+from front.sources import source_of
 from front.tests.common import ROOT, InFolder, settle
 
 PAGES = ("README.md", "docs/FILING.md")
@@ -72,6 +73,31 @@ class Pages(InFolder):
         joins = "".join(f"join {operator}\n" for operator in range(16) if f"join {operator}" not in examples)
         run = settle("--write", "-", self.file("calls.txt", joins + "\n".join(examples)))
         self.assertEqual((run.status, run.said), (0, ""))
+
+    def test_a_filing_with_the_cabins_of_2017_alone(self):
+        text = page("docs/FILING.md")
+        calls = next(block for kind, block in BLOCK.findall(text) if kind == "calls")
+        old = re.sub("setting .* cabins-201[89] .*\n", "", calls)
+        self.file("exercise.txt", old.replace("0 cabins-2017 100", "0 cabins 100"))
+        self.assertIn(f"    {settle('exercise.txt', cwd=self.folder).said.splitlines()[0]}\n", text)
+        # The page shows the same of sixteen operators.
+        run = settle(self.file("exercise.txt", old))
+        self.assertEqual(run.output, b"refused 11\n")
+        for line in run.said.splitlines()[2:]:
+            self.assertIn(f"  {line}\n".replace("operators 0 and 1:", "operators 0 to 15:"), text)
+        added = re.search(r"as in `(setting 0 cabins-2018 \d+)` and\s`(setting 0 cabins-2019 \d+)`", text).groups()
+        for operator in ("0", "1"):
+            old += "".join(f"{line.replace(' 0 ', f' {operator} ')}\n" for line in added)
+        self.assertEqual(settle(self.file("exercise.txt", old)).status, 0)
+
+    def test_the_cabins_of_the_growing_example(self):
+        text = " ".join(page("docs/FILING.md").split())
+        calls = [field.call for field in source_of(ROOT / "examples" / "growing").fields()]
+        values = {(call.kind.name, *call.values[:-1]): call.values[-1] for call in calls}
+        cabins, weights = [values["setting", 0, which] for which in (0, 3, 4)], [values["amount", 0, year, 0, 0] for year in range(3)]
+        yearly = [1_000_000 * weight // number for weight, number in zip(weights, cabins)]
+        self.assertIn("operator 0 has {}, {} and {} cabins, and an `mv-weight` of {}, {} and {}. ".format(*cabins, *weights), text)
+        self.assertIn("Its values at A1 are {:,}, {:,} and {:,}, so *s* = {:,}.".format(*yearly, sum(yearly)), text)
 
     def test_the_mistakes_that_the_page_shows(self):
         text = page("docs/FILING.md")
