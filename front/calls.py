@@ -23,9 +23,9 @@ class Place(NamedTuple):
                 return number
         return None
 
-    def expected_for(self, word):
-        """What is expected in the place of a word that stands for no number here."""
-        return dict(self.former).get(word.lower(), self.expected)
+    def instead_of(self, word):
+        """What is expected in the place of a word that was taken once, or None."""
+        return dict(self.former).get(word.lower())
 
     def fits(self, number):
         """Whether the number can be put into the bytes of this place; its range is the program's to judge."""

@@ -75,7 +75,8 @@ def row_of(line, words):
     if len(words) - 1 != len(kind.places):
         count = "1 word" if len(kind.places) == 1 else f"{len(kind.places)} words"
         expected = f"{count} after {kind.name} ({names(kind)}), found {len(words) - 1}"
-        return None, [Problem(line, " ".join(words), expected)]
+        former = [_problem(line, kind, place, word) for place, word in zip(kind.places, words[1:]) if place.instead_of(word)]
+        return None, [Problem(line, " ".join(words), expected), *former]
     return filled(line, kind, words[1:])
 
 
@@ -93,19 +94,19 @@ def names(kind):
 def filled(line, kind, words):
     """The call with the values that the words stand for, or a problem for each that stands for none."""
     values = [value_of(place, word) for place, word in zip(kind.places, words)]
-    problems = [
-        Problem(line, word, f"{_expected(place, word)} ({place.name} of {kind.name})")
-        for place, word, value in zip(kind.places, words, values)
-        if value is None
-    ]
+    problems = [_problem(line, kind, place, word) for place, word, value in zip(kind.places, words, values) if value is None]
     return None if problems else Row(line, Call(kind, tuple(values)), tuple(words)), problems
+
+
+def _problem(line, kind, place, word):
+    return Problem(line, word, f"{_expected(place, word)} ({place.name} of {kind.name})")
 
 
 def _expected(place, word):
     """What is expected at a place; a time that names a zone is told in winter time."""
     here = times.without_zone(word) if place.is_time else None
     if here is None:
-        return place.expected_for(word)
+        return place.instead_of(word) or place.expected
     return f"a clock time without a zone: all times are winter time, all year, in which this one is {here}"
 
 

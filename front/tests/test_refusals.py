@@ -324,8 +324,8 @@ class Lacking(InFolder):
         missing = "  Missing, or 0, of operators 0 and 1: cabins-2018 and cabins-2019.\n"
         self.assertEqual(self.besides(text), missing + CABINS_2017)
         # Whoever has filed the cabins of another year knows of them.
-        for word in ("cabins-2018", "cabins-2019"):
-            self.assertNotIn("Only the cabins of 2017", self.besides(f"{text}setting 1 {word} 100\n"))
+        for word, value in [("cabins-2018", 100), ("cabins-2019", 100), ("cabins-2018", 0)]:
+            self.assertNotIn("Only the cabins of 2017", self.besides(f"{text}setting 1 {word} {value}\n"))
         self.assertNotIn("Only the cabins of 2017", self.besides("join 0\nsetting 0 1 1000\n"))
 
     def test_a_course_filing_from_before_each_year_had_its_cabins(self):

@@ -241,6 +241,14 @@ class Errors(InFolder):
             self.assertEqual(said[:-1], [f"{path}:3: {word!r}: expected {expected}" for word, expected in problems])
             self.assertEqual(said[-1], f"{path}: 1 error; nothing is settled and nothing is written")
 
+    def test_cabins_with_the_year_as_a_word_of_its_own(self):
+        for line in ("setting 0 cabins 2018 104", "setting 0 Cabins"):
+            word, count = line.split()[2], len(line.split()) - 1
+            path, said = self.said_of(line)
+            expected = f"expected 3 words after setting (operator setting value), found {count}"
+            self.assertEqual(said[:2], [f"{path}:1: {line!r}: {expected}", f"{path}:1: {word!r}: expected {EACH_YEAR}"])
+        self.assertEqual(len(self.said_of("setting 0 cabins-2018 2018 104")[1]), 2)
+
     def test_times_that_are_none(self):
         for word in NO_TIMES:
             path, said = self.said_of(f"interruption 0 file MV own 0 {word} 1")
