@@ -8,7 +8,7 @@ MOST_END = 94_607_999
 LEAST_START = -31_536_000
 MOST_WEIGHT = 100_000
 # The most of each setting, and its range in words.
-SETTINGS = {
+LIMITS = {
     **{which: (100_000, f"cabins of {year} are 0 to 100,000") for which, year in zip(CABINS, YEARS)},
     ACCESS_POINTS: (4_000_000, "access points are 0 to 4,000,000"),
     INCOME: (100_000_000_000, "income is 0 to 100,000,000,000 cents"),
@@ -37,8 +37,8 @@ def _none(_call):
 
 def _setting(call):
     which = call.value("setting")
-    if which in SETTINGS and call.value("value") > SETTINGS[which][0]:
-        yield "value", SETTINGS[which][1]
+    if which in LIMITS and call.value("value") > LIMITS[which][0]:
+        yield "value", LIMITS[which][1]
 
 
 def _interruption(call):

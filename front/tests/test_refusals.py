@@ -329,7 +329,8 @@ class Lacking(InFolder):
         self.assertNotIn("Only the cabins of 2017", self.besides("join 0\nsetting 0 1 1000\n"))
 
     def test_a_course_filing_from_before_each_year_had_its_cabins(self):
-        fields = fields_of((ROOT / "examples" / "course" / "filing.q").read_bytes())
+        course = ROOT / "examples" / "course"
+        fields = fields_of((course / "filing.q").read_bytes())
         data = b"".join(field.data for field in fields if not (field.data[0] == 2 and field.data[4] in (3, 4)))
         path = self.file("filing.q", data)
         run = settle(path)
@@ -339,6 +340,8 @@ class Lacking(InFolder):
             f"{path}: the filing is read, and settling it is refused\n  11: {MEANINGS[11]}\n"
             "  Missing, or 0, of operators 0 to 15: cabins-2018 and cabins-2019.\n" + CABINS_2017,
         )
+        # Its sheets need no cabins.
+        self.assertEqual(settle("--sheet", 3, 2018, path), settle("--sheet", 3, 2018, course))
         # It is whole with two settings more of each operator.
         added = "".join(network_of(operator, "cabins-2018", "cabins-2019", value=4000) for operator in range(16))
         calls = self.file("calls.txt", settle("--show", path).output.decode() + added)
