@@ -61,7 +61,8 @@ class Compared(InFolder):
             self.assertEqual(run.output.decode().splitlines(), [f"# here: {CASE_M}/filing.q, there: {path}", *lines])
 
     def test_the_other_way_round_and_the_order_of_values(self):
-        more = "join 15\nrates 7 8\nindex june-2013 9\nmark 0 A2 1\namount 0 2017 fees file 1\nsetting 0 cabins-2018 7\nsetting 0 income 1\n"
+        settings = "setting 0 cabins-2018 7\nsetting 0 income 1\n"
+        more = f"join 15\nrates 7 8\nindex june-2013 9\nmark 0 A2 1\namount 0 2017 fees file 1\n{settings}"
         path = self.file("there.txt", f"{CALLS}{more}")
         lines = [
             ("operator 15", "not joined", "joined"),
