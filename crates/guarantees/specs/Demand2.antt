@@ -45,5 +45,5 @@ pub record Demand2 : Type 0 where
   -- a written filing, read into a fresh book gives the book back: all its fields applied, the offset at its end
   pub read-back : (b : Book) → inRange b ≡ true
       → read freshBook (written b) ≡ reading b (length (writtenCalls b)) (length (written b)) (accepted yes-said)
-  -- "at most 7,067 bytes"
+  -- "The most a writer needs grows to 11,083 bytes" (02, point 3)
   pub most : (b : Book) → inRange b ≡ true → length (written b) ≤ writtenMost

@@ -20,7 +20,8 @@ use Rattle.money.specs.Money.{pot, contributions, returns, limits, adjustments}
 unfoldable pub settingMissing : Book → ℕ → Bool
 settingMissing b which = any operators (λ (operator : ℕ). isJoined b operator && eqb (settingOf b operator which) 0)
 
--- 11: "a joined operator has 0 cabins or access points", and of cabins "if any of the three is 0" (02, point 3)
+-- 11: "a joined operator has 0 cabins or access points", and of cabins "if any of the three is 0" (02, point 3); setting 1 has the access
+-- points
 unfoldable pub networkMissing : Book → Bool
 networkMissing b = any years (λ (year : ℕ). settingMissing b (cabinsIn year)) || settingMissing b 1
 
