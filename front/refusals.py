@@ -28,8 +28,8 @@ def explained(source, refusal, asked, programs):
     """The refusal in lines for staff."""
     meaning = f"  {refusal.number}: {asked.meaning(refusal)}"
     if refusal.offset is None:
-        besides = _of_sheet(source, refusal, asked.like) if asked.like else _without_network(source, refusal)
-        return [f"{source.name}: the filing is read, and {asked.refused}", meaning, *besides]
+        besides = _of_sheet(source, refusal, asked.like) if asked.like else _without_network(source.fields(), refusal)
+        return [f"{source.name}: the filing is read, and {asked.refused}", meaning, *(f"  {line}" for line in besides)]
     *before, field = [field for field in source.fields() if field.offset <= refusal.offset]
     return [
         f"{source.start_of(field)}: refused: {_shown(field)}",
@@ -68,6 +68,7 @@ def what_else(source, refusal, asked):
 def _also_refused(source, left, refusal, asked):
     meaning = asked.meaning(refusal).split(". ")[0] + "."
     if refusal.offset is None:
+        meaning = " ".join(_without_network(left, refusal)) or meaning
         return f"{source.name}: then {asked.would_be}: {refusal.number}: {meaning}"
     field = _at(left, refusal.offset)
     if refusal.number == 5:
@@ -155,22 +156,22 @@ def _listed(parts):
 def _of_sheet(source, refusal, like):
     """For 5 the year and its range; for 7 who has joined."""
     if refusal.number == 5:
-        return [f"  {line}" for line in outside(like)]
+        return outside(like)
     if refusal.number == 7:
         joined = sorted(field.call.value("operator") for field in source.fields() if field.call.kind.name == "join")
-        return [f"  Joined here: {_listed([f'operator {operator}' for operator in joined] or ['nobody'])}."]
+        return [f"Joined here: {_listed([f'operator {operator}' for operator in joined] or ['nobody'])}."]
     return []
 
 
-def _without_network(source, refusal):
+def _without_network(fields, refusal):
     """For 11: what was never filed, or last filed as 0, and whether cabins were filed for the first year alone."""
     if refusal.number != 11:
         return []
-    calls = [field.call for field in source.fields()]
+    calls = [field.call for field in fields]
     latest = {call.values[:2]: call.value("value") for call in calls if call.kind.name == "setting"}
-    lines = [f"  Missing, or 0, of {_operators(those)}: {_listed(lacks)}." for lacks, those in _lacking(calls, latest).items() if lacks]
+    lines = [f"Missing, or 0, of {_operators(those)}: {_listed(lacks)}." for lacks, those in _lacking(calls, latest).items() if lacks]
     years = {which for _, which in latest}.intersection(CABINS)
-    return [*lines, f"  {ONLY_2017}"] if years == {CABINS[0]} else lines
+    return [*lines, ONLY_2017] if years == {CABINS[0]} else lines
 
 
 def _lacking(calls, latest):

@@ -370,7 +370,19 @@ class WhatElse(InFolder):
                 "5: would be refused too: amount 0 2017 fees withdraw 5: "
                 "9: The figure would fall below 0: more is withdrawn than stands in it by then.",
                 "6: would be refused too: rates 20001 7: 5: The pot is 20001: a rate is 0 to 20,000 millionths.",
-                " then settling would be refused: 11: An operator that has joined lacks the cabins of a year, or access points.",
+                " then settling would be refused: 11: Missing, or 0, of operator 0: cabins-2018, cabins-2019 and access-points. "
+                "Only the cabins of 2017 are filed here, as was done before each year had its own. Add those of 2018 and 2019.",
+                " nothing is settled",
+            ],
+        )
+
+    def test_what_the_refused_line_leaves_missing(self):
+        said = self.said_of(f"{NETWORK}join 3\n".replace("cabins-2018 ", "cabins-2018 100001"))
+        self.assertEqual(
+            said[1:],
+            [
+                " then settling would be refused: 11: Missing, or 0, of operator 0: cabins-2018. "
+                "Missing, or 0, of operator 3: cabins-2017, cabins-2018, cabins-2019 and access-points.",
                 " nothing is settled",
             ],
         )
