@@ -28,7 +28,7 @@ def explained(source, refusal, asked, programs):
     """The refusal in lines for staff."""
     meaning = f"  {refusal.number}: {asked.meaning(refusal)}"
     if refusal.offset is None:
-        besides = _of_sheet(source, refusal, asked.like) if asked.like else _without_network(source.fields(), refusal)
+        besides = _of_sheet(source, refusal, asked.like) if asked.like else _without_network(source, source.fields(), refusal)
         return [f"{source.name}: the filing is read, and {asked.refused}", meaning, *(f"  {line}" for line in besides)]
     *before, field = [field for field in source.fields() if field.offset <= refusal.offset]
     return [
@@ -68,7 +68,7 @@ def what_else(source, refusal, asked):
 def _also_refused(source, left, refusal, asked):
     meaning = asked.meaning(refusal).split(". ")[0] + "."
     if refusal.offset is None:
-        meaning = " ".join(_without_network(left, refusal)) or meaning
+        meaning = " ".join(_without_network(source, left, refusal)) or meaning
         return f"{source.name}: then {asked.would_be}: {refusal.number}: {meaning}"
     field = _at(left, refusal.offset)
     if refusal.number == 5:
@@ -163,19 +163,19 @@ def _of_sheet(source, refusal, like):
     return []
 
 
-def _without_network(fields, refusal):
-    """For 11: what was never filed, or last filed as 0, and whether cabins were filed for the first year alone."""
+def _without_network(source, accepted, refusal):
+    """For 11: what no accepted call files, or the latest as 0, and whether the source names cabins of the first year alone."""
     if refusal.number != 11:
         return []
+    lines = [f"Missing, or 0, of {_operators(those)}: {_listed(lacks)}." for lacks, those in _lacking(accepted).items() if lacks]
+    named = {field.call.value("setting") for field in source.fields() if field.call.kind.name == "setting"}
+    return [*lines, ONLY_2017] if named.intersection(CABINS) == {CABINS[0]} else lines
+
+
+def _lacking(fields):
+    """The operators that have joined, by the settings that they lack, if any, to be settled."""
     calls = [field.call for field in fields]
     latest = {call.values[:2]: call.value("value") for call in calls if call.kind.name == "setting"}
-    lines = [f"Missing, or 0, of {_operators(those)}: {_listed(lacks)}." for lacks, those in _lacking(calls, latest).items() if lacks]
-    years = {which for _, which in latest}.intersection(CABINS)
-    return [*lines, ONLY_2017] if years == {CABINS[0]} else lines
-
-
-def _lacking(calls, latest):
-    """The operators that have joined, by the settings that they lack, if any, to be settled."""
     lacking = {}
     for operator in sorted(call.value("operator") for call in calls if call.kind.name == "join"):
         lacks = tuple(SETTINGS[which] for which in NETWORK if not latest.get((operator, which)))

@@ -387,6 +387,16 @@ class WhatElse(InFolder):
             ],
         )
 
+    def test_cabins_of_another_year_that_are_refused(self):
+        said = self.said_of("join 0\nsetting 0 cabins-2017 5\nsetting 0 cabins-2018 100001\n")
+        self.assertEqual(
+            said[1:],
+            [
+                " then settling would be refused: 11: Missing, or 0, of operator 0: cabins-2018, cabins-2019 and access-points.",
+                " nothing is settled",
+            ],
+        )
+
     def test_at_most_ten(self):
         said = self.said_of(NETWORK + "setting 5 cabins-2019 1\n" * 40)
         self.assertEqual(len(said), 12)
