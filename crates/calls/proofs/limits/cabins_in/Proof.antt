@@ -1,6 +1,6 @@
 -- `calls::limits::cabins_in` meets its contract.
 -- Assumes nothing.
-use mathlib.Core.Path.{sym}
+use mathlib.Core.Path.{refl, sym}
 use native.Mathlib.Omega.{arith}
 use Rattle.calls.proofs.SettingLaws.{last-cabins}
 use borrow.Author.Needs.{needs}
@@ -13,7 +13,7 @@ returns c = search needs
 
 -- year 1
 returns-2 : tie.Need-returns-2
-returns-2 c = search needs
+returns-2 c = (rw (c .match .keys2) refl, omega arith)
 
 -- year 2
 returns-3 : tie.Need-returns-3
