@@ -1,4 +1,4 @@
--- A book in range, as bounds of each value that it holds, part by part: one that moves leaves the others in theirs.
+-- A book within its limits, as bounds of each value that it holds, part by part: one that moves leaves the others in theirs.
 -- Assumes nothing.
 use Prim.Native.Nat.{ℕ, _^_, _≤_, _<_}
 use mathlib.Core.Path.{_≡_, refl}
@@ -11,7 +11,7 @@ use borrow.Author.Tests.{leb-true, le-leb, ltb-true, lt-ltb, eqb-true, eq-eqb}
 use Rattle.book.specs.declared.Book.{Book}
 use Rattle.calls.specs.Limits.{operators, years, figureCount, settingCount, indicatorCount, indexCount, settingPlaces, figurePlaces, settingLimit, figureLimit, rateLimit, indexLeast, indexMost}
 use Rattle.calls.specs.Masks.{has}
-use Rattle.book.specs.Book.{withJoined, withMarks, withSettings, withFigures, withRates, withIndices, settingSlot, figureSlot, isJoined, isMarked, settingOf, figureOf, indexOf, most, isComplete, hasSixteenBits, settingsInRange, figuresInRange, marksInRange, indicesInRange, ratesInRange, inRange}
+use Rattle.book.specs.Book.{withJoined, withMarks, withSettings, withFigures, withRates, withIndices, settingSlot, figureSlot, isJoined, isMarked, settingOf, figureOf, indexOf, most, isComplete, hasSixteenBits, settingsInRange, figuresInRange, marksInRange, indicesInRange, ratesInRange, withinLimits}
 use Rattle.calls.proofs.Flags.{and-true, both}
 use Rattle.book.proofs.EveryLaws.{every-of-each, each-of-every}
 
@@ -133,7 +133,7 @@ pub sixteen-bits : {mask : ℕ} → mask < 2 ^ 16 → hasSixteenBits mask ≡ tr
 unfolding hasSixteenBits
 sixteen-bits {mask = mask} small = lt-ltb mask _ (omega (arith, small))
 
--- the bounds put a book in range
+-- the bounds put a book within its limits
 module _ (b : Book) (bounds : Bounds b) where
   settings-in : settingsInRange b ≡ true
   unfolding settingsInRange settingOf
@@ -164,14 +164,14 @@ module _ (b : Book) (bounds : Bounds b) where
   lists-in : isComplete b ≡ true
   lists-in = complete b (bounds .marks .long) (bounds .settings .long) (bounds .figures .long) (bounds .indices .long)
 
-  pub in-range : inRange b ≡ true
-  unfolding inRange
-  in-range =
+  pub within-limits : withinLimits b ≡ true
+  unfolding withinLimits
+  within-limits =
       and-true (and-true (and-true (and-true (and-true (and-true settings-in figures-in) marks-in) rates-in) indices-in) lists-in) (sixteen-bits (bounds .joined))
 
--- a book in range keeps the bounds
-pub bounded : (b : Book) → inRange b ≡ true → Bounds b
-unfolding inRange isComplete hasSixteenBits settingsInRange figuresInRange marksInRange ratesInRange indicesInRange isJoined isMarked settingOf figureOf indexOf
+-- a book within its limits keeps the bounds
+pub bounded : (b : Book) → withinLimits b ≡ true → Bounds b
+unfolding withinLimits isComplete hasSixteenBits settingsInRange figuresInRange marksInRange ratesInRange indicesInRange isJoined isMarked settingOf figureOf indexOf
 bounded b ranged =
     let (six, bits-hold) = both (settingsInRange b && figuresInRange b && marksInRange b && ratesInRange b && indicesInRange b && isComplete b) (hasSixteenBits (b .joined)) ranged in
     let (five, complete-holds) = both (settingsInRange b && figuresInRange b && marksInRange b && ratesInRange b && indicesInRange b) (isComplete b) six in

@@ -4,5 +4,6 @@ pub mod SlotLaws
 pub mod Mixed
 pub mod FlatRange
 pub mod Bounds
+pub mod TakenLaws
 pub mod SameBooks
 pub mod Opened

@@ -8,6 +8,7 @@ use lib.ListN.{length, getD, replicate}
 use Rattle.book.specs.declared.Book.{Book}
 use Rattle.calls.specs.Limits.{operators, years, figureCount, settingCount, indicatorCount, indexCount, settingLimit, figureLimit, rateLimit, indexLeast, indexMost, freshIndex}
 use Rattle.calls.specs.Masks.{has}
+use Rattle.calls.specs.Indicators.{Indicator, takesSetting, takesFigure, takesMark}
 use Rattle.calls.specs.Held.{Held, held}
 
 -- a book by its parts
@@ -112,7 +113,28 @@ indicesInRange b = every indexCount (λ (number : ℕ). leb indexLeast (indexOf 
 unfoldable pub ratesInRange : Book → Bool
 ratesInRange b = leb (b .«pot_rate») rateLimit && leb (b .«cap_rate») rateLimit
 
--- no "value outside its range", nothing "but fresh values for an operator not joined"
-unfoldable pub inRange : Book → Bool
-inRange b =
+-- no value above or below its limits, nothing "but fresh values for an operator not joined": the same for books of every kind
+unfoldable pub withinLimits : Book → Bool
+withinLimits b =
     settingsInRange b && figuresInRange b && marksInRange b && ratesInRange b && indicesInRange b && isComplete b && hasSixteenBits (b .joined)
+
+-- 0 wherever a kind takes nothing: "A lent gas book in which one of these isn't 0 gets 5 like any value out of range" (02, point 4)
+module _ (kind : List Indicator) (b : Book) where
+  unfoldable pub settingsTaken : Bool
+  settingsTaken = every operators (λ (operator : ℕ). every settingCount (λ (which : ℕ). takesSetting kind which || eqb (settingOf b operator which) 0))
+
+  unfoldable pub figuresTaken : Bool
+  figuresTaken =
+      every operators (λ (operator : ℕ). every years (λ (year : ℕ). every figureCount (λ (figure : ℕ).
+      takesFigure kind figure || eqb (figureOf b operator year figure) 0)))
+
+  -- whole masks
+  unfoldable pub marksTaken : Bool
+  marksTaken = every indicatorCount (λ (indicator : ℕ). takesMark kind indicator || eqb (getD (b .marks) indicator 0) 0)
+
+  unfoldable pub onlyTaken : Bool
+  onlyTaken = settingsTaken && figuresTaken && marksTaken
+
+  -- no "value outside its range" in a book of this kind
+  unfoldable pub inRange : Bool
+  inRange = withinLimits b && onlyTaken

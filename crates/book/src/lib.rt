@@ -1,6 +1,7 @@
 // The book of operators, settings, marks and figures, what it holds by name, and whether it is in range.
 mod access;
 mod range;
+mod taken;
 
 pub use access::figure_of;
 pub use access::figure_slot;
@@ -12,7 +13,7 @@ use calls::FIGURE_PLACES;
 use calls::INDICATORS;
 use calls::INDICES;
 use calls::SETTING_PLACES;
-pub use range::in_range;
+pub use taken::in_range;
 
 pub struct Book {
     // Sixteen bits, one an operator.

@@ -1,4 +1,4 @@
-// Whether a book is in range: every value within its limits, and only fresh values for an operator not joined.
+// Whether a book is within its limits: every value, and only fresh ones for an operator not joined.
 ghost use mathlib.Core.Path.{_≡_};
 ghost use mathlib.Core.Bool.{cond, not, _&&_, _||_};
 ghost use Prim.Native.Nat.{ℕ, _+_, _≤_};
@@ -6,7 +6,7 @@ ghost use lib.Dec.{leb};
 ghost use lib.ListN.{getD};
 ghost use Rattle.calls.specs.Limits.{operators, operatorFigures, figurePlaces, indexLeast, indexMost};
 ghost use Rattle.calls.specs.Masks.{has};
-ghost use Rattle.book.specs.Book.{every, hasSixteenBits, settingsInRange, figuresInRange, marksInRange, ratesInRange, indicesInRange, inRange};
+ghost use Rattle.book.specs.Book.{every, hasSixteenBits, settingsInRange, figuresInRange, marksInRange, ratesInRange, indicesInRange, withinLimits};
 use crate::Book;
 use calls::FIGURE_LIMIT;
 use calls::FIGURE_PLACES;
@@ -21,8 +21,8 @@ use calls::SETTINGS;
 use calls::has_bit;
 use calls::setting_limit;
 
-pub fn in_range(b: Book) -> bool
-    ensures { λ r. ⌜ r ≡ inRange b ⌝ }
+pub(crate) fn within_limits(b: Book) -> bool
+    ensures { λ r. ⌜ r ≡ withinLimits b ⌝ }
 {
     if !settings_in_range(b) {
         return false;

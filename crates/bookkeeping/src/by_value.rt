@@ -1,24 +1,33 @@
 // The filing calls on any book: one that is out of range gets 5, before any other check, and is left as it is.
-ghost use Rattle.ledger.specs.Filed.{Files};
+ghost use Rattle.calls.specs.Indicators.{indicatorsOf};
+ghost use Rattle.ledger.specs.Filed.{FilesAs, Files};
 use crate::Answered;
 use crate::dispatch::apply;
 use book::Book;
 use book::in_range;
 use calls::Answer;
 use calls::Call;
+use calls::Kind;
 use calls::Refusal;
 
-// A call that is at hand as a value.
-pub fn file(b: Book, filing_call: Call) -> Answered
-    ensures { λ r. ⌜ Files b «filing_call» (r .answer) (r .book) ⌝ }
+// A call that is at hand as a value, on a book of a kind.
+pub fn file_as(kind: Kind, b: Book, filing_call: Call) -> Answered
+    ensures { λ r. ⌜ FilesAs (indicatorsOf kind) b «filing_call» (r .answer) (r .book) ⌝ }
 {
-    if !in_range(b) {
+    if !in_range(kind, b) {
         return Answered {
             book: b,
             answer: Answer::Refused(Refusal::OutOfRange),
         };
     }
-    apply(b, filing_call)
+    apply(kind, b, filing_call)
+}
+
+// The same on a book of electricity, as all calls that follow.
+pub fn file(b: Book, filing_call: Call) -> Answered
+    ensures { λ r. ⌜ Files b «filing_call» (r .answer) (r .book) ⌝ }
+{
+    file_as(Kind::Electricity, b, filing_call)
 }
 
 // An operator, 0 to 15, joins.

@@ -1,6 +1,7 @@
 // The calls on a book that is in range: which one a value names, on the parts of a book lent to it, and on a book by value.
 ghost use mathlib.Core.Path.{_≡_};
 ghost use mathlib.Core.Bool.{true};
+ghost use Rattle.calls.specs.Indicators.{indicatorsOf};
 ghost use Rattle.book.specs.Book.{inRange};
 ghost use Rattle.book.specs.Steps.{lentBook, BeforeAndAfter};
 ghost use Rattle.posting.specs.Parts.{Leaves};
@@ -11,11 +12,13 @@ use calls::Call;
 use calls::FIGURE_PLACES;
 use calls::INDICATORS;
 use calls::INDICES;
+use calls::Kind;
 use calls::SETTING_PLACES;
 
 // The parts of a book in range. Asks for that and does not test it: `file` has just tested it, and the reader of filings tests a book
 // once and then knows that each call keeps it in range. Nobody can apply a call to a book that would get 5.
 pub fn apply_in(
+    kind: Kind,
     joined: &mut u16,
     marks: &mut [u16; INDICATORS],
     settings: &mut [u64; SETTING_PLACES],
@@ -25,16 +28,16 @@ pub fn apply_in(
     indices: &mut [u32; INDICES],
     filing_call: Call,
 ) -> Answer
-    requires { ⌜ inRange (lentBook joined marks settings figures «pot_rate» «cap_rate» indices) ≡ true ⌝ }
-    ensures { λ r. ⌜ BeforeAndAfter joined marks settings figures «pot_rate» «cap_rate» indices (λ before after. Leaves before «filing_call» r after) ⌝ }
+    requires { ⌜ inRange (indicatorsOf kind) (lentBook joined marks settings figures «pot_rate» «cap_rate» indices) ≡ true ⌝ }
+    ensures { λ r. ⌜ BeforeAndAfter joined marks settings figures «pot_rate» «cap_rate» indices (λ before after. Leaves (indicatorsOf kind) before «filing_call» r after) ⌝ }
 {
     match filing_call {
-        Call::Join { operator } => posting::join(joined, marks, operator),
+        Call::Join { operator } => posting::join(kind, joined, marks, operator),
         Call::Setting {
             operator,
             which,
             value,
-        } => posting::setting(*joined, settings, operator, which, value),
+        } => posting::setting(kind, *joined, settings, operator, which, value),
         Call::Interruption {
             operator,
             sign,
@@ -44,6 +47,7 @@ pub fn apply_in(
             end,
             weight,
         } => posting::interruption(
+            kind,
             *joined,
             figures,
             operator,
@@ -60,21 +64,21 @@ pub fn apply_in(
             figure,
             sign,
             value,
-        } => posting::amount(*joined, figures, operator, year, figure, sign, value),
+        } => posting::amount(kind, *joined, figures, operator, year, figure, sign, value),
         Call::Mark {
             operator,
             indicator,
             mark,
-        } => posting::mark_indicator(*joined, marks, operator, indicator, mark),
+        } => posting::mark_indicator(kind, *joined, marks, operator, indicator, mark),
         Call::Rates { pot, cap } => posting::rates(pot_rate, cap_rate, pot, cap),
         Call::Index { number, value } => posting::index(indices, number, value),
     }
 }
 
 // A book by value: its parts are taken out, lent, and put together again.
-pub(crate) fn apply(b: Book, filing_call: Call) -> Answered
-    requires { ⌜ inRange b ≡ true ⌝ }
-    ensures { λ r. ⌜ Leaves b «filing_call» (r .answer) (r .book) ⌝ }
+pub(crate) fn apply(kind: Kind, b: Book, filing_call: Call) -> Answered
+    requires { ⌜ inRange (indicatorsOf kind) b ≡ true ⌝ }
+    ensures { λ r. ⌜ Leaves (indicatorsOf kind) b «filing_call» (r .answer) (r .book) ⌝ }
 {
     let mut joined = b.joined;
     let mut marks = b.marks;
@@ -84,6 +88,7 @@ pub(crate) fn apply(b: Book, filing_call: Call) -> Answered
     let mut cap_rate = b.cap_rate;
     let mut indices = b.indices;
     let answer = apply_in(
+        kind,
         &mut joined,
         &mut marks,
         &mut settings,

@@ -33,6 +33,10 @@ pub or-false-right : (t : Bool) → t || false ≡ t
 or-false-right true = refl
 or-false-right false = refl
 
+pub or-true-right : (t : Bool) → t || true ≡ true
+or-true-right true = refl
+or-true-right false = refl
+
 pub or-right : (s t : Bool) → s || t ≡ false → t ≡ false
 or-right true t e = absurd (false≢true (sym e))
 or-right false t e = e

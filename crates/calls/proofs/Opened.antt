@@ -3,7 +3,8 @@
 use Rattle.calls.specs.Answers.{onAnswer, isRefused, firstOf}
 use Rattle.calls.specs.Call.{timesInRange, weightInRange, detailsInRange, secondsOf, yearOf, outcome, measuredEntries, countFigure, interruptionEntries, factsOf}
 use Rattle.calls.specs.Masks.{has, including, excluding, remasked}
+use Rattle.calls.proofs.KindLaws.{kinds-opened}
 
 unfoldable pub calls-opened : Unit {0}
-unfolding onAnswer isRefused firstOf timesInRange weightInRange detailsInRange secondsOf yearOf outcome measuredEntries countFigure interruptionEntries factsOf has including excluding remasked
+unfolding onAnswer isRefused firstOf timesInRange weightInRange detailsInRange secondsOf yearOf outcome measuredEntries countFigure interruptionEntries factsOf has including excluding remasked kinds-opened
 calls-opened = tt

@@ -6,6 +6,8 @@ use mathlib.Core.Bool.{Bool, true, false, cond, _&&_}
 use native.Mathlib.Omega.{arith}
 use lib.Dec.{ltb, leb, eqb}
 use borrow.Author.Tests.{eqb-true, ltb-true, leb-true}
+use mathlib.Core.List.{List}
+use Rattle.calls.specs.Indicators.{Indicator, takesInterruptions, takesSetting, takesFigure, takesMark}
 use Rattle.calls.specs.declared.Call.{Call}
 use Rattle.calls.specs.declared.Call.the-variants.{Join, Setting, Interruption, Amount, Mark, Rates, Index}
 use Rattle.calls.specs.Limits.{weightLimit, years, figureCount, settingCount, indicatorCount, indexCount, settingLimit, rateLimit, indexLeast, indexMost}
@@ -34,34 +36,44 @@ details sign level cause weight e =
     go true h = leb-true weight weightLimit (both (leb 1 weight) (leb weight weightLimit) h .1)
     go false h = omega (arith, eqb-true weight 1 h)
 
-abbrev pub Ranges : Call → Type 0
-Ranges (Join operator) = Unit {0}
-Ranges (Setting operator which value) = (which < settingCount) × (value ≤ settingLimit which)
-Ranges (Interruption operator sign level cause start end weight) = (sign ≤ 1) × (level ≤ 1) × (yearOf end < years)
-Ranges (Amount operator year figure sign value) = (year < years) × (figure < figureCount) × (sign ≤ 1)
-Ranges (Mark operator indicator mark) = (indicator < indicatorCount) × (mark ≤ 1)
-Ranges (Rates pot cap) = (pot ≤ rateLimit) × (cap ≤ rateLimit)
-Ranges (Index number value) = (number < indexCount) × (indexLeast ≤ value) × (value ≤ indexMost)
+abbrev pub Ranges : List Indicator → Call → Type 0
+Ranges kind (Join operator) = Unit {0}
+Ranges kind (Setting operator which value) = (which < settingCount) × (value ≤ settingLimit which) × (takesSetting kind which ≡ true)
+Ranges kind (Interruption operator sign level cause start end weight) = (sign ≤ 1) × (level ≤ 1) × (yearOf end < years)
+Ranges kind (Amount operator year figure sign value) = (year < years) × (figure < figureCount) × (sign ≤ 1) × (takesFigure kind figure ≡ true)
+Ranges kind (Mark operator indicator mark) = (indicator < indicatorCount) × (mark ≤ 1) × (takesMark kind indicator ≡ true)
+Ranges kind (Rates pot cap) = (pot ≤ rateLimit) × (cap ≤ rateLimit)
+Ranges kind (Index number value) = (number < indexCount) × (indexLeast ≤ value) × (value ≤ indexMost)
 
-pub ranges : (call : Call) → factsOf call .in-range ≡ true → Ranges call
+pub ranges : (kind : List Indicator) (call : Call) → factsOf kind call .in-range ≡ true → Ranges kind call
 unfolding factsOf
-ranges (Join operator) e = tt
-ranges (Setting operator which value) e =
-    (ltb-true which _ (and-left (ltb which settingCount) _ e), leb-true value _ (and-right (ltb which settingCount) _ e))
-ranges (Interruption operator sign level cause start end weight) e =
+ranges kind (Join operator) e = tt
+ranges kind (Setting operator which value) e =
+    let places : ltb which settingCount && takesSetting kind which ≡ true = and-left _ (leb value (settingLimit which)) e in (
+      ltb-true which _ (and-left _ (takesSetting kind which) places),
+      leb-true value _ (and-right (ltb which settingCount && takesSetting kind which) _ e),
+      and-right (ltb which settingCount) _ places,
+    )
+ranges kind (Interruption operator sign level cause start end weight) e =
     let within = details sign level cause weight (and-left (detailsInRange sign level cause weight) _ e) in
     let times = timed start end (and-right (detailsInRange sign level cause weight) _ e) in
     (within .sign-most, within .level-most, year-lt times)
-ranges (Amount operator year figure sign value) e =
-    let places : ltb year years && ltb figure figureCount ≡ true = and-left _ (leb sign 1) e in (
+ranges kind (Amount operator year figure sign value) e =
+    let taken : ltb year years && ltb figure figureCount && takesFigure kind figure ≡ true = and-left _ (leb sign 1) e in
+    let places : ltb year years && ltb figure figureCount ≡ true = and-left _ (takesFigure kind figure) taken in (
       ltb-true year _ (and-left _ (ltb figure figureCount) places),
       ltb-true figure _ (and-right (ltb year years) _ places),
-      leb-true sign 1 (and-right (ltb year years && ltb figure figureCount) _ e),
+      leb-true sign 1 (and-right (ltb year years && ltb figure figureCount && takesFigure kind figure) _ e),
+      and-right (ltb year years && ltb figure figureCount) _ taken,
     )
-ranges (Mark operator indicator mark) e =
-    (ltb-true indicator _ (and-left (ltb indicator indicatorCount) _ e), leb-true mark 1 (and-right (ltb indicator indicatorCount) _ e))
-ranges (Rates pot cap) e = (leb-true pot _ (and-left (leb pot rateLimit) _ e), leb-true cap _ (and-right (leb pot rateLimit) _ e))
-ranges (Index number value) e =
+ranges kind (Mark operator indicator mark) e =
+    let places : ltb indicator indicatorCount && takesMark kind indicator ≡ true = and-left _ (leb mark 1) e in (
+      ltb-true indicator _ (and-left _ (takesMark kind indicator) places),
+      leb-true mark 1 (and-right (ltb indicator indicatorCount && takesMark kind indicator) _ e),
+      and-right (ltb indicator indicatorCount) _ places,
+    )
+ranges kind (Rates pot cap) e = (leb-true pot _ (and-left (leb pot rateLimit) _ e), leb-true cap _ (and-right (leb pot rateLimit) _ e))
+ranges kind (Index number value) e =
     let least : ltb number indexCount && leb indexLeast value ≡ true = and-left _ (leb value indexMost) e in (
       ltb-true number _ (and-left _ (leb indexLeast value) least),
       leb-true 1 value (and-right (ltb number indexCount) _ least),

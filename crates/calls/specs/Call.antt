@@ -9,12 +9,8 @@ use lib.Signed.{leZ}
 use Rattle.calls.specs.declared.Call.{Call}
 use Rattle.calls.specs.declared.Call.the-variants.{Join, Setting, Interruption, Amount, Mark, Rates, Index}
 use Rattle.calls.specs.Limits.{years, firstCount, figureCount, settingCount, indicatorCount, indexCount, settingLimit, rateLimit, indexLeast, indexMost, yearLength, lastEnd, startBefore, weightLimit, shortMost}
+use Rattle.calls.specs.Indicators.{Indicator, takesInterruptions, takesSetting, takesFigure, takesMark}
 use Rattle.calls.specs.Answers.{Acceptance, yes-said, counted-in, left-out-as-short, left-out-under}
-
--- "A join therefore sets all six marks of the operator" (02, point 1): whether it sets the one at an indicator; book, history and writer go by
--- this
-abbrev pub joinMarks : ℕ → Bool
-joinMarks indicator = true
 
 -- "End is 0 to 94,607,999, start at least -31,536,000 and at most end"
 unfoldable pub timesInRange : ℤ → ℤ → Bool
@@ -75,6 +71,8 @@ interruptionEntries operator sign level weight seconds year answer =
 
 -- what is to be known of a call
 pub record Facts : Type 0 where
+  -- whether the kind has such a call at all
+  pub known : Bool
   -- the operators that it joins, and those that have to be joined (tags 2 to 5)
   pub newcomers : List ℕ
   pub members : List ℕ
@@ -84,19 +82,23 @@ pub record Facts : Type 0 where
   pub entries : List Entry
   pub answer : Acceptance
 
-abbrev pub facts : List ℕ → List ℕ → Bool → List Entry → Acceptance → Facts
-facts newcomers members in-range entries answer =
-    record { newcomers = newcomers; members = members; in-range = in-range; entries = entries; answer = answer }
+abbrev pub facts : Bool → List ℕ → List ℕ → Bool → List Entry → Acceptance → Facts
+facts known newcomers members in-range entries answer =
+    record { known = known; newcomers = newcomers; members = members; in-range = in-range; entries = entries; answer = answer }
 
-unfoldable pub factsOf : Call → Facts
-factsOf (Join operator) = facts (operator ∷ []) [] true [] yes-said
-factsOf (Setting operator which value) = facts [] (operator ∷ []) (ltb which settingCount && leb value (settingLimit which)) [] yes-said
-factsOf (Interruption operator sign level cause start end weight) =
+-- a call on a book of a kind: "There an interruption field is refused by 2; figures .., indicators .. and every cabin setting are refused by 5"
+unfoldable pub factsOf : List Indicator → Call → Facts
+factsOf kind (Join operator) = facts true (operator ∷ []) [] true [] yes-said
+factsOf kind (Setting operator which value) =
+    facts true [] (operator ∷ []) (ltb which settingCount && takesSetting kind which && leb value (settingLimit which)) [] yes-said
+factsOf kind (Interruption operator sign level cause start end weight) =
     let answer : Acceptance = outcome cause (secondsOf start end) (yearOf end) in
-    facts [] (operator ∷ []) (detailsInRange sign level cause weight && timesInRange start end)
+    facts (takesInterruptions kind) [] (operator ∷ []) (detailsInRange sign level cause weight && timesInRange start end)
     (interruptionEntries operator sign level weight (secondsOf start end) (yearOf end) answer) answer
-factsOf (Amount operator year figure sign value) =
-    facts [] (operator ∷ []) (ltb year years && ltb figure figureCount && leb sign 1) (entry operator year figure sign value ∷ []) yes-said
-factsOf (Mark operator indicator mark) = facts [] (operator ∷ []) (ltb indicator indicatorCount && leb mark 1) [] yes-said
-factsOf (Rates pot cap) = facts [] [] (leb pot rateLimit && leb cap rateLimit) [] yes-said
-factsOf (Index number value) = facts [] [] (ltb number indexCount && leb indexLeast value && leb value indexMost) [] yes-said
+factsOf kind (Amount operator year figure sign value) =
+    facts true [] (operator ∷ []) (ltb year years && ltb figure figureCount && takesFigure kind figure && leb sign 1)
+    (entry operator year figure sign value ∷ []) yes-said
+factsOf kind (Mark operator indicator mark) =
+    facts true [] (operator ∷ []) (ltb indicator indicatorCount && takesMark kind indicator && leb mark 1) [] yes-said
+factsOf kind (Rates pot cap) = facts true [] [] (leb pot rateLimit && leb cap rateLimit) [] yes-said
+factsOf kind (Index number value) = facts true [] [] (ltb number indexCount && leb indexLeast value && leb value indexMost) [] yes-said

@@ -3,5 +3,6 @@ pub mod Limits
 pub mod Masks
 pub mod Held
 pub mod Answers
+pub mod Indicators
 pub mod Call
 pub mod Laws

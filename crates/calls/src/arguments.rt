@@ -2,7 +2,12 @@
 ghost use mathlib.Core.Path.{_≡_};
 ghost use Rattle.calls.specs.Limits.{settingLimit};
 ghost use Rattle.calls.specs.Call.{factsOf};
+ghost use Rattle.calls.specs.Indicators.{electricity, indicatorsOf};
 use crate::Call;
+use crate::Kind;
+use crate::kinds::takes_figure;
+use crate::kinds::takes_mark;
+use crate::kinds::takes_setting;
 use crate::limits::ACCESS_POINT_LIMIT;
 use crate::limits::CABIN_LIMIT;
 use crate::limits::INCOME_LIMIT;
@@ -15,10 +20,13 @@ use crate::limits::LAST_SETTING;
 use crate::limits::LAST_YEAR;
 use crate::limits::RATE_LIMIT;
 
-pub fn setting_in_range(which: u8, value: u64) -> bool
-    ensures { λ r. ⌜ r ≡ factsOf (Call.Setting 0 which value) .in-range ⌝ }
+pub fn setting_in_range(kind: Kind, which: u8, value: u64) -> bool
+    ensures { λ r. ⌜ r ≡ factsOf (indicatorsOf kind) (Call.Setting 0 which value) .in-range ⌝ }
 {
     if LAST_SETTING < which {
+        return false;
+    }
+    if !takes_setting(kind, which) {
         return false;
     }
     value <= setting_limit(which)
@@ -34,8 +42,8 @@ pub fn setting_limit(which: u8) -> u64
     }
 }
 
-pub fn amount_in_range(year: u8, figure: u8, sign: u8) -> bool
-    ensures { λ r. ⌜ r ≡ factsOf (Call.Amount 0 year figure sign 0) .in-range ⌝ }
+pub fn amount_in_range(kind: Kind, year: u8, figure: u8, sign: u8) -> bool
+    ensures { λ r. ⌜ r ≡ factsOf (indicatorsOf kind) (Call.Amount 0 year figure sign 0) .in-range ⌝ }
 {
     if LAST_YEAR < year {
         return false;
@@ -43,20 +51,26 @@ pub fn amount_in_range(year: u8, figure: u8, sign: u8) -> bool
     if LAST_FIGURE < figure {
         return false;
     }
+    if !takes_figure(kind, figure) {
+        return false;
+    }
     sign <= 1
 }
 
-pub fn mark_in_range(indicator: u8, mark: u8) -> bool
-    ensures { λ r. ⌜ r ≡ factsOf (Call.Mark 0 indicator mark) .in-range ⌝ }
+pub fn mark_in_range(kind: Kind, indicator: u8, mark: u8) -> bool
+    ensures { λ r. ⌜ r ≡ factsOf (indicatorsOf kind) (Call.Mark 0 indicator mark) .in-range ⌝ }
 {
     if LAST_INDICATOR < indicator {
+        return false;
+    }
+    if !takes_mark(kind, indicator) {
         return false;
     }
     mark <= 1
 }
 
 pub fn rates_in_range(pot: u32, cap: u32) -> bool
-    ensures { λ r. ⌜ r ≡ factsOf (Call.Rates pot cap) .in-range ⌝ }
+    ensures { λ r. ⌜ r ≡ factsOf electricity (Call.Rates pot cap) .in-range ⌝ }
 {
     if RATE_LIMIT < pot {
         return false;
@@ -65,7 +79,7 @@ pub fn rates_in_range(pot: u32, cap: u32) -> bool
 }
 
 pub fn index_in_range(number: u8, value: u32) -> bool
-    ensures { λ r. ⌜ r ≡ factsOf (Call.Index number value) .in-range ⌝ }
+    ensures { λ r. ⌜ r ≡ factsOf electricity (Call.Index number value) .in-range ⌝ }
 {
     if LAST_INDEX < number {
         return false;

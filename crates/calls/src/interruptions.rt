@@ -1,5 +1,6 @@
 // The ranges of an interruption's values.
 ghost use mathlib.Core.Path.{_≡_};
+ghost use Rattle.calls.specs.Indicators.{electricity};
 ghost use Rattle.calls.specs.Call.{weightInRange, detailsInRange, timesInRange, factsOf};
 use crate::Call;
 use crate::limits::FIRST_START;
@@ -14,7 +15,7 @@ pub fn interruption_in_range(
     end: i64,
     weight: u32,
 ) -> bool
-    ensures { λ r. ⌜ r ≡ factsOf (Call.Interruption 0 sign level cause start end weight) .in-range ⌝ }
+    ensures { λ r. ⌜ r ≡ factsOf electricity (Call.Interruption 0 sign level cause start end weight) .in-range ⌝ }
 {
     if !details_in_range(sign, level, cause, weight) {
         return false;

@@ -2,6 +2,7 @@
 mod answers;
 mod arguments;
 mod interruptions;
+mod kinds;
 mod limits;
 mod masks;
 
@@ -13,6 +14,12 @@ pub use arguments::rates_in_range;
 pub use arguments::setting_in_range;
 pub use arguments::setting_limit;
 pub use interruptions::interruption_in_range;
+pub use kinds::first_indicator;
+pub use kinds::is_network;
+pub use kinds::takes_figure;
+pub use kinds::takes_interruptions;
+pub use kinds::takes_mark;
+pub use kinds::takes_setting;
 pub use limits::FIGURE_LIMIT;
 pub use limits::FIGURE_PLACES;
 pub use limits::FIGURES;
@@ -38,6 +45,12 @@ pub use limits::cabins_in;
 pub use masks::has_bit;
 pub use masks::include_bit;
 pub use masks::remask;
+
+// The kinds of operators, each with a book of its own.
+pub enum Kind {
+    Electricity,
+    Gas,
+}
 
 // A filing call with its arguments, as the fields of a filing give them.
 pub enum Call {

@@ -9,6 +9,7 @@ use borrow.Author.Tests.{lt-ltb, le-ltb}
 use Rattle.book.specs.declared.Book.{Book}
 use Rattle.calls.specs.declared.Call.{Call}
 use Rattle.calls.specs.declared.Call.the-variants.{Amount}
+use Rattle.calls.specs.Indicators.{Indicator}
 use Rattle.calls.specs.Limits.{operators, years, figureCount, settingCount, indicatorCount, indexCount, settingPlaces, markPlaces}
 use Rattle.book.specs.Book.{isJoined, isMarked, settingOf, figureOf, indexOf}
 use Rattle.writing.specs.Written.{inTurn, unlessFresh, joinCalls, settingCalls, amountCalls, markCalls, indexCalls, rateCalls, writtenCalls}
@@ -17,29 +18,29 @@ use Rattle.entries.specs.Entries.{joinAt, settingAt, amountAt, markAt, i
 abbrev figurePlaces : ℕ
 figurePlaces = operators * (years * figureCount)
 
-module _ (b : Book) (place : ℕ) where
-  pub place-join : place < settingsFrom → callsAt b place ≡ joinAt (b .joined) place
+module _ (kind : List Indicator) (b : Book) (place : ℕ) where
+  pub place-join : place < settingsFrom → callsAt kind b place ≡ joinAt (b .joined) place
   unfolding callsAt
   place-join lt = rw (lt-ltb place settingsFrom lt) refl
 
-  pub place-setting : settingsFrom ≤ place → place < amountsFrom → callsAt b place ≡ settingAt (b .settings) (place - settingsFrom)
+  pub place-setting : settingsFrom ≤ place → place < amountsFrom → callsAt kind b place ≡ settingAt (b .settings) (place - settingsFrom)
   unfolding callsAt
   place-setting le lt = rw (le-ltb place settingsFrom le, lt-ltb place amountsFrom lt) refl
 
-  pub place-amount : amountsFrom ≤ place → place < marksFrom → callsAt b place ≡ amountAt (b .figures) (place - amountsFrom)
+  pub place-amount : amountsFrom ≤ place → place < marksFrom → callsAt kind b place ≡ amountAt (b .figures) (place - amountsFrom)
   unfolding callsAt
   place-amount le lt = rw (le-ltb place settingsFrom (omega arith), le-ltb place amountsFrom le, lt-ltb place marksFrom lt) refl
 
-  pub place-mark : marksFrom ≤ place → place < indicesFrom → callsAt b place ≡ markAt (b .joined) (b .marks) (place - marksFrom)
+  pub place-mark : marksFrom ≤ place → place < indicesFrom → callsAt kind b place ≡ markAt kind (b .joined) (b .marks) (place - marksFrom)
   unfolding callsAt
   place-mark le lt = rw (le-ltb place settingsFrom (omega arith), le-ltb place amountsFrom (omega arith), le-ltb place marksFrom le, lt-ltb place indicesFrom lt) refl
 
-  pub place-index : indicesFrom ≤ place → place < ratesFrom → callsAt b place ≡ indexAt (b .indices) (place - indicesFrom)
+  pub place-index : indicesFrom ≤ place → place < ratesFrom → callsAt kind b place ≡ indexAt (b .indices) (place - indicesFrom)
   unfolding callsAt
   place-index le lt =
       rw (le-ltb place settingsFrom (omega arith), le-ltb place amountsFrom (omega arith), le-ltb place marksFrom (omega arith), le-ltb place indicesFrom le, lt-ltb place ratesFrom lt) refl
 
-  pub place-rates : ratesFrom ≤ place → callsAt b place ≡ ratesAt (b .«pot_rate») (b .«cap_rate»)
+  pub place-rates : ratesFrom ≤ place → callsAt kind b place ≡ ratesAt (b .«pot_rate») (b .«cap_rate»)
   unfolding callsAt
   place-rates le =
       rw (le-ltb place settingsFrom (omega arith), le-ltb place amountsFrom (omega arith), le-ltb place marksFrom (omega arith), le-ltb place indicesFrom (omega arith), le-ltb place ratesFrom le) refl
@@ -77,19 +78,19 @@ module _ {A : Type 0} where
   turns-from n from f g same =
       turns-alike n g (λ (k : ℕ). f (from + k)) (λ k lt. let back : from + k - from ≡ k = omega arith in sym (same k lt ∙ rw back refl))
 
-module _ (b : Book) where
+module _ (kind : List Indicator) (b : Book) where
   abbrev at : ℕ → List Call
-  at = callsAt b
+  at = callsAt kind b
 
   joins-placed : joinCalls b ≡ inTurn settingsFrom at
   unfolding joinCalls joinAt isJoined
-  joins-placed = turns-alike settingsFrom _ at (λ k lt. sym (place-join b k lt))
+  joins-placed = turns-alike settingsFrom _ at (λ k lt. sym (place-join kind b k lt))
 
   settings-placed : settingCalls b ≡ inTurn settingPlaces (λ (k : ℕ). at (settingsFrom + k))
   unfolding settingCalls settingAt settingOf
   settings-placed =
       turns-rows operators settingCount _
-      ∙ turns-from settingPlaces settingsFrom at (settingAt (b .settings)) (λ k lt. place-setting b (settingsFrom + k) (omega arith) (omega arith))
+      ∙ turns-from settingPlaces settingsFrom at (settingAt (b .settings)) (λ k lt. place-setting kind b (settingsFrom + k) (omega arith) (omega arith))
 
   -- an amount of a figure
   abbrev amountOf : ℕ → ℕ → ℕ → List Call
@@ -102,23 +103,23 @@ module _ (b : Book) where
       turns-alike operators _ _ (λ operator lt. turns-rows years figureCount (amountOf operator))
       ∙ turns-rows operators (years * figureCount) (λ (operator k : ℕ). amountOf operator (k / figureCount) (k % figureCount))
       ∙ turns-alike figurePlaces _ (amountAt (b .figures)) (λ k lt. let figure : k % (years * figureCount) % figureCount ≡ k % figureCount = omega arith in rw figure refl)
-      ∙ turns-from figurePlaces amountsFrom at (amountAt (b .figures)) (λ k lt. place-amount b (amountsFrom + k) (omega arith) (omega arith))
+      ∙ turns-from figurePlaces amountsFrom at (amountAt (b .figures)) (λ k lt. place-amount kind b (amountsFrom + k) (omega arith) (omega arith))
 
-  marks-placed : markCalls b ≡ inTurn markPlaces (λ (k : ℕ). at (marksFrom + k))
+  marks-placed : markCalls kind b ≡ inTurn markPlaces (λ (k : ℕ). at (marksFrom + k))
   unfolding markCalls markAt isJoined isMarked
   marks-placed =
       turns-rows operators indicatorCount _
-      ∙ turns-from markPlaces marksFrom at (markAt (b .joined) (b .marks)) (λ k lt. place-mark b (marksFrom + k) (omega arith) (omega arith))
+      ∙ turns-from markPlaces marksFrom at (markAt kind (b .joined) (b .marks)) (λ k lt. place-mark kind b (marksFrom + k) (omega arith) (omega arith))
 
   indices-placed : indexCalls b ≡ inTurn indexCount (λ (k : ℕ). at (indicesFrom + k))
   unfolding indexCalls indexAt indexOf
-  indices-placed = turns-from indexCount indicesFrom at (indexAt (b .indices)) (λ k lt. place-index b (indicesFrom + k) (omega arith) (omega arith))
+  indices-placed = turns-from indexCount indicesFrom at (indexAt (b .indices)) (λ k lt. place-index kind b (indicesFrom + k) (omega arith) (omega arith))
 
   rates-placed : rateCalls b ≡ inTurn 1 (λ (k : ℕ). at (ratesFrom + k))
   unfolding rateCalls ratesAt inTurn
-  rates-placed = sym (place-rates b ratesFrom (omega arith))
+  rates-placed = sym (place-rates kind b ratesFrom (omega arith))
 
-  pub all-placed : writtenCalls b ≡ inTurn places at
+  pub all-placed : writtenCalls kind b ≡ inTurn places at
   unfolding writtenCalls
   all-placed =
       (λ i. joins-placed i ++ settings-placed i ++ amounts-placed i ++ marks-placed i ++ indices-placed i ++ rates-placed i)

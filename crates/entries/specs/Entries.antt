@@ -9,6 +9,7 @@ use lib.ListN.{length, getD}
 use Rattle.book.specs.declared.Book.{Book}
 use Rattle.calls.specs.declared.Call.{Call}
 use Rattle.calls.specs.declared.Call.the-variants.{Join, Setting, Amount, Mark, Rates, Index}
+use Rattle.calls.specs.Indicators.{Indicator, takesMark}
 use Rattle.calls.specs.Limits.{operators, years, figureCount, settingCount, indicatorCount, indexCount, freshIndex}
 use Rattle.calls.specs.Masks.{has}
 use Rattle.book.specs.Book.{settingSlot, figureSlot}
@@ -44,11 +45,11 @@ amountAt figures place =
     let value : ℕ = getD figures (figureSlot operator year figure) 0 in
     unlessFresh value 0 (Amount operator year figure 0 value)
 
-unfoldable pub markAt : ℕ → List ℕ → ℕ → List Call
-markAt joined marks place =
+unfoldable pub markAt : List Indicator → ℕ → List ℕ → ℕ → List Call
+markAt kind joined marks place =
     let operator : ℕ = place / indicatorCount in
     let indicator : ℕ = place % indicatorCount in
-    cond (has joined operator && not (has (getD marks indicator 0) operator)) (Mark operator indicator 0 ∷ []) []
+    cond (has joined operator && (takesMark kind indicator && not (has (getD marks indicator 0) operator))) (Mark operator indicator 0 ∷ []) []
 
 unfoldable pub indexAt : List ℕ → ℕ → List Call
 indexAt indices place = unlessFresh (getD indices place 0) freshIndex (Index place (getD indices place 0))
@@ -76,11 +77,11 @@ ratesFrom = indicesFrom + indexCount
 abbrev pub places : ℕ
 places = ratesFrom + 1
 
--- the calls at a place of the written filing
-unfoldable pub callsAt : Book → ℕ → List Call
-callsAt b place =
+-- the calls at a place of the written filing of a book of a kind
+unfoldable pub callsAt : List Indicator → Book → ℕ → List Call
+callsAt kind b place =
     cond (ltb place settingsFrom) (joinAt (b .joined) place)
     (cond (ltb place amountsFrom) (settingAt (b .settings) (place - settingsFrom))
     (cond (ltb place marksFrom) (amountAt (b .figures) (place - amountsFrom))
-    (cond (ltb place indicesFrom) (markAt (b .joined) (b .marks) (place - marksFrom))
+    (cond (ltb place indicesFrom) (markAt kind (b .joined) (b .marks) (place - marksFrom))
     (cond (ltb place ratesFrom) (indexAt (b .indices) (place - indicesFrom)) (ratesAt (b .«pot_rate») (b .«cap_rate»))))))

@@ -5,6 +5,7 @@ ghost use Prim.Native.Nat.{_*_, _<_};
 ghost use mathlib.Core.Bool.{not, _&&_};
 ghost use Rattle.calls.specs.Limits.{operators, years, figureCount, settingCount, indicatorCount, indexCount};
 ghost use Rattle.calls.specs.Masks.{has};
+ghost use Rattle.calls.specs.Indicators.{indicatorsOf};
 ghost use Rattle.book.specs.Book.{bookWith};
 ghost use Rattle.entries.specs.Entries.{EntryOf, places, joinAt, settingAt, amountAt, markAt, indexAt, ratesAt, callsAt};
 use book::figure_slot;
@@ -14,11 +15,13 @@ use calls::FIGURES;
 use calls::FRESH_INDEX;
 use calls::INDICATORS;
 use calls::INDICES;
+use calls::Kind;
 use calls::MARK_PLACES;
 use calls::OPERATOR_FIGURES;
 use calls::SETTING_PLACES;
 use calls::SETTINGS;
 use calls::has_bit;
+use calls::takes_mark;
 use encoding::Encoded;
 
 // What a book's written filing has at a place: nothing where the value is fresh, else a field.
@@ -46,6 +49,7 @@ const FILE: u64 = 0;
 const ATTESTED: u64 = 0;
 
 pub fn entry_at(
+    kind: Kind,
     joined: u16,
     marks: &[u16; INDICATORS],
     settings: &[u64; SETTING_PLACES],
@@ -56,7 +60,7 @@ pub fn entry_at(
     place: usize,
 ) -> Entry
     requires { ⌜ place < places ⌝ }
-    ensures { λ r. ⌜ EntryOf r (callsAt (bookWith joined (now (marks .entry)) (now (settings .entry)) (now (figures .entry)) «pot_rate» «cap_rate» (now (indices .entry))) place) ⌝ }
+    ensures { λ r. ⌜ EntryOf r (callsAt (indicatorsOf kind) (bookWith joined (now (marks .entry)) (now (settings .entry)) (now (figures .entry)) «pot_rate» «cap_rate» (now (indices .entry))) place) ⌝ }
 {
     if place < SETTINGS_FROM {
         return join_entry(joined, place);
@@ -68,7 +72,7 @@ pub fn entry_at(
         return amount_entry(figures, place - AMOUNTS_FROM);
     }
     if place < INDICES_FROM {
-        return mark_entry(joined, marks, place - MARKS_FROM);
+        return mark_entry(kind, joined, marks, place - MARKS_FROM);
     }
     if place < RATES_FROM {
         return index_entry(indices, place - INDICES_FROM);
@@ -131,13 +135,14 @@ fn amount_entry(figures: &[u64; FIGURE_PLACES], place: usize) -> Entry
     })
 }
 
-fn mark_entry(joined: u16, marks: &[u16; INDICATORS], place: usize) -> Entry
+fn mark_entry(kind: Kind, joined: u16, marks: &[u16; INDICATORS], place: usize) -> Entry
     requires { ⌜ place < operators * indicatorCount ⌝ }
-    ensures { λ r. ⌜ EntryOf r (markAt joined (now (marks .entry)) place) ⌝ }
+    ensures { λ r. ⌜ EntryOf r (markAt (indicatorsOf kind) joined (now (marks .entry)) place) ⌝ }
 {
     let operator = place / INDICATORS;
     let indicator = place % INDICATORS;
-    if !is_cleared(joined, marks[indicator], operator as u8) {
+    let taken = takes_mark(kind, indicator as u8);
+    if !is_cleared(joined, taken, marks[indicator], operator as u8) {
         return Entry::Fresh;
     }
     Entry::Differs(Encoded {
@@ -149,14 +154,17 @@ fn mark_entry(joined: u16, marks: &[u16; INDICATORS], place: usize) -> Entry
     })
 }
 
-// The mark of an operator that has joined, cleared since.
-fn is_cleared(joined: u16, marked: u16, operator: u8) -> bool
-    ensures { λ r. ⌜ r ≡ has joined operator && not (has marked operator) ⌝ }
+// The mark of an operator that has joined, at an indicator of the kind, cleared since.
+fn is_cleared(joined: u16, taken: bool, marked: u16, operator: u8) -> bool
+    ensures { λ r. ⌜ r ≡ has joined operator && (taken && not (has marked operator)) ⌝ }
 {
     if has_bit(marked, operator) {
         return false;
     }
-    has_bit(joined, operator)
+    if taken {
+        return has_bit(joined, operator);
+    }
+    false
 }
 
 fn index_entry(indices: &[u32; INDICES], place: usize) -> Entry

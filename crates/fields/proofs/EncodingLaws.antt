@@ -13,9 +13,11 @@ use lib.Seq.{take-append-seam, drop-append-add, getD-append-seam}
 use borrow.Author.Tests.{lt-ltb, le-ltb}
 use Rattle.calls.specs.declared.Call.{Call}
 use Rattle.calls.specs.declared.Call.the-variants.{Join, Setting, Interruption, Amount, Mark, Rates, Index}
+use Rattle.calls.specs.Indicators.{Indicator}
+use Rattle.calls.specs.Call.{factsOf}
 use Rattle.calls.specs.Answers.{accepted}
 use Rattle.contents.specs.Content.{bigEndian, unsigned, twosComplement, signed, byte, tags, isKnown, tagged}
-use Rattle.fields.specs.Field.{sizeAt, call-then, fieldAt}
+use Rattle.fields.specs.Field.{sizeAt, call-then, hasTag, fieldIn}
 use Rattle.fields.specs.Encoding.{inBytes, bitsOf, fieldOf, encoded, FitsSigned, FitsBytes, Decodes}
 use Rattle.fields.proofs.FieldLaws.{filed}
 
@@ -84,26 +86,26 @@ module _ (before content after : List ℕ) (tag : ℕ) where
   whole-length : length whole ≡ here + (3 + length content) + length after
   whole-length = rw (length-append (before ++ fieldOf tag content) after, length-append before (fieldOf tag content), field-length) refl
 
-  pub field-found : isKnown tag ≡ true → length content ≡ tagged tag .size → length content < 256 ^ 2
-      → fieldAt whole here ≡ accepted (call-then (tagged tag .call content) (here + length (fieldOf tag content)))
-  field-found known sized lt =
+  pub field-found : (kind : List Indicator) → hasTag kind tag ≡ true → length content ≡ tagged tag .size → length content < 256 ^ 2
+      → fieldIn kind whole here ≡ accepted (call-then (tagged tag .call content) (here + length (fieldOf tag content)))
+  field-found kind known sized lt =
       let more : here < length whole = omega (arith, whole-length) in
       let enough : 3 ≤ length whole - here = omega (arith, whole-length) in
       let within : sizeAt whole here ≤ length whole - here - 3 = rw (size-found lt) (omega (arith, whole-length)) in
       let same : sizeAt whole here ≡ tagged (byte whole here) .size = rw (size-found lt, tag-found) sized in
       let next : here + 3 + length content ≡ here + length (fieldOf tag content) = omega (arith, field-length) in
-      filed whole here more enough within (rw tag-found known) same
+      filed kind whole here more enough within (rw tag-found known) same
       ∙ rw (tag-found, size-found lt, content-found, next) refl
 
 -- the content of each tag gives its call back
-pub decodes : (call : Call) → FitsBytes call → Decodes call
-unfolding encoded isKnown tagged tags unsigned signed inBytes
-decodes (Join operator) fits before after = field-found before (operator ∷ []) after 1 refl refl (lit< tt)
-decodes (Setting operator which value) fits before after =
-    field-found before (operator ∷ which ∷ inBytes 8 value) after 2 refl refl (lit< tt)
+pub decodes : (kind : List Indicator) (call : Call) → factsOf kind call .known ≡ true → FitsBytes call → Decodes kind call
+unfolding factsOf encoded hasTag isKnown tagged tags unsigned signed inBytes
+decodes kind (Join operator) had fits before after = field-found before (operator ∷ []) after 1 kind refl refl (lit< tt)
+decodes kind (Setting operator which value) had fits before after =
+    field-found before (operator ∷ which ∷ inBytes 8 value) after 2 kind refl refl (lit< tt)
     ∙ rw (bytes-denote 8 value fits) refl
-decodes (Interruption operator sign level cause start end weight) fits before after =
-    field-found before (operator ∷ sign ∷ level ∷ cause ∷ inBytes 8 (bitsOf start) ++ inBytes 8 (bitsOf end) ++ inBytes 4 weight) after 3 refl refl (lit< tt)
+decodes kind (Interruption operator sign level cause start end weight) had fits before after =
+    field-found before (operator ∷ sign ∷ level ∷ cause ∷ inBytes 8 (bitsOf start) ++ inBytes 8 (bitsOf end) ++ inBytes 4 weight) after 3 kind had refl (lit< tt)
     ∙ rw (
       bytes-denote 8 (bitsOf start) (bits-fit start (fits .0)),
       bytes-denote 8 (bitsOf end) (bits-fit end (fits .1)),
@@ -112,13 +114,13 @@ decodes (Interruption operator sign level cause start end weight) fits before af
       bits-denote end (fits .1),
     )
     refl
-decodes (Amount operator year figure sign value) fits before after =
-    field-found before (operator ∷ year ∷ figure ∷ sign ∷ inBytes 8 value) after 4 refl refl (lit< tt)
+decodes kind (Amount operator year figure sign value) had fits before after =
+    field-found before (operator ∷ year ∷ figure ∷ sign ∷ inBytes 8 value) after 4 kind refl refl (lit< tt)
     ∙ rw (bytes-denote 8 value fits) refl
-decodes (Mark operator indicator mark) fits before after = field-found before (operator ∷ indicator ∷ mark ∷ []) after 5 refl refl (lit< tt)
-decodes (Rates pot cap) fits before after =
-    field-found before (inBytes 4 pot ++ inBytes 4 cap) after 6 refl refl (lit< tt)
+decodes kind (Mark operator indicator mark) had fits before after = field-found before (operator ∷ indicator ∷ mark ∷ []) after 5 kind refl refl (lit< tt)
+decodes kind (Rates pot cap) had fits before after =
+    field-found before (inBytes 4 pot ++ inBytes 4 cap) after 6 kind refl refl (lit< tt)
     ∙ rw (bytes-denote 4 pot (fits .0), bytes-denote 4 cap (fits .1)) refl
-decodes (Index number value) fits before after =
-    field-found before (number ∷ inBytes 4 value) after 7 refl refl (lit< tt)
+decodes kind (Index number value) had fits before after =
+    field-found before (number ∷ inBytes 4 value) after 7 kind refl refl (lit< tt)
     ∙ rw (bytes-denote 4 value fits) refl

@@ -9,9 +9,10 @@ use lib.Dec.{eqb, ltb}
 use lib.ListN.{length, take, drop}
 use borrow.Author.Tests.{lt-ltb, le-ltb, eq-eqb, ne-eqb, ltb-false, eqb-true, eqb-false}
 use Rattle.calls.specs.declared.Call.{Call}
+use Rattle.calls.specs.Indicators.{Indicator}
 use Rattle.calls.specs.Answers.{Said, refused-by, accepted, firstOf}
-use Rattle.contents.specs.Content.{byte, unsigned, isKnown, tagged}
-use Rattle.fields.specs.Field.{Found, at-end, call-then, fieldLines, callAt, fieldAt}
+use Rattle.contents.specs.Content.{byte, unsigned, tagged}
+use Rattle.fields.specs.Field.{Found, at-end, call-then, hasTag, fieldLines, callAt, fieldIn}
 use Rattle.fields.specs.Steps.{contentSaid}
 
 -- how an answer leaves the offset: a call ends 3 bytes on or more and does not pass the end
@@ -20,7 +21,7 @@ Stands bytes at (accepted (call-then call next)) = (at + 3 ≤ next) × (next �
 Stands bytes at (accepted at-end) = length bytes ≤ at
 Stands bytes at (refused-by number) = Unit {0}
 
-module _ (bytes : List ℕ) (at : ℕ) where
+module _ (kind : List Indicator) (bytes : List ℕ) (at : ℕ) where
   abbrev left : ℕ
   left = length bytes - at
 
@@ -30,8 +31,8 @@ module _ (bytes : List ℕ) (at : ℕ) where
   abbrev tag : ℕ
   tag = byte bytes at
 
-  pub ends : length bytes ≤ at → fieldAt bytes at ≡ accepted at-end
-  unfolding fieldAt fieldLines firstOf callAt
+  pub ends : length bytes ≤ at → fieldIn kind bytes at ≡ accepted at-end
+  unfolding fieldIn fieldLines firstOf callAt
   ends le = rw (eq-eqb left 0 (omega arith)) refl
 
   module _ (more : at < length bytes) where
@@ -45,32 +46,32 @@ module _ (bytes : List ℕ) (at : ℕ) where
         go true one = refl
         go false more-or-none = eq-eqb left 2 (omega (arith, eqb-false left 1 more-or-none))
 
-    pub no-length : left < 3 → fieldAt bytes at ≡ refused-by 1
-    unfolding fieldAt fieldLines firstOf callAt
+    pub no-length : left < 3 → fieldIn kind bytes at ≡ refused-by 1
+    unfolding fieldIn fieldLines firstOf callAt
     no-length lt = rw (some-left, one-or-two lt) refl
 
     module _ (whole : 3 ≤ left) where
       three-or-more : eqb left 1 || eqb left 2 ≡ false
       three-or-more = rw (ne-eqb left 1 (λ e. omega arith), ne-eqb left 2 (λ e. omega arith)) refl
 
-      pub passes-end : left - 3 < size → fieldAt bytes at ≡ refused-by 1
-      unfolding fieldAt fieldLines firstOf callAt
+      pub passes-end : left - 3 < size → fieldIn kind bytes at ≡ refused-by 1
+      unfolding fieldIn fieldLines firstOf callAt
       passes-end lt = rw (some-left, three-or-more, lt-ltb (left - 3) size lt) refl
 
       module _ (within : size ≤ left - 3) where
-        pub framed : fieldAt bytes at ≡ contentSaid tag size bytes (at + 3)
-        unfolding fieldAt fieldLines firstOf callAt contentSaid
+        pub framed : fieldIn kind bytes at ≡ contentSaid kind tag size bytes (at + 3)
+        unfolding fieldIn fieldLines firstOf callAt contentSaid
         framed = rw (some-left, three-or-more, le-ltb (left - 3) size within) refl
 
-        module _ (known : isKnown tag ≡ true) where
-          pub filed : size ≡ tagged tag .size → fieldAt bytes at ≡ accepted (call-then (tagged tag .call (take size (drop (at + 3) bytes))) (at + 3 + size))
-          unfolding fieldAt fieldLines firstOf callAt
+        module _ (known : hasTag kind tag ≡ true) where
+          pub filed : size ≡ tagged tag .size → fieldIn kind bytes at ≡ accepted (call-then (tagged tag .call (take size (drop (at + 3) bytes))) (at + 3 + size))
+          unfolding fieldIn fieldLines firstOf callAt
           filed same = rw (some-left, three-or-more, le-ltb (left - 3) size within, known, eq-eqb size (tagged tag .size) same) refl
 
-  pub stands : Stands bytes at (fieldAt bytes at)
-  unfolding fieldAt fieldLines firstOf callAt
+  pub stands : Stands bytes at (fieldIn kind bytes at)
+  unfolding fieldIn fieldLines firstOf callAt
   stands =
-      go (eqb left 0) (eqb left 1) (eqb left 2) (ltb (left - 3) size) (not (isKnown tag)) (not (eqb size (tagged tag .size))) _ refl refl refl refl
+      go (eqb left 0) (eqb left 1) (eqb left 2) (ltb (left - 3) size) (not (hasTag kind tag)) (not (eqb size (tagged tag .size))) _ refl refl refl refl
     where
       go : (none one two long unknown wrong : Bool) (call : Call) → eqb left 0 ≡ none → eqb left 1 ≡ one → eqb left 2 ≡ two → ltb (left - 3) size ≡ long
           → Stands bytes at

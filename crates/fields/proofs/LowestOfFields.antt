@@ -11,17 +11,18 @@ use borrow.Author.Tests.{eqb-true, eqb-false}
 use Rattle.calls.specs.declared.Call.{Call}
 use Rattle.fields.specs.declared.Field.{Field}
 use Rattle.fields.specs.declared.Field.the-variants.{CallThen, End, Refused}
+use Rattle.calls.specs.Indicators.{Indicator}
 use Rattle.calls.specs.Answers.{Said, refused-by, accepted, firstOf, numberOf}
 use Rattle.calls.specs.Laws.{applies, risesFrom, Lowest, ToldApart}
 use Rattle.calls.proofs.Lowest.{lowest}
 use Rattle.calls.proofs.SaidLaws.{numbers-apart}
 use Rattle.contents.specs.Content.{bigEndian, unsigned}
-use Rattle.fields.specs.Field.{sizeAt, leftAt, Found, at-end, call-then, fieldLines, callAt, fieldAt, fieldSaid}
+use Rattle.fields.specs.Field.{sizeAt, leftAt, Found, at-end, call-then, fieldLines, callAt, fieldIn, fieldSaid}
 use Rattle.fields.specs.Laws.{FieldAnswered}
 
-pub lowest-of-fields : (bytes : List ℕ) (at : ℕ) → Lowest (fieldLines bytes at) (callAt bytes at)
+pub lowest-of-fields : (kind : List Indicator) (bytes : List ℕ) (at : ℕ) → Lowest (fieldLines kind bytes at) (callAt bytes at)
 unfolding risesFrom fieldLines
-lowest-of-fields bytes at = lowest (callAt bytes at) (fieldLines bytes at) refl
+lowest-of-fields kind bytes at = lowest (callAt bytes at) (fieldLines kind bytes at) refl
 
 -- an answer tells the end from a field
 abbrev isEnd : Said Found → Bool
@@ -35,25 +36,25 @@ no-end [] call next = refl
 no-end ((line, true) ∷ rest) call next = refl
 no-end ((line, false) ∷ rest) call next = no-end rest call next
 
-module _ (bytes : List ℕ) (at : ℕ) where
-  field-no-end : isEnd (firstOf (fieldLines bytes at) (callAt bytes at)) ≡ false
+module _ (kind : List Indicator) (bytes : List ℕ) (at : ℕ) where
+  field-no-end : isEnd (firstOf (fieldLines kind bytes at) (callAt bytes at)) ≡ false
   unfolding callAt
-  field-no-end = no-end (fieldLines bytes at) _ _
+  field-no-end = no-end (fieldLines kind bytes at) _ _
 
   -- no length can be read where no byte is left
   no-size : leftAt bytes at ≡ 0 → sizeAt bytes at ≡ 0
   unfolding unsigned bigEndian
   no-size none = rw (drop-of-length-le bytes {i = at + 1} (omega (arith, none))) refl
 
-  end-not-truncated : leftAt bytes at ≡ 0 → applies (fieldLines bytes at) 1 ≡ false
+  end-not-truncated : leftAt bytes at ≡ 0 → applies (fieldLines kind bytes at) 1 ≡ false
   unfolding applies fieldLines
   end-not-truncated none = rw (none, no-size none) refl
 
-  answered : (none : Bool) → eqb (leftAt bytes at) 0 ≡ none → FieldAnswered bytes at
-  unfolding fieldAt callAt
+  answered : (none : Bool) → eqb (leftAt bytes at) 0 ≡ none → FieldAnswered kind bytes at
+  unfolding fieldIn callAt
   answered true none =
       let nothing : leftAt bytes at ≡ 0 = eqb-true (leftAt bytes at) 0 none in
-      let ended : fieldAt bytes at ≡ accepted at-end = rw none refl in
+      let ended : fieldIn kind bytes at ≡ accepted at-end = rw none refl in
       record {
         number = λ n. ((λ e. absurd (true≢false (ap isEnd (sym ended ∙ e)))), (λ all. absurd (omega (arith, nothing, all .0))));
         ends = ((λ e. nothing), (λ e. ended));
@@ -62,8 +63,8 @@ module _ (bytes : List ℕ) (at : ℕ) where
       }
   answered false more =
       let some : 0 < leftAt bytes at = omega (arith, eqb-false (leftAt bytes at) 0 more) in
-      let judged : fieldAt bytes at ≡ firstOf (fieldLines bytes at) (callAt bytes at) = rw more refl in
-      let low = lowest-of-fields bytes at in
+      let judged : fieldIn kind bytes at ≡ firstOf (fieldLines kind bytes at) (callAt bytes at) = rw more refl in
+      let low = lowest-of-fields kind bytes at in
       record {
         number = λ n. (
           (λ e. let lines = low .refused n .0 (sym judged ∙ e) in (some, lines .0, lines .1)),
@@ -77,7 +78,7 @@ module _ (bytes : List ℕ) (at : ℕ) where
         calls = ((λ e. (some, low .answered .0 (sym judged ∙ e))), (λ all. judged ∙ low .answered .1 (all .1)));
       }
 
-  pub field-answered : FieldAnswered bytes at
+  pub field-answered : FieldAnswered kind bytes at
   field-answered = answered (eqb (leftAt bytes at) 0) refl
 
 pub fields-apart : ToldApart fieldSaid

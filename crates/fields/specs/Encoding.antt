@@ -7,8 +7,9 @@ use lib.ListN.{length}
 use mathlib.Core.Path.{_≡_}
 use Rattle.calls.specs.declared.Call.{Call}
 use Rattle.calls.specs.declared.Call.the-variants.{Join, Setting, Interruption, Amount, Mark, Rates, Index}
+use Rattle.calls.specs.Indicators.{Indicator}
 use Rattle.calls.specs.Answers.{accepted}
-use Rattle.fields.specs.Field.{call-then, fieldAt}
+use Rattle.fields.specs.Field.{call-then, fieldIn}
 
 -- a number in so many bytes: "Numbers are big-endian"
 unfoldable pub inBytes : ℕ → ℕ → List ℕ
@@ -50,7 +51,7 @@ FitsBytes (Mark operator indicator mark) = Unit {0}
 FitsBytes (Rates pot cap) = (pot < 2 ^ 32) × (cap < 2 ^ 32)
 FitsBytes (Index number value) = value < 2 ^ 32
 
--- decoding an encoded call gives the call, wherever it stands in a filing; the proof is `decodes` of proofs/EncodingLaws.antt
-abbrev pub Decodes : Call → Type 0
-Decodes call = (before after : List ℕ)
-    → fieldAt (before ++ encoded call ++ after) (length before) ≡ accepted (call-then call (length before + length (encoded call)))
+-- decoding an encoded call gives the call, wherever it stands in a filing of a kind; the proof is `decodes` of proofs/EncodingLaws.antt
+abbrev pub Decodes : List Indicator → Call → Type 0
+Decodes kind call = (before after : List ℕ)
+    → fieldIn kind (before ++ encoded call ++ after) (length before) ≡ accepted (call-then call (length before + length (encoded call)))

@@ -5,17 +5,18 @@ use mathlib.Core.Path.{_≡_}
 use mathlib.Core.Logic.{_↔_}
 use mathlib.Core.Bool.{true, false}
 use mathlib.Core.List.{List}
+use Rattle.calls.specs.Indicators.{Indicator}
 use Rattle.calls.specs.Answers.{refused-by, accepted}
 use Rattle.calls.specs.Laws.{applies}
-use Rattle.fields.specs.Field.{leftAt, at-end, fieldLines, callAt, fieldAt}
+use Rattle.fields.specs.Field.{leftAt, at-end, fieldLines, callAt, fieldIn}
 
-pub record FieldAnswered (bytes : List ℕ) (at : ℕ) : Type 0 where
+pub record FieldAnswered (kind : List Indicator) (bytes : List ℕ) (at : ℕ) : Type 0 where
   -- 1, 2 or 3 exactly when a byte is left, the number applies and none below it does
   pub number : (n : ℕ)
-      → (fieldAt bytes at ≡ refused-by n)
-      ↔ ((0 < leftAt bytes at) × (applies (fieldLines bytes at) n ≡ true) × ((lower : ℕ) → lower < n → applies (fieldLines bytes at) lower ≡ false))
+      → (fieldIn kind bytes at ≡ refused-by n)
+      ↔ ((0 < leftAt bytes at) × (applies (fieldLines kind bytes at) n ≡ true) × ((lower : ℕ) → lower < n → applies (fieldLines kind bytes at) lower ≡ false))
   -- the end exactly when no byte is left; 1, "1 or 2 bytes left", does not apply there
-  pub ends : (fieldAt bytes at ≡ accepted at-end) ↔ (leftAt bytes at ≡ 0)
-  pub end-not-truncated : leftAt bytes at ≡ 0 → applies (fieldLines bytes at) 1 ≡ false
+  pub ends : (fieldIn kind bytes at ≡ accepted at-end) ↔ (leftAt bytes at ≡ 0)
+  pub end-not-truncated : leftAt bytes at ≡ 0 → applies (fieldLines kind bytes at) 1 ≡ false
   -- a call exactly when a byte is left and none of the three applies
-  pub calls : (fieldAt bytes at ≡ accepted (callAt bytes at)) ↔ ((0 < leftAt bytes at) × ((n : ℕ) → applies (fieldLines bytes at) n ≡ false))
+  pub calls : (fieldIn kind bytes at ≡ accepted (callAt bytes at)) ↔ ((0 < leftAt bytes at) × ((n : ℕ) → applies (fieldLines kind bytes at) n ≡ false))

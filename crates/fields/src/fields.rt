@@ -2,14 +2,25 @@
 ghost use mathlib.Core.Path.{_≡_};
 ghost use Prim.Native.Nat.{_+_, _<_};
 ghost use lib.ListN.{length};
-ghost use Rattle.fields.specs.Field.{fieldAt, fieldSaid};
+ghost use mathlib.Core.List.{List};
+ghost use Rattle.calls.specs.Indicators.{Indicator, indicatorsOf};
+ghost use Rattle.fields.specs.Field.{fieldIn, fieldAt, fieldSaid};
 use crate::Field;
 use crate::tags::content_at;
+use calls::Kind;
 use calls::Refusal;
 use contents::unsigned_at;
 
+// In a filing of electricity.
 pub fn field_at(bytes: &[u8], at: usize) -> Field
     ensures { λ r. ⌜ fieldSaid r ≡ fieldAt (now (bytes .entry)) at ⌝ }
+{
+    field_in(Kind::Electricity, bytes, at)
+}
+
+// In a filing of a kind.
+pub fn field_in(kind: Kind, bytes: &[u8], at: usize) -> Field
+    ensures { λ r. ⌜ fieldSaid r ≡ fieldIn (indicatorsOf kind) (now (bytes .entry)) at ⌝ }
 {
     if bytes.len() < 3 {
         return short_at(bytes, at);
@@ -23,13 +34,13 @@ pub fn field_at(bytes: &[u8], at: usize) -> Field
         return Field::Refused(Refusal::Truncated);
     }
     let tag = bytes[at];
-    content_at(tag, size, bytes, at + 3)
+    content_at(kind, tag, size, bytes, at + 3)
 }
 
-// Fewer than three bytes are left: the end, or 1.
+// Fewer than three bytes are left: the end, or 1, in filings of every kind.
 fn short_at(bytes: &[u8], at: usize) -> Field
     requires { ⌜ length (now bytes) < at + 3 ⌝ }
-    ensures { λ r. ⌜ fieldSaid r ≡ fieldAt (now (bytes .entry)) at ⌝ }
+    ensures { λ r. ⌜ ((kind : List Indicator) → fieldSaid r ≡ fieldIn kind (now (bytes .entry)) at) ⌝ }
 {
     if bytes.len() <= at {
         return Field::End;

@@ -5,6 +5,7 @@ mod tags;
 use calls::Call;
 use calls::Refusal;
 pub use fields::field_at;
+pub use fields::field_in;
 
 // What stands in a filing at an offset.
 pub enum Field {

@@ -2,7 +2,7 @@
 -- Assumes nothing.
 use Prim.Native.Nat.{ℕ, _+_, _*_, _≤_, _<_}
 use mathlib.Core.Path.{_≡_}
-use mathlib.Core.List.{List, map}
+use mathlib.Core.List.{List}
 use lib.ListN.{getD, set}
 use lib.Seq.{paste}
 use Rattle.calls.specs.Limits.{operators, indicatorCount}
@@ -10,8 +10,8 @@ use Rattle.book.specs.declared.Book.{Book}
 use Rattle.values.specs.Bounds.{totalMost}
 use Rattle.values.specs.Parts.{Within}
 use Rattle.values.specs.Operators.{each}
-use Rattle.values.specs.Indicator.{electricity, numbered, pool}
-use Rattle.indicators.specs.Points.{points, allPoints, pointsOfAll}
+use Rattle.calls.specs.Indicators.{Indicator}
+use Rattle.indicators.specs.Points.{poolNumbered, pointsNumbered, poolsOfAll, pointsOfAll, allPoints}
 use Rattle.gathering.specs.declared.Gathered.{Gathered}
 
 -- what putting in one indicator more asks for
@@ -20,14 +20,14 @@ pub record GatheringAsked (settings figures indices totals : List ℕ) (number :
   pub number-there : number < indicatorCount
   pub totals-most : (k : ℕ) → getD totals k 0 ≤ totalMost
 
--- g with the indicator of a number put in
-pub record OneGathered (b : Book) (number : ℕ) (g more : Gathered) : Type 0 where
-  pub pools-are : more .pools ≡ set (g .pools) number (pool b (numbered number))
-  pub points-are : more .points ≡ paste (g .points) (operators * number) (points b (numbered number)) operators
-  pub totals-are : more .totals ≡ each (λ (k : ℕ). getD (g .totals) k 0 + getD (points b (numbered number)) k 0)
+-- g with the indicator of a number put in, of a list of indicators
+pub record OneGathered (b : Book) (indicators : List Indicator) (number : ℕ) (g more : Gathered) : Type 0 where
+  pub pools-are : more .pools ≡ set (g .pools) number (poolNumbered b indicators number)
+  pub points-are : more .points ≡ paste (g .points) (operators * number) (pointsNumbered b indicators number) operators
+  pub totals-are : more .totals ≡ each (λ (k : ℕ). getD (g .totals) k 0 + getD (pointsNumbered b indicators number) k 0)
 
-pub record AllGathered (b : Book) (g : Gathered) : Type 0 where
-  pub pools-are : g .pools ≡ map (pool b) electricity
-  pub points-are : g .points ≡ pointsOfAll b electricity
-  pub totals-are : g .totals ≡ each (allPoints b electricity)
+pub record AllGathered (b : Book) (indicators : List Indicator) (g : Gathered) : Type 0 where
+  pub pools-are : g .pools ≡ poolsOfAll b indicators
+  pub points-are : g .points ≡ pointsOfAll b indicators
+  pub totals-are : g .totals ≡ each (allPoints b indicators)
   pub totals-most : (k : ℕ) → getD (g .totals) k 0 ≤ totalMost

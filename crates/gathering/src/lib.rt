@@ -3,7 +3,10 @@ ghost use mathlib.Core.Path.{_≡_};
 ghost use Prim.Native.Nat.{ℕ, _+_, _*_, _≤_, _<_};
 ghost use lib.ListN.{getD};
 ghost use lib.Seq.{paste};
+ghost use Rattle.calls.specs.Limits.{indicatorCount};
+ghost use Rattle.calls.specs.Indicators.{indicatorsOf};
 ghost use Rattle.book.specs.declared.Book.{Book};
+ghost use Rattle.indicators.specs.Points.{poolNumbered, pointsNumbered};
 ghost use Rattle.values.specs.Bounds.{poolMost, totalMost};
 ghost use Rattle.values.specs.Operators.{each};
 ghost use Rattle.values.specs.Parts.{HasMarks, HasMeasures, Within};
@@ -12,8 +15,10 @@ use calls::FIGURE_PLACES;
 use calls::INDICATOR_COUNT;
 use calls::INDICATORS;
 use calls::INDICES;
+use calls::Kind;
 use calls::OPERATORS;
 use calls::SETTING_PLACES;
+use calls::takes_mark;
 use indicators::points_of;
 use indicators::pool_of;
 
@@ -21,7 +26,7 @@ use indicators::pool_of;
 pub const POINT_PLACES: usize = OPERATORS * INDICATORS;
 
 pub struct Gathered {
-    // In hundredths, by indicator.
+    // In hundredths, by the indicators' numbers; 0 where the kind has none.
     pub pools: [u64; INDICATORS],
     // In hundredths, at indicator * 16 + operator.
     pub points: [u64; POINT_PLACES],
@@ -30,6 +35,7 @@ pub struct Gathered {
 }
 
 pub fn gather(
+    kind: Kind,
     joined: u16,
     marks: &[u16; INDICATORS],
     settings: &[u64; SETTING_PLACES],
@@ -37,7 +43,7 @@ pub fn gather(
     indices: &[u32; INDICES],
 ) -> Gathered
     requires { ⌜ Within (now settings) (now figures) (now indices) ⌝ }
-    ensures { λ r. ⌜ ((b : Book) → HasMarks b joined (now (marks .entry)) → HasMeasures b (now (settings .entry)) (now (figures .entry)) (now (indices .entry)) → AllGathered b r) ⌝ }
+    ensures { λ r. ⌜ ((b : Book) → HasMarks b joined (now (marks .entry)) → HasMeasures b (now (settings .entry)) (now (figures .entry)) (now (indices .entry)) → AllGathered b (indicatorsOf kind) r) ⌝ }
 {
     let mut g = Gathered {
         pools: [0u64; INDICATORS],
@@ -46,13 +52,14 @@ pub fn gather(
     };
     let mut number = 0;
     while number < INDICATOR_COUNT {
-        g = gather_one(g, joined, marks, settings, figures, indices, number);
+        g = gather_one(kind, g, joined, marks, settings, figures, indices, number);
         number += 1;
     }
     g
 }
 
 fn gather_one(
+    kind: Kind,
     g: Gathered,
     joined: u16,
     marks: &[u16; INDICATORS],
@@ -62,11 +69,11 @@ fn gather_one(
     number: u8,
 ) -> Gathered
     requires { ⌜ GatheringAsked (now settings) (now figures) (now indices) (g .totals) number ⌝ }
-    ensures { λ r. ⌜ ((b : Book) → HasMarks b joined (now (marks .entry)) → HasMeasures b (now (settings .entry)) (now (figures .entry)) (now (indices .entry)) → OneGathered b number g r) ⌝ }
+    ensures { λ r. ⌜ ((b : Book) → HasMarks b joined (now (marks .entry)) → HasMeasures b (now (settings .entry)) (now (figures .entry)) (now (indices .entry)) → OneGathered b (indicatorsOf kind) number g r) ⌝ }
 {
-    let shares = points_of(joined, marks, settings, figures, indices, number);
+    let shares = points_in(kind, joined, marks, settings, figures, indices, number);
     let mut pools = g.pools;
-    pools[number as usize] = pool_of(joined, marks, number);
+    pools[number as usize] = pool_in(kind, joined, marks, number);
     let list = g.points;
     let points = place(list, 16 * number as usize, shares);
     let sums = g.totals;
@@ -76,6 +83,35 @@ fn gather_one(
         points,
         totals,
     }
+}
+
+// The points of the kind's indicator of a number; 0 for all if it has none.
+fn points_in(
+    kind: Kind,
+    joined: u16,
+    marks: &[u16; INDICATORS],
+    settings: &[u64; SETTING_PLACES],
+    figures: &[u64; FIGURE_PLACES],
+    indices: &[u32; INDICES],
+    number: u8,
+) -> [u64; 16]
+    requires { ⌜ Within (now settings) (now figures) (now indices) × (number < indicatorCount) ⌝ }
+    ensures { λ r. ⌜ ((b : Book) → HasMarks b joined (now (marks .entry)) → HasMeasures b (now (settings .entry)) (now (figures .entry)) (now (indices .entry)) → r ≡ pointsNumbered b (indicatorsOf kind) number) ⌝ }
+{
+    if !takes_mark(kind, number) {
+        return [0u64; 16];
+    }
+    points_of(joined, marks, settings, figures, indices, number)
+}
+
+fn pool_in(kind: Kind, joined: u16, marks: &[u16; INDICATORS], number: u8) -> u64
+    requires { ⌜ number < indicatorCount ⌝ }
+    ensures { λ r. ⌜ ((b : Book) → HasMarks b joined (now (marks .entry)) → r ≡ poolNumbered b (indicatorsOf kind) number) ⌝ }
+{
+    if !takes_mark(kind, number) {
+        return 0;
+    }
+    pool_of(joined, marks, number)
 }
 
 // Sixteen numbers put into the list from a place on.

@@ -4,20 +4,21 @@ use mathlib.Core.Path.{_≡_, refl, ap, _∙_}
 use mathlib.Core.Bool.{true}
 use mathlib.Core.List.{List, [], _∷_}
 use Rattle.calls.specs.declared.Call.{Call}
+use Rattle.calls.specs.Indicators.{Indicator}
 use Rattle.book.specs.declared.Book.{Book}
 use Rattle.book.specs.Book.{freshBook, inRange}
-use Rattle.ledger.specs.Calls.{apply, file, filedBook}
+use Rattle.ledger.specs.Calls.{apply, filedBook}
 use Rattle.history.specs.Demand.{bookOf}
 use Rattle.history.proofs.Kept.{stays, filed-applied, fresh-in-range}
 
-unfoldable pub appliedFrom : Book → List Call → Book
-appliedFrom b [] = b
-appliedFrom b (call ∷ rest) = appliedFrom (apply b call .book) rest
+unfoldable pub appliedFrom : List Indicator → Book → List Call → Book
+appliedFrom kind b [] = b
+appliedFrom kind b (call ∷ rest) = appliedFrom kind (apply kind b call .book) rest
 
-pub filed-from : (calls : List Call) (b : Book) → inRange b ≡ true → filedBook b calls ≡ appliedFrom b calls
+pub filed-from : (kind : List Indicator) (calls : List Call) (b : Book) → inRange kind b ≡ true → filedBook kind b calls ≡ appliedFrom kind b calls
 unfolding filedBook appliedFrom
-filed-from [] b ranged = refl
-filed-from (call ∷ rest) b ranged = rw (filed-applied b call ranged) (filed-from rest (apply b call .book) (stays b call ranged))
+filed-from kind [] b ranged = refl
+filed-from kind (call ∷ rest) b ranged = rw (filed-applied kind b call ranged) (filed-from kind rest (apply kind b call .book) (stays kind b call ranged))
 
-pub book-of : (calls : List Call) → bookOf calls ≡ appliedFrom freshBook calls
-book-of calls = filed-from calls freshBook fresh-in-range
+pub book-of : (kind : List Indicator) (calls : List Call) → bookOf kind calls ≡ appliedFrom kind freshBook calls
+book-of kind calls = filed-from kind calls freshBook (fresh-in-range kind)

@@ -1,20 +1,22 @@
 -- Settling reads figures 0 to 7 only: two books that differ in the counts alone settle the same (specs/Demand3.antt, `counts-aside`).
 -- Assumes nothing.
-use Prim.Native.Nat.{ℕ, _+_, _*_, _<_}
+use Prim.Native.Nat.{ℕ, zero, suc, _+_, _*_, _<_}
 use mathlib.Core.Path.{_≡_, refl, ap, ap₂, _∙_}
 use mathlib.Core.Bool.{Bool, true, false, cond}
 use mathlib.Core.List.{List, [], _∷_, _++_}
 use native.Mathlib.Omega.{arith}
+use lib.Dec.{eqb}
 use lib.ListN.{getD}
-use Rattle.calls.specs.Limits.{operators, years, firstCount}
+use Rattle.calls.specs.Limits.{operators, years, indicatorCount, firstCount}
 use Rattle.calls.specs.Masks.{has}
 use Rattle.calls.specs.Answers.{onAnswer, firstOf}
 use Rattle.book.specs.declared.Book.{Book}
 use Rattle.book.specs.Book.{withFigures, isJoined, isMarked, settingOf, figureOf, indexOf, inRange}
-use Rattle.values.specs.Indicator.{Measure, frequency, duration, fee, Indicator, electricity, yearlyValue, threeYears, reliableMask, scores, pool}
+use Rattle.calls.specs.Indicators.{Measure, frequency, duration, fee, Indicator, electricity, takesMark}
+use Rattle.values.specs.Indicator.{numberedIn, yearlyValue, threeYears, reliableMask, scores, pool}
 use Rattle.values.proofs.Tables.{each-same}
 use Rattle.apportion.specs.Share.{share}
-use Rattle.indicators.specs.Points.{points, allPoints, pointsOfAll}
+use Rattle.indicators.specs.Points.{points, allPoints, poolNumbered, pointsNumbered, poolsOfAll, rows, pointsOfAll}
 use Rattle.money.specs.Money.{pot, contributions, returns, limits, adjustments}
 use Rattle.settlement.specs.Settlement.{settingMissing, networkMissing, isMarkedAtAll, allMarked, settlementBy, settlingLines, settledBy, settled}
 use Rattle.guarantees.specs.Demand3.{SameMeasures}
@@ -64,10 +66,28 @@ module _ (b : Book) (figures : List ℕ) (same : SameMeasures b (withFigures b f
   all-same (indicator ∷ rest) below operator =
       ap₂ _+_ (ap (λ (list : List ℕ). getD list operator 0) (points-same indicator (below .0))) (all-same rest (below .1) operator)
 
+  -- the indicator of a number is measured below the counts: the list's, or fees
+  measured-in : (indicators : List Indicator) → AllMeasured indicators → (number : ℕ) → Measured (numberedIn indicators number .measure)
+  unfolding numberedIn
+  measured-in [] below number = (omega arith, omega arith)
+  measured-in (indicator ∷ rest) below number = go (eqb (indicator .number) number) (measured-in rest (below .1) number)
+    where
+      go : (t : Bool) → Measured (numberedIn rest number .measure) → Measured (cond t indicator (numberedIn rest number) .measure)
+      go true later = below .0
+      go false later = later
+
+  numbered-same : (indicators : List Indicator) → AllMeasured indicators → (number : ℕ) → pointsNumbered c indicators number ≡ pointsNumbered b indicators number
+  unfolding pointsNumbered
+  numbered-same indicators below number = rw (points-same (numberedIn indicators number) (measured-in indicators below number)) refl
+
+  rows-same : (indicators : List Indicator) → AllMeasured indicators → (n : ℕ) → rows n (pointsNumbered c indicators) ≡ rows n (pointsNumbered b indicators)
+  unfolding rows
+  rows-same indicators below zero = refl
+  rows-same indicators below (suc n) = ap₂ _++_ (rows-same indicators below n) (numbered-same indicators below n)
+
   lists-same : (indicators : List Indicator) → AllMeasured indicators → pointsOfAll c indicators ≡ pointsOfAll b indicators
   unfolding pointsOfAll
-  lists-same [] below = refl
-  lists-same (indicator ∷ rest) below = ap₂ _++_ (points-same indicator (below .0)) (lists-same rest (below .1))
+  lists-same indicators below = rows-same indicators below indicatorCount
 
   module _ (indicators : List Indicator) (below : AllMeasured indicators) where
     returns-same : returns c indicators ≡ returns b indicators
@@ -75,14 +95,14 @@ module _ (b : Book) (figures : List ℕ) (same : SameMeasures b (withFigures b f
     returns-same = ap (share (pot b)) (each-same _ _ (λ operator lo. ap (λ (n : ℕ). settingOf b operator 1 * n) (all-same indicators below operator)))
 
     settlement-same : settlementBy c indicators ≡ settlementBy b indicators
-    unfolding settlementBy pool reliableMask pot contributions limits adjustments settingOf
+    unfolding settlementBy poolsOfAll poolNumbered pool reliableMask pot contributions limits adjustments settingOf
     settlement-same = rw (lists-same indicators below, returns-same) refl
 
   -- who has joined, marks and settings are another part of the book
-  lines-same : inRange c ≡ inRange b → settlingLines c electricity ≡ settlingLines b electricity
+  lines-same : inRange electricity c ≡ inRange electricity b → settlingLines c electricity ≡ settlingLines b electricity
   unfolding settlingLines settingMissing networkMissing allMarked isMarkedAtAll isJoined isMarked settingOf electricity
   lines-same ranged = rw ranged refl
 
-  pub settled-same : inRange c ≡ inRange b → settled c ≡ settled b
-  unfolding settled settledBy
+  pub settled-same : inRange electricity c ≡ inRange electricity b → settled c ≡ settled b
+  unfolding settledBy
   settled-same ranged = rw (lines-same ranged, settlement-same electricity electricity-measured) refl

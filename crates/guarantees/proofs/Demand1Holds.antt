@@ -16,26 +16,28 @@ use Rattle.calls.specs.Call.{factsOf}
 use Rattle.calls.specs.Laws.{applies, risesFrom, Lowest}
 use Rattle.calls.proofs.Flags.{and-true-right, and-false-right, or-false-right}
 use Rattle.calls.proofs.Lowest.{lowest}
+use Rattle.calls.proofs.KindLaws.{figure-taken, has-them}
+use Rattle.calls.specs.declared.Kind.the-variants.{Electricity}
 use Rattle.book.specs.declared.Book.{Book}
 use Rattle.book.specs.Book.{isJoined, figureOf, inRange}
-use Rattle.ledger.specs.Table.{some, linesFor, answerTo}
-use Rattle.ledger.specs.Calls.{outcomeOf, changed, apply, file}
+use Rattle.ledger.specs.Table.{linesFor, answerTo}
+use Rattle.ledger.specs.Calls.{outcomeOf, changed, apply, fileAs}
 use Rattle.ledger.proofs.LowestOfCalls.{lowest-of-calls}
 use Rattle.fields.proofs.LowestOfFields.{lowest-of-fields, field-answered}
-use Rattle.filing.specs.Reader.{readFrom, read}
+use Rattle.filing.specs.Reader.{readFromAs, readAs}
 use Rattle.filing.proofs.ReadLaws.{read-as-calls}
-use Rattle.values.specs.Indicator.{Indicator, electricity}
-use Rattle.settlement.specs.Settlement.{settlingLines, nothing, settlementBy, settledBy, settled}
+use Rattle.calls.specs.Indicators.{Indicator, electricity, gas, some}
+use Rattle.settlement.specs.Settlement.{settlingLines, nothing, settlementBy, settledBy}
 use Rattle.settlement.proofs.SettledLaws.{lowest-of-settling}
 use Rattle.sheets.specs.Sheet.{countsOf, noCounts, sheetOf, sheetLines}
 use Rattle.sheets.proofs.SheetLaws.{sheet-by-lines, lowest-of-sheets}
 use Rattle.text.specs.Buffer.{putInto, bufferAfter}
-use Rattle.report.specs.Report.{textOf, reportLines, reportAnswer, reportBuffer}
+use Rattle.report.specs.Report.{textAs, reportingLines, reportingAnswer, reportingBuffer}
 use Rattle.report.proofs.AnswerLaws.{lowest-of-reports}
-use Rattle.writing.specs.Written.{written}
-use Rattle.writer.specs.Writer.{writerLines, writerAnswer, writerBuffer}
+use Rattle.writing.specs.Written.{writtenAs}
+use Rattle.writer.specs.Writer.{writingLines, writingAnswer, writingBuffer}
 use Rattle.writer.proofs.AnswerLaws.{lowest-of-writing}
-use Rattle.guarantees.specs.Demand1.{Judged, callLines, Demand1}
+use Rattle.guarantees.specs.Demand1.{Judged, callLines, Demand1Of, Demand1}
 
 judged : {A S : Type 0} (lines : List (ℕ × Bool)) (value : A) (before after : S) → Lowest lines value
     → Judged lines value (firstOf lines value) (onAnswer (λ number. before) (λ value. after) (firstOf lines value)) before after
@@ -49,17 +51,17 @@ judged lines value before after low =
     }
 
 -- the one line of a book out of range
-only-five : (call : Call) → Lowest ((5, true) ∷ []) (factsOf call .answer)
+only-five : (kind : List Indicator) (call : Call) → Lowest ((5, true) ∷ []) (factsOf kind call .answer)
 unfolding risesFrom
-only-five call = lowest (factsOf call .answer) ((5, true) ∷ []) refl
+only-five kind call = lowest (factsOf kind call .answer) ((5, true) ∷ []) refl
 
-module _ (b : Book) (call : Call) where
-  filed : (ranged : Bool) → inRange b ≡ ranged
-      → Judged (callLines b call) (factsOf call .answer) (file b call .said) (file b call .book) b (changed b call)
-  unfolding callLines file apply outcomeOf answerTo firstOf onAnswer
+module _ (kind : List Indicator) (b : Book) (call : Call) where
+  filed : (ranged : Bool) → inRange kind b ≡ ranged
+      → Judged (callLines kind b call) (factsOf kind call .answer) (fileAs kind b call .said) (fileAs kind b call .book) b (changed kind b call)
+  unfolding callLines fileAs apply outcomeOf answerTo firstOf onAnswer
   filed true ranged =
-      rw ranged (judged (linesFor (isJoined b) (figureOf b) call) (factsOf call .answer) b (changed b call) (lowest-of-calls (isJoined b) (figureOf b) call))
-  filed false out = rw out (judged ((5, true) ∷ []) (factsOf call .answer) b (changed b call) (only-five call))
+      rw ranged (judged (linesFor kind (isJoined b) (figureOf b) call) (factsOf kind call .answer) b (changed kind b call) (lowest-of-calls kind (isJoined b) (figureOf b) call))
+  filed false out = rw out (judged ((5, true) ∷ []) (factsOf kind call .answer) b (changed kind b call) (only-five kind call))
 
 settling-judged : (b : Book) (indicators : List Indicator)
     → Judged (settlingLines b indicators) yes-said (settledBy b indicators .said) (settledBy b indicators .settlement) nothing (settlementBy b indicators)
@@ -75,15 +77,18 @@ sheets-judged b operator year =
 
 -- the lines 4 to 7 of an amount are those of a sheet
 module _ (b : Book) (operator year figure sign value : ℕ) (lf : figure < figureCount) (ls : sign ≤ 1) (n : ℕ) (low : n ≤ 7) where
-  as-amount : (ranged : Bool) → inRange b ≡ ranged
-      → applies (sheetLines b operator year) n ≡ applies (callLines b (Amount operator year figure sign value)) n
+  as-amount : (ranged : Bool) → inRange electricity b ≡ ranged
+      → applies (sheetLines b operator year) n ≡ applies (callLines electricity b (Amount operator year figure sign value)) n
   unfolding sheetLines callLines linesFor factsOf some applies
   as-amount false out = rw out refl
   as-amount true ranged =
       rw (
         ranged,
         lt-ltb figure figureCount lf,
+        figure-taken Electricity figure lf,
+        has-them,
         le-leb sign 1 ls,
+        and-true-right (ltb year years),
         and-true-right (ltb year years),
         and-true-right (ltb year years),
         or-false-right (leb operators operator),
@@ -91,24 +96,32 @@ module _ (b : Book) (operator year figure sign value : ℕ) (lf : figure < figur
         ne-eqb 8 n (λ e. omega (arith, low, e)),
         ne-eqb 9 n (λ e. omega (arith, low, e)),
         and-false-right (eqb 6 n),
+        and-false-right (eqb 2 n),
       )
       refl
 
+demand-1-of : (kind : List Indicator) → Demand1Of kind
+unfolding readAs readFromAs writingAnswer writingBuffer reportingAnswer reportingBuffer bufferAfter
+demand-1-of kind =
+    record {
+      filing = λ b call answer after files. rw (files .0, files .1) (filed kind b call (inRange kind b) refl);
+      filing-defined = λ b call. filed kind b call (inRange kind b) refl;
+      table = lowest-of-calls kind;
+      field = field-answered kind;
+      field-table = lowest-of-fields kind;
+      reads = read-as-calls kind;
+      reads-out-of-range = λ b bytes out. rw out refl;
+      settles = λ b. settling-judged b kind;
+      writes = λ b buffer. judged (writingLines kind b buffer) (length (writtenAs kind b)) buffer (putInto buffer (writtenAs kind b)) (lowest-of-writing kind b buffer);
+      reports = λ b buffer. judged (reportingLines kind b buffer) (length (textAs kind b)) buffer (putInto buffer (textAs kind b)) (lowest-of-reports kind b buffer);
+    }
+
 pub demand-1 : Demand1
-unfolding read readFrom settled writerAnswer writerBuffer reportAnswer reportBuffer bufferAfter
 demand-1 =
     record {
-      filing = λ b call answer after files. rw (files .0, files .1) (filed b call (inRange b) refl);
-      filing-defined = λ b call. filed b call (inRange b) refl;
-      table = lowest-of-calls;
-      field = field-answered;
-      field-table = lowest-of-fields;
-      reads = read-as-calls;
-      reads-out-of-range = λ b bytes out. rw out refl;
-      settles = λ b. settling-judged b electricity;
-      settles-by-list = settling-judged;
+      of-electricity = demand-1-of electricity;
+      of-gas = demand-1-of gas;
+      by-list = demand-1-of;
       sheets = sheets-judged;
-      sheets-as-amounts = λ b operator year figure sign value lf ls n low. as-amount b operator year figure sign value lf ls n low (inRange b) refl;
-      writes = λ b buffer. judged (writerLines b buffer) (length (written b)) buffer (putInto buffer (written b)) (lowest-of-writing b buffer);
-      reports = λ b buffer. judged (reportLines b buffer) (length (textOf b)) buffer (putInto buffer (textOf b)) (lowest-of-reports b buffer);
+      sheets-as-amounts = λ b operator year figure sign value lf ls n low. as-amount b operator year figure sign value lf ls n low (inRange electricity b) refl;
     }

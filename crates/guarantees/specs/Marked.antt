@@ -12,21 +12,22 @@ use Rattle.exponent.specs.Weight.{weightOf}
 use Rattle.calls.specs.declared.Call.{Call}
 use Rattle.calls.specs.declared.Call.the-variants.{Join, Setting, Interruption, Amount, Mark, Rates}
 use Rattle.calls.specs.Limits.{years}
+use Rattle.calls.specs.Indicators.{electricity, gas}
 use Rattle.calls.specs.Answers.{Said, refused-by, accepted, Acceptance, yes-said, counted-in, left-out-as-short}
 use Rattle.book.specs.Book.{freshBook, figureOf}
-use Rattle.ledger.specs.Calls.{filedAnswers}
+use Rattle.ledger.specs.Calls.{filedAnswers, fileGas}
 use Rattle.history.specs.Demand.{bookOf}
 use Rattle.values.specs.Operators.{table, each}
 use Rattle.values.specs.Indicator.{yearlyValue, numbered}
 use Rattle.indicators.specs.Points.{levelled}
-use Rattle.settlement.specs.Settlement.{settled}
+use Rattle.settlement.specs.Settlement.{settled, settledGas}
 use Rattle.text.specs.Text.{bytesOf}
-use Rattle.output.specs.Output.{outputOf}
+use Rattle.output.specs.Output.{outputOf, gasOutputOf}
 use Rattle.writer.specs.Writer.{writerAnswer}
 
 -- what a call is answered after operator 0 has joined a fresh book
 abbrev pub saidTo : Call → Said Acceptance
-saidTo call = getD (filedAnswers freshBook (Join 0 ∷ call ∷ [])) 1 (refused-by 0)
+saidTo call = getD (filedAnswers electricity freshBook (Join 0 ∷ call ∷ [])) 1 (refused-by 0)
 
 -- operator 0 files an interruption of its own MV network with one cabin
 abbrev pub lasting : ℕ → ℕ → Call
@@ -84,7 +85,15 @@ growing =
 
 -- A1 of one of them, by year
 abbrev pub frequenciesOf : ℕ → List ℕ
-frequenciesOf operator = table years (yearlyValue (bookOf growing) (numbered 0 .measure) operator)
+frequenciesOf operator = table years (yearlyValue (bookOf electricity growing) (numbered 0 .measure) operator)
+
+-- what a gas call is answered after operator 0 has joined a fresh book of gas
+abbrev pub gasSaidTo : Call → Said Acceptance
+gasSaidTo call = getD (filedAnswers gas freshBook (Join 0 ∷ call ∷ [])) 1 (refused-by 0)
+
+-- the gas book that operator 0 and more calls leave, settled
+abbrev pub gasSettled : List Call → Said Acceptance
+gasSettled more = settledGas (bookOf gas (Join 0 ∷ more)) .said
 
 -- every statement of a list holds
 abbrev pub All : List (Type 0) → Type 0
@@ -98,6 +107,26 @@ refusedFilings =
     ∷ (outputOf (99 ∷ 0 ∷ 0 ∷ []) ≡ bytesOf "refused 2 at 0\n") ∷ (outputOf (1 ∷ 0 ∷ 2 ∷ 0 ∷ 0 ∷ []) ≡ bytesOf "refused 3 at 0\n")
     ∷ (outputOf (5 ∷ 0 ∷ 3 ∷ 0 ∷ 6 ∷ 1 ∷ []) ≡ bytesOf "refused 5 at 0\n") ∷ (outputOf (1 ∷ 0 ∷ 1 ∷ 0 ∷ 1 ∷ 0 ∷ 1 ∷ 0 ∷ []) ≡ bytesOf "refused 6 at 4\n")
     ∷ (outputOf (5 ∷ 0 ∷ 3 ∷ 0 ∷ 0 ∷ 1 ∷ []) ≡ bytesOf "refused 7 at 0\n") ∷ []
+
+-- 02, point 4
+abbrev pub gasCases : List (Type 0)
+gasCases =
+    -- "There an interruption field is refused by 2", also as a call
+    (gasOutputOf (3 ∷ 0 ∷ 0 ∷ []) ≡ bytesOf "refused 2 at 0\n") ∷ (gasSaidTo (lasting 0 181) ≡ refused-by 2)
+    -- "figures 0 to 3 and 8 to 12, indicators 0 to 3 and every cabin setting are refused by 5", also where they would stay 0
+    ∷ All (map (λ (figure : ℕ). gasSaidTo (Amount 0 0 figure 0 0) ≡ refused-by 5) (0 ∷ 3 ∷ 8 ∷ 12 ∷ []))
+    ∷ All (map (λ (indicator : ℕ). gasSaidTo (Mark 0 indicator 0) ≡ refused-by 5) (0 ∷ 3 ∷ []))
+    ∷ All (map (λ (which : ℕ). gasSaidTo (Setting 0 which 0) ≡ refused-by 5) (0 ∷ 3 ∷ 4 ∷ []))
+    -- 4 comes before that, and 7 after it
+    ∷ (gasSaidTo (Amount 16 0 0 0 0) ≡ refused-by 4) ∷ (gasSaidTo (Amount 1 0 0 0 0) ≡ refused-by 5) ∷ (gasSaidTo (Amount 1 0 4 0 0) ≡ refused-by 7)
+    -- "A lent gas book in which one of these isn't 0 gets 5": one that electricity's join has marked at A1
+    ∷ (fileGas (bookOf electricity (Join 0 ∷ [])) (Rates 0 0) .said ≡ refused-by 5)
+    -- "Refusal 11 looks at access points alone, and refusal 12 at the two gas indicators. A gas join marks those two": a join, with access
+    -- points, with D1 cleared
+    ∷ (gasSettled [] ≡ refused-by 11) ∷ (gasSettled (Setting 0 1 1 ∷ []) ≡ refused-by 12)
+    ∷ (gasSettled (Setting 0 1 1 ∷ Mark 0 4 0 ∷ []) ≡ accepted yes-said)
+    -- its pool, 300 times 20 points, stands at D1's number
+    ∷ (settledGas (bookOf gas (Join 0 ∷ Setting 0 1 1 ∷ Mark 0 4 0 ∷ [])) .settlement .pools ≡ 0 ∷ 0 ∷ 0 ∷ 0 ∷ 6000 ∷ 0 ∷ []) ∷ []
 
 abbrev pub marked : List (Type 0)
 marked =
@@ -113,11 +142,11 @@ marked =
     ∷ (saidTo (lasting 94607000 94608000) ≡ refused-by 5)
     -- "a figure of exactly 10^11 is taken"
     ∷ (saidTo (Amount 0 0 4 0 100000000000) ≡ accepted yes-said)
-    ∷ (figureOf (bookOf (Join 0 ∷ Amount 0 0 4 0 100000000000 ∷ [])) 0 0 4 ≡ 100000000000)
+    ∷ (figureOf (bookOf electricity (Join 0 ∷ Amount 0 0 4 0 100000000000 ∷ [])) 0 0 4 ≡ 100000000000)
     -- "The program .. prints this for marked case M"
     ∷ (outputOf filingM ≡ linesM)
     -- "M with cap rate 50 adjusts by 5000 and -5000"
-    ∷ (take 2 (settled (bookOf (caseM 50)) .settlement .adjustments) ≡ pos 5000 ∷ negℤ (pos 5000) ∷ [])
+    ∷ (take 2 (settled (bookOf electricity (caseM 50)) .settlement .adjustments) ≡ pos 5000 ∷ negℤ (pos 5000) ∷ [])
     -- filings that are refused at a field
     ∷ All refusedFilings
     -- "amount 10^11 + 1", "withdraw 1 from 0"
@@ -125,15 +154,17 @@ marked =
     -- "a refused settlement `refused 10`": a fresh book
     ∷ (outputOf [] ≡ bytesOf "refused 10\n")
     -- "only a join"; "one operator, six marks", its network filed, since 11 would be the lower number
-    ∷ (settled (bookOf (Join 0 ∷ [])) .said ≡ refused-by 11) ∷ (settled (bookOf sixMarks) .said ≡ refused-by 12)
+    ∷ (settled (bookOf electricity (Join 0 ∷ [])) .said ≡ refused-by 11) ∷ (settled (bookOf electricity sixMarks) .said ≡ refused-by 12)
     -- "A freshly joined set meets refusal 12 once its settings are in" (02, point 1); with one mark cleared it settles
-    ∷ (settled (bookOf (newcomer [])) .said ≡ refused-by 12) ∷ (settled (bookOf (newcomer (Mark 0 0 0 ∷ []))) .said ≡ accepted yes-said)
+    ∷ (settled (bookOf electricity (newcomer [])) .said ≡ refused-by 12) ∷ (settled (bookOf electricity (newcomer (Mark 0 0 0 ∷ []))) .said ≡ accepted yes-said)
     -- "Refusal 11 is given if any of the three is 0" (02, point 3), and for no access points as before
-    ∷ All (map (λ (which : ℕ). settled (bookOf (losing which)) .said ≡ refused-by 11) (0 ∷ 3 ∷ 4 ∷ 1 ∷ []))
+    ∷ All (map (λ (which : ℕ). settled (bookOf electricity (losing which)) .said ≡ refused-by 11) (0 ∷ 3 ∷ 4 ∷ 1 ∷ []))
     -- "A1 divides by the year's own" (02, point 3): a million times 5 / 100, 9 / 200, 40 / 400, and 17 / 400, 8 / 200, 6 / 100
     ∷ (frequenciesOf 0 ≡ 50000 ∷ 45000 ∷ 100000 ∷ []) ∷ (frequenciesOf 1 ≡ 42500 ∷ 40000 ∷ 60000 ∷ [])
-    ∷ (take 2 (settled (bookOf growing) .settlement .adjustments) ≡ negℤ (pos 70762) ∷ pos 70762 ∷ [])
+    ∷ (take 2 (settled (bookOf electricity growing) .settlement .adjustments) ≡ negℤ (pos 70762) ∷ pos 70762 ∷ [])
     -- "writer, 3 bytes, one join"
-    ∷ (writerAnswer (bookOf (Join 0 ∷ [])) (0 ∷ 0 ∷ 0 ∷ []) ≡ refused-by 13)
+    ∷ (writerAnswer (bookOf electricity (Join 0 ∷ [])) (0 ∷ 0 ∷ 0 ∷ []) ≡ refused-by 13)
     -- "weights 10, 8, 4 with the first two better become 18, 18, 8"
-    ∷ (take 3 (each (levelled (λ (operator : ℕ). ltb operator 2) (λ (operator : ℕ). getD (10 ∷ 8 ∷ 4 ∷ []) operator 0))) ≡ 18 ∷ 18 ∷ 8 ∷ []) ∷ []
+    ∷ (take 3 (each (levelled (λ (operator : ℕ). ltb operator 2) (λ (operator : ℕ). getD (10 ∷ 8 ∷ 4 ∷ []) operator 0))) ≡ 18 ∷ 18 ∷ 8 ∷ [])
+    -- gas
+    ∷ All gasCases ∷ []

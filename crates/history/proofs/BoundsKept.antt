@@ -3,7 +3,8 @@
 use Prim.Native.Nat.{ℕ, _+_, _-_, _^_, _≤_, _<_}
 use mathlib.Core.Path.{_≡_, refl, sym, _∙_}
 use mathlib.Core.Logic.{_≢_}
-use mathlib.Core.Bool.{Bool, true, false, cond}
+use mathlib.Core.Bool.{Bool, true, false, cond, false≢true}
+use mathlib.Core.List.{List}
 use native.Mathlib.Omega.{arith}
 use native.Mathlib.Decide.{ℕ-discrete}
 use lib.Dec.{eqb}
@@ -12,11 +13,13 @@ use Rattle.book.specs.declared.Book.{Book}
 use Rattle.calls.specs.declared.Call.the-variants.{Join, Setting, Mark, Rates, Index}
 use Rattle.calls.specs.Limits.{operators, settingCount, indicatorCount, settingLimit, figureLimit, rateLimit, indexLeast, indexMost}
 use Rattle.calls.specs.Masks.{has, including, excluding, remasked}
+use Rattle.calls.specs.Indicators.{Indicator, takesSetting, takesFigure, takesMark}
 use Rattle.calls.specs.Call.{Entry}
 use Rattle.book.specs.Book.{isJoined, figureOf, settingSlot, figureSlot, most}
 use Rattle.ledger.specs.Calls.{unattested, entered, changed}
 use Rattle.calls.proofs.MaskLaws.{including-has, including-other, including-lt, excluding-other, excluding-le}
 use Rattle.book.proofs.Bounds.{Bounds, bounds-with-joined, bounds-with-marks, bounds-with-settings, bounds-with-figures, bounds-with-rates, bounds-with-indices}
+use Rattle.book.proofs.TakenLaws.{Ranged}
 use Rattle.book.proofs.SlotLaws.{store-holds}
 use Rattle.ledger.proofs.UnattestedLaws.{unattested-long, unattested-at}
 use Rattle.history.proofs.TableLaws.{Enters}
@@ -59,52 +62,94 @@ most-joined : (joined operator limit n : ℕ) → has joined operator ≡ true �
 unfolding most
 most-joined joined operator limit n there le = rw there le
 
-module _ (b : Book) (bounds : Bounds b) where
-  pub join-bounds : (operator : ℕ) → operator < operators → Bounds (changed b (Join operator))
+-- a place that is taken holds what it may
+not-both : {t : Bool} → t ≡ true → t ≡ false → ⊥
+not-both taken none = false≢true (sym none ∙ taken)
+
+module _ (kind : List Indicator) (b : Book) (now : Ranged kind b) where
+  abbrev bounds : Bounds b
+  bounds = now .bounds
+
+  -- the mask of an indicator after a join
+  newly : (operator i : ℕ) → i < indicatorCount → getD (unattested kind (b .marks) operator) i 0
+      ≡ cond (takesMark kind i) (including (getD (b .marks) i 0) operator) (getD (b .marks) i 0)
+  newly operator i li = unattested-at kind (b .marks) operator i (rw (bounds .marks .long) li)
+
+  pub join-ranged : (operator : ℕ) → operator < operators → Ranged kind (changed kind b (Join operator))
   unfolding changed
-  join-bounds operator lo =
-      bounds-with-marks
-      (bounds-with-joined bounds (including (b .joined) operator) (including-lt (b .joined) operator 16 (bounds .joined) lo) (including-keeps (b .joined) operator))
-      _
-      (record {
-        long = unattested-long (b .marks) operator ∙ bounds .marks .long;
-        small = λ i li. rw (marks-at i li) (including-lt (getD (b .marks) i 0) operator 16 (bounds .marks .small i li) lo);
-        members = λ o i lo′ li marked. included-both (getD (b .marks) i 0) (b .joined) operator o (bounds .marks .members o i lo′ li) (rw (marks-at i li) at marked);
-      })
+  join-ranged operator lo =
+      record {
+        bounds =
+            bounds-with-marks
+            (bounds-with-joined bounds (including (b .joined) operator) (including-lt (b .joined) operator 16 (bounds .joined) lo) (including-keeps (b .joined) operator))
+            _
+            (record {
+              long = unattested-long kind (b .marks) operator ∙ bounds .marks .long;
+              small = λ i li. rw (newly operator i li) (newly-small i li (takesMark kind i));
+              members = λ o i lo′ li marked. newly-joined o i lo′ li (takesMark kind i) (rw (newly operator i li) at marked);
+            });
+        marks = λ i li none. rw (newly operator i li, none) (now .marks i li none);
+        settings = now .settings;
+        figures = now .figures;
+      }
     where
-      marks-at : (i : ℕ) → i < indicatorCount → getD (unattested (b .marks) operator) i 0 ≡ including (getD (b .marks) i 0) operator
-      marks-at i li = unattested-at (b .marks) operator i (rw (bounds .marks .long) li)
+      newly-small : (i : ℕ) → i < indicatorCount → (t : Bool) → cond t (including (getD (b .marks) i 0) operator) (getD (b .marks) i 0) < 2 ^ 16
+      newly-small i li true = including-lt (getD (b .marks) i 0) operator 16 (bounds .marks .small i li) lo
+      newly-small i li false = bounds .marks .small i li
 
-  pub setting-bounds : (operator which value : ℕ) → isJoined b operator ≡ true → which < settingCount → value ≤ settingLimit which
-      → Bounds (changed b (Setting operator which value))
+      newly-joined : (o i : ℕ) → o < operators → i < indicatorCount → (t : Bool)
+          → has (cond t (including (getD (b .marks) i 0) operator) (getD (b .marks) i 0)) o ≡ true → has (including (b .joined) operator) o ≡ true
+      newly-joined o i lo′ li true marked = included-both (getD (b .marks) i 0) (b .joined) operator o (bounds .marks .members o i lo′ li) marked
+      newly-joined o i lo′ li false marked = including-keeps (b .joined) operator o (bounds .marks .members o i lo′ li marked)
+
+  pub setting-ranged : (operator which value : ℕ) → isJoined b operator ≡ true → which < settingCount → value ≤ settingLimit which → takesSetting kind which ≡ true
+      → Ranged kind (changed kind b (Setting operator which value))
   unfolding changed isJoined settingSlot
-  setting-bounds operator which value joined lw le =
-      bounds-with-settings bounds _
-      (record {
-        long = length-set (b .settings) _ _ ∙ bounds .settings .long;
-        within = λ o w lo lw′.
-            store-holds (λ n. n ≤ most (b .joined) o (settingLimit w)) (b .settings) (settingSlot operator which) value (settingSlot o w)
+  setting-ranged operator which value joined lw le taken =
+      record {
+        bounds =
+            bounds-with-settings bounds _
+            (record {
+              long = length-set (b .settings) _ _ ∙ bounds .settings .long;
+              within = λ o w lo lw′.
+                  store-holds (λ n. n ≤ most (b .joined) o (settingLimit w)) (b .settings) (settingSlot operator which) value (settingSlot o w)
+                  (λ same.
+                  let operator-is : o ≡ operator = omega (arith, same) in
+                  let which-is : w ≡ which = omega (arith, same) in
+                  rw (operator-is, which-is) (most-joined (b .joined) operator (settingLimit which) value joined le))
+                  (bounds .settings .within o w lo lw′);
+            });
+        marks = now .marks;
+        settings = λ o w lo lw′ none.
+            store-holds (λ n. n ≡ 0) (b .settings) (settingSlot operator which) value (settingSlot o w)
             (λ same.
-            let operator-is : o ≡ operator = omega (arith, same) in
-            let which-is : w ≡ which = omega (arith, same) in
-            rw (operator-is, which-is) (most-joined (b .joined) operator (settingLimit which) value joined le))
-            (bounds .settings .within o w lo lw′);
-      })
+            let which-is : which ≡ w = omega (arith, same) in
+            absurd (not-both (rw which-is at taken) none))
+            (now .settings o w lo lw′ none);
+        figures = now .figures;
+      }
 
-  pub mark-bounds : (operator indicator mark : ℕ) → operator < operators → isJoined b operator ≡ true → indicator < indicatorCount
-      → Bounds (changed b (Mark operator indicator mark))
+  pub mark-ranged : (operator indicator mark : ℕ) → operator < operators → isJoined b operator ≡ true → indicator < indicatorCount → takesMark kind indicator ≡ true
+      → Ranged kind (changed kind b (Mark operator indicator mark))
   unfolding changed isJoined
-  mark-bounds operator indicator mark lo joined li =
-      bounds-with-marks bounds _
-      (record {
-        long = length-set (b .marks) _ _ ∙ bounds .marks .long;
-        small = λ i li′.
-            store-holds (λ m. m < 2 ^ 16) (b .marks) indicator new i
-            (λ same. remasked-lt (getD (b .marks) indicator 0) operator mark lo (bounds .marks .small indicator li))
-            (bounds .marks .small i li′);
-        members = λ o i lo′ li′.
-            store-holds (λ m. has m o ≡ true → has (b .joined) o ≡ true) (b .marks) indicator new i (λ same. remarked o lo′ (ℕ-discrete o operator)) (bounds .marks .members o i lo′ li′);
-      })
+  mark-ranged operator indicator mark lo joined li taken =
+      record {
+        bounds =
+            bounds-with-marks bounds _
+            (record {
+              long = length-set (b .marks) _ _ ∙ bounds .marks .long;
+              small = λ i li′.
+                  store-holds (λ m. m < 2 ^ 16) (b .marks) indicator new i
+                  (λ same. remasked-lt (getD (b .marks) indicator 0) operator mark lo (bounds .marks .small indicator li))
+                  (bounds .marks .small i li′);
+              members = λ o i lo′ li′.
+                  store-holds (λ m. has m o ≡ true → has (b .joined) o ≡ true) (b .marks) indicator new i (λ same. remarked o lo′ (ℕ-discrete o operator))
+                  (bounds .marks .members o i lo′ li′);
+            });
+        marks = λ i li′ none. store-holds (λ m. m ≡ 0) (b .marks) indicator new i (λ same. absurd (not-both (rw (sym same) at taken) none)) (now .marks i li′ none);
+        settings = now .settings;
+        figures = now .figures;
+      }
     where
       new : ℕ
       new = remasked (getD (b .marks) indicator 0) operator mark
@@ -114,21 +159,34 @@ module _ (b : Book) (bounds : Bounds b) where
       remarked o lo′ (yes same) marked = rw same joined
       remarked o lo′ (no other) marked = bounds .marks .members o indicator lo′ li (rw (remasked-other (getD (b .marks) indicator 0) operator mark o other) at marked)
 
-  pub rates-bounds : (pot cap : ℕ) → pot ≤ rateLimit → cap ≤ rateLimit → Bounds (changed b (Rates pot cap))
+  pub rates-ranged : (pot cap : ℕ) → pot ≤ rateLimit → cap ≤ rateLimit → Ranged kind (changed kind b (Rates pot cap))
   unfolding changed
-  rates-bounds pot cap pot-le cap-le = bounds-with-rates bounds pot cap (record { pot-rate = pot-le; cap-rate = cap-le })
+  rates-ranged pot cap pot-le cap-le =
+      record {
+        bounds = bounds-with-rates bounds pot cap (record { pot-rate = pot-le; cap-rate = cap-le });
+        marks = now .marks;
+        settings = now .settings;
+        figures = now .figures;
+      }
 
-  pub index-bounds : (number value : ℕ) → indexLeast ≤ value → value ≤ indexMost → Bounds (changed b (Index number value))
+  pub index-ranged : (number value : ℕ) → indexLeast ≤ value → value ≤ indexMost → Ranged kind (changed kind b (Index number value))
   unfolding changed
-  index-bounds number value least greatest =
-      bounds-with-indices bounds _
-      (record {
-        long = length-set (b .indices) _ _ ∙ bounds .indices .long;
-        within = λ n lt. store-holds (λ v. (indexLeast ≤ v) × (v ≤ indexMost)) (b .indices) number value n (λ same. (least, greatest)) (bounds .indices .within n lt);
-      })
+  index-ranged number value least greatest =
+      record {
+        bounds =
+            bounds-with-indices bounds _
+            (record {
+              long = length-set (b .indices) _ _ ∙ bounds .indices .long;
+              within = λ n lt.
+                  store-holds (λ v. (indexLeast ≤ v) × (v ≤ indexMost)) (b .indices) number value n (λ same. (least, greatest)) (bounds .indices .within n lt);
+            });
+        marks = now .marks;
+        settings = now .settings;
+        figures = now .figures;
+      }
 
   -- the figure that an entry makes
-  moved-le : (entry : Entry) → Enters (isJoined b) (figureOf b) entry → (t : Bool) → eqb (entry .sign) 0 ≡ t
+  moved-le : (entry : Entry) → Enters kind (isJoined b) (figureOf b) entry → (t : Bool) → eqb (entry .sign) 0 ≡ t
       → cond t
       (figureOf b (entry .operator) (entry .year) (entry .figure) + entry .value)
       (figureOf b (entry .operator) (entry .year) (entry .figure) - entry .value)
@@ -139,16 +197,27 @@ module _ (b : Book) (bounds : Bounds b) where
       let w = enters .within in
       omega (arith, bounds .figures .within (entry .operator) (entry .year) (entry .figure) (w .operator-lt) (w .year-lt) (w .figure-lt))
 
-  pub entry-bounds : (entry : Entry) → Enters (isJoined b) (figureOf b) entry → Bounds (entered b entry)
+  pub entry-ranged : (entry : Entry) → Enters kind (isJoined b) (figureOf b) entry → Ranged kind (entered b entry)
   unfolding entered figureOf figureSlot
-  entry-bounds entry enters =
-      bounds-with-figures bounds _
-      (record {
-        long = length-set (b .figures) _ _ ∙ bounds .figures .long;
-        within = λ o y f lo ly lf.
-            store-holds (λ n. n ≤ most (b .joined) o figureLimit) (b .figures) (figureSlot (entry .operator) (entry .year) (entry .figure)) _ (figureSlot o y f)
+  entry-ranged entry enters =
+      record {
+        bounds =
+            bounds-with-figures bounds _
+            (record {
+              long = length-set (b .figures) _ _ ∙ bounds .figures .long;
+              within = λ o y f lo ly lf.
+                  store-holds (λ n. n ≤ most (b .joined) o figureLimit) (b .figures) (figureSlot (entry .operator) (entry .year) (entry .figure)) _ (figureSlot o y f)
+                  (λ same.
+                  let operator-is : o ≡ entry .operator = omega (arith, same, enters .within .year-lt, enters .within .figure-lt) in
+                  rw operator-is (moved-le entry enters (eqb (entry .sign) 0) refl))
+                  (bounds .figures .within o y f lo ly lf);
+            });
+        marks = now .marks;
+        settings = now .settings;
+        figures = λ o y f lo ly lf none.
+            store-holds (λ n. n ≡ 0) (b .figures) (figureSlot (entry .operator) (entry .year) (entry .figure)) _ (figureSlot o y f)
             (λ same.
-            let operator-is : o ≡ entry .operator = omega (arith, same, enters .within .year-lt, enters .within .figure-lt) in
-            rw operator-is (moved-le entry enters (eqb (entry .sign) 0) refl))
-            (bounds .figures .within o y f lo ly lf);
-      })
+            let figure-is : entry .figure ≡ f = omega (arith, same, enters .within .year-lt, enters .within .figure-lt) in
+            absurd (not-both (rw figure-is at (enters .within .taken)) none))
+            (now .figures o y f lo ly lf none);
+      }

@@ -1,6 +1,6 @@
 -- The entries of a call in range stand within the book, at figures that differ; and tests over entries.
 -- Assumes nothing.
-use Prim.Native.Nat.{ℕ, _≤_, _<_}
+use Prim.Native.Nat.{ℕ, _+_, _*_, _≤_, _<_}
 use mathlib.Core.Path.{_≡_, refl, sym, ap₂, _∙_}
 use mathlib.Core.Logic.{_≢_}
 use mathlib.Core.Bool.{Bool, true, false, cond, not, _&&_, _||_, true≢false}
@@ -10,13 +10,14 @@ use lib.Dec.{leb}
 use borrow.Author.Tests.{leb-true, leb-false}
 use Rattle.calls.specs.declared.Call.{Call}
 use Rattle.calls.specs.declared.Call.the-variants.{Join, Setting, Interruption, Amount, Mark, Rates, Index}
-use Rattle.calls.specs.Limits.{operators, years, figureCount, shortMost}
+use Rattle.calls.specs.Limits.{operators, years, figureCount, shortMost, firstCount}
+use Rattle.calls.specs.Indicators.{Indicator, some, takesInterruptions, takesFigure}
 use Rattle.calls.specs.Answers.{Acceptance, counted-in, left-out-as-short, left-out-under}
 use Rattle.calls.specs.Call.{Entry, yearOf, secondsOf, outcome, measuredEntries, countFigure, interruptionEntries, factsOf}
-use Rattle.ledger.specs.Table.{some}
 use Rattle.ledger.proofs.AdmissionLaws.{isUnknown, lacksOperator}
 use Rattle.calls.proofs.Flags.{and-right, or-false-right}
 use Rattle.calls.proofs.RangeLaws.{Ranges}
+use Rattle.calls.proofs.KindLaws.{measured-taken, count-taken}
 
 -- what holds of every element of a list
 abbrev pub All : {A : Type 0} → (A → Type 0) → List A → Type 0
@@ -24,11 +25,12 @@ All P [] = Unit {0}
 All P (x ∷ rest) = P x × All P rest
 
 -- an entry within the book
-pub record Within (entry : Entry) : Type 0 where
+pub record Within (kind : List Indicator) (entry : Entry) : Type 0 where
   pub operator-lt : entry .operator < operators
   pub year-lt : entry .year < years
   pub figure-lt : entry .figure < figureCount
   pub sign-le : entry .sign ≤ 1
+  pub taken : takesFigure kind (entry .figure) ≡ true
 
 -- no figure has two entries
 abbrev pub Distinct : List Entry → Type 0
@@ -51,17 +53,20 @@ module _ (operator sign level weight seconds year cause : ℕ) where
   abbrev judgedEntries : Bool → Bool → List Entry
   judgedEntries short excused = interruptionEntries operator sign level weight seconds year (judged short excused)
 
-  judged-within : (t u : Bool) → (u ≡ true → cause ≤ 3) → operator < operators → sign ≤ 1 → level ≤ 1 → year < years → All Within (judgedEntries t u)
-  unfolding interruptionEntries measuredEntries countFigure
-  judged-within true u most lo ls ll ly = (record { operator-lt = lo; year-lt = ly; figure-lt = omega arith; sign-le = ls }, tt)
-  judged-within false true most lo ls ll ly = (record { operator-lt = lo; year-lt = ly; figure-lt = omega (arith, most refl); sign-le = ls }, tt)
-  judged-within false false most lo ls ll ly = (
-    record { operator-lt = lo; year-lt = ly; figure-lt = omega arith; sign-le = ls },
-    (
-      record { operator-lt = lo; year-lt = ly; figure-lt = omega arith; sign-le = ls },
-      (record { operator-lt = lo; year-lt = ly; figure-lt = omega arith; sign-le = ls }, tt),
-    ),
-  )
+  module _ (kind : List Indicator) (had : takesInterruptions kind ≡ true) where
+    judged-within : (t u : Bool) → (u ≡ true → cause ≤ 3) → operator < operators → sign ≤ 1 → level ≤ 1 → year < years → All (Within kind) (judgedEntries t u)
+    unfolding interruptionEntries measuredEntries countFigure
+    judged-within true u most lo ls ll ly =
+        (record { operator-lt = lo; year-lt = ly; figure-lt = omega arith; sign-le = ls; taken = count-taken kind (firstCount + 1) had (omega arith) }, tt)
+    judged-within false true most lo ls ll ly =
+        (record { operator-lt = lo; year-lt = ly; figure-lt = omega (arith, most refl); sign-le = ls; taken = count-taken kind (firstCount + 1 + cause) had (omega arith) }, tt)
+    judged-within false false most lo ls ll ly = (
+      record { operator-lt = lo; year-lt = ly; figure-lt = omega arith; sign-le = ls; taken = measured-taken kind (2 * level) had (omega arith) },
+      (
+        record { operator-lt = lo; year-lt = ly; figure-lt = omega arith; sign-le = ls; taken = measured-taken kind (2 * level + 1) had (omega arith) },
+        (record { operator-lt = lo; year-lt = ly; figure-lt = omega arith; sign-le = ls; taken = count-taken kind firstCount had (omega arith) }, tt),
+      ),
+    )
 
   judged-distinct : (t u : Bool) → level ≤ 1 → Distinct (judgedEntries t u)
   unfolding interruptionEntries measuredEntries countFigure
@@ -75,42 +80,43 @@ module _ (operator sign level weight seconds year cause : ℕ) where
   judged-joined joined false true there = (there, tt)
   judged-joined joined false false there = (there, (there, (there, tt)))
 
-pub entries-within : (call : Call) → isUnknown call ≡ false → Ranges call → All Within (factsOf call .entries)
+pub entries-within : (kind : List Indicator) (call : Call) → factsOf kind call .known ≡ true → isUnknown kind call ≡ false → Ranges kind call
+    → All (Within kind) (factsOf kind call .entries)
 unfolding factsOf some outcome
-entries-within (Join operator) known r = tt
-entries-within (Setting operator which value) known r = tt
-entries-within (Interruption operator sign level cause start end weight) known r =
-    judged-within operator sign level weight (secondsOf start end) (yearOf end) cause (leb (secondsOf start end) shortMost) (leb 1 cause && leb cause 3)
+entries-within kind (Join operator) had known r = tt
+entries-within kind (Setting operator which value) had known r = tt
+entries-within kind (Interruption operator sign level cause start end weight) had known r =
+    judged-within operator sign level weight (secondsOf start end) (yearOf end) cause kind had (leb (secondsOf start end) shortMost) (leb 1 cause && leb cause 3)
     (λ e. leb-true cause 3 (and-right (leb 1 cause) _ e)) (known-lt operator known) (r .0) (r .1) (r .2)
-entries-within (Amount operator year figure sign value) known r =
-    (record { operator-lt = known-lt operator known; year-lt = r .0; figure-lt = r .1; sign-le = r .2 }, tt)
-entries-within (Mark operator indicator mark) known r = tt
-entries-within (Rates pot cap) known r = tt
-entries-within (Index number value) known r = tt
+entries-within kind (Amount operator year figure sign value) had known r =
+    (record { operator-lt = known-lt operator known; year-lt = r .0; figure-lt = r .1; sign-le = r .2; taken = r .3 }, tt)
+entries-within kind (Mark operator indicator mark) had known r = tt
+entries-within kind (Rates pot cap) had known r = tt
+entries-within kind (Index number value) had known r = tt
 
-pub entries-distinct : (call : Call) → Ranges call → Distinct (factsOf call .entries)
+pub entries-distinct : (kind : List Indicator) (call : Call) → Ranges kind call → Distinct (factsOf kind call .entries)
 unfolding factsOf outcome
-entries-distinct (Join operator) r = tt
-entries-distinct (Setting operator which value) r = tt
-entries-distinct (Interruption operator sign level cause start end weight) r =
+entries-distinct kind (Join operator) r = tt
+entries-distinct kind (Setting operator which value) r = tt
+entries-distinct kind (Interruption operator sign level cause start end weight) r =
     judged-distinct operator sign level weight (secondsOf start end) (yearOf end) cause (leb (secondsOf start end) shortMost) (leb 1 cause && leb cause 3) (r .1)
-entries-distinct (Amount operator year figure sign value) r = (tt, tt)
-entries-distinct (Mark operator indicator mark) r = tt
-entries-distinct (Rates pot cap) r = tt
-entries-distinct (Index number value) r = tt
+entries-distinct kind (Amount operator year figure sign value) r = (tt, tt)
+entries-distinct kind (Mark operator indicator mark) r = tt
+entries-distinct kind (Rates pot cap) r = tt
+entries-distinct kind (Index number value) r = tt
 
-pub entries-joined : (joined : ℕ → Bool) (call : Call) → lacksOperator joined call ≡ false
-    → All (λ (entry : Entry). joined (entry .operator) ≡ true) (factsOf call .entries)
+pub entries-joined : (kind : List Indicator) (joined : ℕ → Bool) (call : Call) → lacksOperator kind joined call ≡ false
+    → All (λ (entry : Entry). joined (entry .operator) ≡ true) (factsOf kind call .entries)
 unfolding factsOf some outcome
-entries-joined joined (Join operator) there = tt
-entries-joined joined (Setting operator which value) there = tt
-entries-joined joined (Interruption operator sign level cause start end weight) there =
+entries-joined kind joined (Join operator) there = tt
+entries-joined kind joined (Setting operator which value) there = tt
+entries-joined kind joined (Interruption operator sign level cause start end weight) there =
     judged-joined operator sign level weight (secondsOf start end) (yearOf end) cause joined (leb (secondsOf start end) shortMost) (leb 1 cause && leb cause 3)
     (member-there _ there)
-entries-joined joined (Amount operator year figure sign value) there = (member-there _ there, tt)
-entries-joined joined (Mark operator indicator mark) there = tt
-entries-joined joined (Rates pot cap) there = tt
-entries-joined joined (Index number value) there = tt
+entries-joined kind joined (Amount operator year figure sign value) there = (member-there _ there, tt)
+entries-joined kind joined (Mark operator indicator mark) there = tt
+entries-joined kind joined (Rates pot cap) there = tt
+entries-joined kind joined (Index number value) there = tt
 
 -- a test that holds of no entry, and two tests that agree at every entry
 none-of : (s t : Bool) → s || t ≡ false → (s ≡ false) × (t ≡ false)

@@ -11,14 +11,16 @@ use lib.ListN.{getD-replicate}
 use Rattle.calls.specs.Limits.{freshIndex, indexCount, indicatorCount, settingPlaces, figurePlaces}
 use Rattle.book.specs.declared.Book.{Book}
 use Rattle.calls.specs.declared.Call.{Call}
+use Rattle.calls.specs.Indicators.{Indicator}
 use Rattle.calls.specs.Held.{Held, Same}
 use Rattle.calls.specs.Answers.{Said, onAnswer, Acceptance}
 use Rattle.book.specs.Book.{freshBook, isJoined, isMarked, settingOf, figureOf, indexOf, heldBy, settingSlot, figureSlot, inRange}
-use Rattle.ledger.specs.Calls.{changed, outcomeOf, apply, file, filedBook, filedAnswers}
+use Rattle.ledger.specs.Calls.{changed, outcomeOf, apply, fileAs, filedBook, filedAnswers}
 use Rattle.history.specs.History.{History, history, plain, total, heldIn, recorded, noteAnswer, noteHistory, notedHistory, notedAnswers}
 use Rattle.history.specs.Demand.{StaysInRange, bookOf, historyOf, Kept, EqualAsHistories}
 use Rattle.calls.proofs.MaskLaws.{has-zero}
-use Rattle.book.proofs.Bounds.{bounded, in-range}
+use Rattle.book.proofs.Bounds.{bounded}
+use Rattle.book.proofs.TakenLaws.{Ranged, ranged-bounds, ranged as to-ranged, in-range}
 use Rattle.book.proofs.Opened.{book-opened}
 use Rattle.book.proofs.SameBooks.{same-books}
 use Rattle.book.proofs.SlotLaws.{setting-slot-lt, figure-slot-lt}
@@ -51,34 +53,34 @@ same-trans f g h p q =
     }
 
 -- one call
-module _ (b : Book) (h : History) (now : Agrees b h) (call : Call) where
-  applied-as : apply b call ≡ outcomeOf b (changed b call) (noteAnswer h call)
+module _ (kind : List Indicator) (b : Book) (h : History) (now : Agrees kind b h) (call : Call) where
+  applied-as : apply kind b call ≡ outcomeOf b (changed kind b call) (noteAnswer kind h call)
   unfolding apply noteAnswer
-  applied-as = rw (same-answer (isJoined b) (h .joined) (figureOf b) (total h) (now .held .joined) (now .held .total) call) refl
+  applied-as = rw (same-answer kind (isJoined b) (h .joined) (figureOf b) (total h) (now .held .joined) (now .held .total) call) refl
 
-  applied-answer : apply b call .said ≡ noteAnswer h call
+  applied-answer : apply kind b call .said ≡ noteAnswer kind h call
   unfolding outcomeOf
   applied-answer = rw applied-as refl
 
-  next : Agrees (apply b call .book) (noteHistory h call)
+  next : Agrees kind (apply kind b call .book) (noteHistory kind h call)
   unfolding noteHistory noteAnswer outcomeOf onAnswer
-  next = rw applied-as (go (noteAnswer h call) (decided (h .joined) (total h) call))
+  next = rw applied-as (go (noteAnswer kind h call) (decided kind (h .joined) (total h) call))
     where
-      go : (answer : Said Acceptance) → Decided (h .joined) (total h) call answer
-          → Agrees (onAnswer (λ (number : ℕ). b) (λ (value : Acceptance). changed b call) answer)
-          (onAnswer (λ (number : ℕ). h) (λ (value : Acceptance). recorded h call) answer)
-      go answer (inl (e, passed)) = rw e (changed-agrees b h now call passed)
+      go : (answer : Said Acceptance) → Decided kind (h .joined) (total h) call answer
+          → Agrees kind (onAnswer (λ (number : ℕ). b) (λ (value : Acceptance). changed kind b call) answer)
+          (onAnswer (λ (number : ℕ). h) (λ (value : Acceptance). recorded kind h call) answer)
+      go answer (inl (e, passed)) = rw e (changed-agrees kind b h now call passed)
       go answer (inr (number, e)) = rw e now
 
 -- a history that holds what a book holds
 noted : Book → History
 noted b = history (isJoined b) (settingOf b) (isMarked b) (b .«pot_rate») (b .«cap_rate») (indexOf b) (figureOf b) (λ operator year figure. 0)
 
-noted-agrees : (b : Book) → inRange b ≡ true → Agrees b (noted b)
+noted-agrees : (kind : List Indicator) (b : Book) → inRange kind b ≡ true → Agrees kind b (noted b)
 unfolding noted total
-noted-agrees b ranged =
+noted-agrees kind b ranged =
     record {
-      bounds = bounded b ranged;
+      ranged = to-ranged kind b ranged;
       held =
           record {
             joined = λ o lt. refl;
@@ -92,42 +94,51 @@ noted-agrees b ranged =
       covered = λ o y f. omega arith;
     }
 
-pub stays : (b : Book) (call : Call) → StaysInRange b call
-stays b call ranged = in-range _ (next b (noted b) (noted-agrees b ranged) call .bounds)
+pub stays : (kind : List Indicator) (b : Book) (call : Call) → StaysInRange kind b call
+stays kind b call ranged = in-range kind _ (next kind b (noted b) (noted-agrees kind b ranged) call .ranged)
 
 -- the same of a call on any book, and of a list of calls
-pub filed-applied : (b : Book) (call : Call) → inRange b ≡ true → file b call ≡ apply b call
-unfolding file
-filed-applied b call ranged = rw ranged refl
+pub filed-applied : (kind : List Indicator) (b : Book) (call : Call) → inRange kind b ≡ true → fileAs kind b call ≡ apply kind b call
+unfolding fileAs
+filed-applied kind b call ranged = rw ranged refl
 
-pub filed-stays : (b : Book) (call : Call) → inRange b ≡ true → inRange (file b call .book) ≡ true
-filed-stays b call ranged = rw (filed-applied b call ranged) (stays b call ranged)
+pub filed-stays : (kind : List Indicator) (b : Book) (call : Call) → inRange kind b ≡ true → inRange kind (fileAs kind b call .book) ≡ true
+filed-stays kind b call ranged = rw (filed-applied kind b call ranged) (stays kind b call ranged)
 
-pub all-stay : (calls : List Call) (b : Book) → inRange b ≡ true → inRange (filedBook b calls) ≡ true
+pub all-stay : (kind : List Indicator) (calls : List Call) (b : Book) → inRange kind b ≡ true → inRange kind (filedBook kind b calls) ≡ true
 unfolding filedBook
-all-stay [] b ranged = ranged
-all-stay (call ∷ rest) b ranged = all-stay rest (file b call .book) (filed-stays b call ranged)
+all-stay kind [] b ranged = ranged
+all-stay kind (call ∷ rest) b ranged = all-stay kind rest (fileAs kind b call .book) (filed-stays kind b call ranged)
 
 -- a list of calls
-kept-from : (calls : List Call) (b : Book) (h : History) → Agrees b h
-    → (filedAnswers b calls ≡ notedAnswers h calls) × Agrees (filedBook b calls) (notedHistory h calls)
+kept-from : (kind : List Indicator) (calls : List Call) (b : Book) (h : History) → Agrees kind b h
+    → (filedAnswers kind b calls ≡ notedAnswers kind h calls) × Agrees kind (filedBook kind b calls) (notedHistory kind h calls)
 unfolding filedAnswers notedAnswers filedBook notedHistory
-kept-from [] b h now = (refl, now)
-kept-from (call ∷ rest) b h now =
-    let filed = filed-applied b call (in-range b (now .bounds)) in
-    let later = kept-from rest (apply b call .book) (noteHistory h call) (next b h now call) in
-    rw filed (ap₂ _∷_ (applied-answer b h now call) (later .0), later .1)
+kept-from kind [] b h now = (refl, now)
+kept-from kind (call ∷ rest) b h now =
+    let filed = filed-applied kind b call (in-range kind b (now .ranged)) in
+    let later = kept-from kind rest (apply kind b call .book) (noteHistory kind h call) (next kind b h now call) in
+    rw filed (ap₂ _∷_ (applied-answer kind b h now call) (later .0), later .1)
 
--- found by testing each of its values
-pub fresh-in-range : inRange freshBook ≡ true
+-- its limits are found by testing each of its values; it has nothing that a kind might not take
+fresh-ranged : (kind : List Indicator) → Ranged kind freshBook
 unfolding book-opened
-fresh-in-range = refl
-
-fresh : Agrees freshBook plain
-unfolding freshBook plain isJoined isMarked settingOf figureOf indexOf total
-fresh =
+fresh-ranged kind =
     record {
-      bounds = bounded freshBook fresh-in-range;
+      bounds = bounded freshBook refl;
+      marks = λ i li none. getD-replicate {A = ℕ} indicatorCount i 0 0 li;
+      settings = λ o w lo lw none. getD-replicate {A = ℕ} settingPlaces (settingSlot o w) 0 0 (setting-slot-lt o w lo lw);
+      figures = λ o y f lo ly lf none. getD-replicate {A = ℕ} figurePlaces (figureSlot o y f) 0 0 (figure-slot-lt o y f lo ly lf);
+    }
+
+pub fresh-in-range : (kind : List Indicator) → inRange kind freshBook ≡ true
+fresh-in-range kind = in-range kind freshBook (fresh-ranged kind)
+
+fresh : (kind : List Indicator) → Agrees kind freshBook plain
+unfolding freshBook plain isJoined isMarked settingOf figureOf indexOf total
+fresh kind =
+    record {
+      ranged = fresh-ranged kind;
       held =
           record {
             joined = λ o lt. has-zero o;
@@ -141,24 +152,24 @@ fresh =
       covered = λ o y f. omega arith;
     }
 
-agree : (calls : List Call) → Agrees (bookOf calls) (historyOf calls)
-agree calls = kept-from calls freshBook plain fresh .1
+agree : (kind : List Indicator) (calls : List Call) → Agrees kind (bookOf kind calls) (historyOf kind calls)
+agree kind calls = kept-from kind calls freshBook plain (fresh kind) .1
 
-pub kept : (calls : List Call) → Kept calls
-kept calls =
+pub kept : (kind : List Indicator) (calls : List Call) → Kept kind calls
+kept kind calls =
     record {
-      answers = kept-from calls freshBook plain fresh .0;
-      held = agree calls .held;
-      covered = agree calls .covered;
-      in-range = in-range (bookOf calls) (agree calls .bounds);
+      answers = kept-from kind calls freshBook plain (fresh kind) .0;
+      held = agree kind calls .held;
+      covered = agree kind calls .covered;
+      in-range = in-range kind (bookOf kind calls) (agree kind calls .ranged);
     }
 
-pub equal-as-histories : (calls others : List Call) → EqualAsHistories calls others
-equal-as-histories calls others =
-    let one : Same (heldBy (bookOf calls)) (heldIn (historyOf calls)) = agree calls .held in
-    let two : Same (heldBy (bookOf others)) (heldIn (historyOf others)) = agree others .held in (
-      (λ e. same-trans _ (heldBy (bookOf others)) _ (same-sym _ _ (rw e at one)) two),
+pub equal-as-histories : (kind : List Indicator) (calls others : List Call) → EqualAsHistories kind calls others
+equal-as-histories kind calls others =
+    let one : Same (heldBy (bookOf kind calls)) (heldIn (historyOf kind calls)) = agree kind calls .held in
+    let two : Same (heldBy (bookOf kind others)) (heldIn (historyOf kind others)) = agree kind others .held in (
+      (λ e. same-trans _ (heldBy (bookOf kind others)) _ (same-sym _ _ (rw e at one)) two),
       (λ same.
-          same-books _ _ (agree calls .bounds) (agree others .bounds)
-          (same-trans _ (heldIn (historyOf calls)) _ one (same-trans _ (heldIn (historyOf others)) _ same (same-sym _ _ two)))),
+          same-books _ _ (agree kind calls .ranged .bounds) (agree kind others .ranged .bounds)
+          (same-trans _ (heldIn (historyOf kind calls)) _ one (same-trans _ (heldIn (historyOf kind others)) _ same (same-sym _ _ two)))),
     )

@@ -15,50 +15,69 @@ use Rattle.calls.specs.declared.Call.the-variants.{Join, Setting, Interruption,
 use Rattle.calls.specs.Limits.{operators, years, figureCount, settingCount, indicatorCount, indexCount}
 use Rattle.calls.specs.Masks.{has, including, excluding, remasked}
 use Rattle.calls.specs.Held.{Same}
+use Rattle.calls.specs.Indicators.{Indicator, some, takesMark}
 use Rattle.calls.specs.Call.{Entry, factsOf}
 use Rattle.book.specs.Book.{withJoined, isJoined, isMarked, settingOf, figureOf, indexOf, heldBy, settingSlot, figureSlot}
-use Rattle.ledger.specs.Table.{some, totalAt}
+use Rattle.ledger.specs.Table.{totalAt}
 use Rattle.ledger.specs.Calls.{entered, enterAll, changed}
 use Rattle.history.specs.History.{History, total, heldIn, historyWithOperators, at1, at2, summed, withEntry, withEntries, recorded}
 use Rattle.calls.proofs.Flags.{and-left, and-right, and-true-right, and-false-right}
-use Rattle.calls.proofs.MaskLaws.{including-has, excluding-has}
+use Rattle.calls.proofs.MaskLaws.{has-zero, including-has, excluding-has}
 use Rattle.book.proofs.Bounds.{Bounds}
+use Rattle.book.proofs.TakenLaws.{Ranged}
 use Rattle.ledger.proofs.UnattestedLaws.{unattested-at}
 use Rattle.book.proofs.SlotLaws.{stored, setting-slot-lt, figure-slot-lt, same-setting-slot, same-figure-slot}
 use Rattle.history.proofs.EntryLaws.{All, Within, Distinct, known-lt, member-there, entries-distinct}
 use Rattle.history.proofs.TableLaws.{Passed, Enters, call-enters}
 use Rattle.history.proofs.SameKept.{same-with-operators, same-with-settings, same-with-marks, same-with-rates, same-with-indices, same-with-figures}
-use Rattle.history.proofs.BoundsKept.{join-bounds, setting-bounds, mark-bounds, rates-bounds, index-bounds, entry-bounds}
+use Rattle.history.proofs.BoundsKept.{join-ranged, setting-ranged, mark-ranged, rates-ranged, index-ranged, entry-ranged}
 
 abbrev pub AllCovered : History → Type 0
 AllCovered h = (operator year figure : ℕ) → h .withdrawn operator year figure ≤ h .filed operator year figure
 
 -- what a book and a history keep from call to call
-pub record Agrees (b : Book) (h : History) : Type 0 where
-  pub bounds : Bounds b
+pub record Agrees (kind : List Indicator) (b : Book) (h : History) : Type 0 where
+  pub ranged : Ranged kind b
   pub held : Same (heldBy b) (heldIn h)
   pub covered : AllCovered h
 
-module _ (b : Book) (h : History) (bounds : Bounds b) (held : Same (heldBy b) (heldIn h)) where
-  join-holds : (operator : ℕ) → Same (heldBy (changed b (Join operator))) (heldIn (recorded h (Join operator)))
+module _ (kind : List Indicator) (b : Book) (h : History) (within : Ranged kind b) (held : Same (heldBy b) (heldIn h)) where
+  abbrev bounds : Bounds b
+  bounds = within .bounds
+
+  join-holds : (operator : ℕ) → Same (heldBy (changed kind b (Join operator))) (heldIn (recorded kind h (Join operator)))
   unfolding changed recorded isJoined isMarked at1
   join-holds operator =
       same-with-marks (withJoined b (including (b .joined) operator)) (historyWithOperators h (at1 operator true (h .joined)))
       (same-with-operators b h held _ _ (λ o lt. including-has (b .joined) operator o ∙ ap (cond (eqb o operator) true) (held .joined o lt)))
-      (changed b (Join operator) .marks) (recorded h (Join operator) .mark)
+      (changed kind b (Join operator) .marks) (recorded kind h (Join operator) .mark)
       (λ o i lo li.
-      ap (λ (mask : ℕ). has mask o) (unattested-at (b .marks) operator i (rw (bounds .marks .long) li))
-      ∙ including-has (getD (b .marks) i 0) operator o ∙ go o i (eqb o operator) (held .mark o i lo li))
+      ap (λ (mask : ℕ). has mask o) (unattested-at kind (b .marks) operator i (rw (bounds .marks .long) li))
+      ∙ go o i li (takesMark kind i) refl (held .mark o i lo li))
     where
-      go : (o i : ℕ) (t : Bool) → isMarked b o i ≡ h .mark o i → cond t true (isMarked b o i) ≡ cond t (λ (indicator : ℕ). true) (h .mark o) i
-      go o i true e = refl
-      go o i false e = e
+      by-operator : (o i : ℕ) (t : Bool) → isMarked b o i ≡ h .mark o i → cond t true (isMarked b o i) ≡ cond t true (h .mark o i)
+      by-operator o i true e = refl
+      by-operator o i false e = e
+
+      -- nobody has a mark where the kind takes none
+      none-marked : (o i : ℕ) (t : Bool) → i < indicatorCount → takesMark kind i ≡ false → isMarked b o i ≡ h .mark o i → has (getD (b .marks) i 0) o ≡ cond t false (h .mark o i)
+      none-marked o i true li none e = rw (within .marks i li none) (has-zero o)
+      none-marked o i false li none e = e
+
+      placed : (o i : ℕ) (t u : Bool) → takesMark kind i ≡ t → cond u t (h .mark o i) ≡ cond u (takesMark kind) (h .mark o) i
+      placed o i t true taken = sym taken
+      placed o i t false taken = refl
+
+      go : (o i : ℕ) → i < indicatorCount → (t : Bool) → takesMark kind i ≡ t → isMarked b o i ≡ h .mark o i
+          → has (cond t (including (getD (b .marks) i 0) operator) (getD (b .marks) i 0)) o ≡ cond (eqb o operator) (takesMark kind) (h .mark o) i
+      go o i li true taken e = including-has (getD (b .marks) i 0) operator o ∙ by-operator o i (eqb o operator) e ∙ placed o i true (eqb o operator) taken
+      go o i li false none e = none-marked o i (eqb o operator) li none e ∙ placed o i false (eqb o operator) none
 
   setting-holds : (operator which value : ℕ) → operator < operators → which < settingCount
-      → Same (heldBy (changed b (Setting operator which value))) (heldIn (recorded h (Setting operator which value)))
+      → Same (heldBy (changed kind b (Setting operator which value))) (heldIn (recorded kind h (Setting operator which value)))
   unfolding changed recorded settingOf at2
   setting-holds operator which value lo lw =
-      same-with-settings b h held (changed b (Setting operator which value) .settings) (recorded h (Setting operator which value) .setting)
+      same-with-settings b h held (changed kind b (Setting operator which value) .settings) (recorded kind h (Setting operator which value) .setting)
       (λ o w lt lt′.
       stored (b .settings) (settingSlot operator which) value (settingSlot o w) (rw (bounds .settings .long) (setting-slot-lt operator which lo lw))
       ∙ rw (same-setting-slot o w operator which lt′ lw) (ap (cond (eqb o operator && eqb w which) value) (held .setting o w lt lt′)))
@@ -84,20 +103,20 @@ module _ (b : Book) (h : History) (bounds : Bounds b) (held : Same (heldBy b) (h
       go false t e = rw and-false-right refl
 
   mark-holds : (operator indicator mark : ℕ) → indicator < indicatorCount
-      → Same (heldBy (changed b (Mark operator indicator mark))) (heldIn (recorded h (Mark operator indicator mark)))
+      → Same (heldBy (changed kind b (Mark operator indicator mark))) (heldIn (recorded kind h (Mark operator indicator mark)))
   unfolding changed recorded at2
   mark-holds operator indicator mark li =
-      same-with-marks b h held (changed b (Mark operator indicator mark) .marks) (recorded h (Mark operator indicator mark) .mark)
+      same-with-marks b h held (changed kind b (Mark operator indicator mark) .marks) (recorded kind h (Mark operator indicator mark) .mark)
       (λ o i lt lt′. remasked-has operator indicator mark li o i ∙ ap (cond (eqb o operator && eqb i indicator) (eqb mark 1)) (held .mark o i lt lt′))
 
-  rates-holds : (pot cap : ℕ) → Same (heldBy (changed b (Rates pot cap))) (heldIn (recorded h (Rates pot cap)))
+  rates-holds : (pot cap : ℕ) → Same (heldBy (changed kind b (Rates pot cap))) (heldIn (recorded kind h (Rates pot cap)))
   unfolding changed recorded
   rates-holds pot cap = same-with-rates b h held pot cap
 
-  index-holds : (number value : ℕ) → number < indexCount → Same (heldBy (changed b (Index number value))) (heldIn (recorded h (Index number value)))
+  index-holds : (number value : ℕ) → number < indexCount → Same (heldBy (changed kind b (Index number value))) (heldIn (recorded kind h (Index number value)))
   unfolding changed recorded indexOf at1
   index-holds number value ln =
-      same-with-indices b h held (changed b (Index number value) .indices) (recorded h (Index number value) .index)
+      same-with-indices b h held (changed kind b (Index number value) .indices) (recorded kind h (Index number value) .index)
       (λ n lt. stored (b .indices) number value n (rw (bounds .indices .long) ln) ∙ ap (cond (eqb n number) value) (held .index n lt))
 
 -- whether an entry is one of this place
@@ -113,8 +132,8 @@ at-place entry k y f e =
     )
 
 -- one entry
-module _ (b : Book) (h : History) (now : Agrees b h) (entry : Entry) (enters : Enters (h .joined) (total h) entry) where
-  abbrev w : Within entry
+module _ (kind : List Indicator) (b : Book) (h : History) (now : Agrees kind b h) (entry : Entry) (enters : Enters kind (h .joined) (total h) entry) where
+  abbrev w : Within kind entry
   w = enters .within
 
   held-here : (o y f : ℕ) → here entry o y f ≡ true → totalAt (total h) entry ≡ h .filed o y f - h .withdrawn o y f
@@ -152,7 +171,7 @@ module _ (b : Book) (h : History) (now : Agrees b h) (entry : Entry) (enters : E
   figure-is : figureOf b (entry .operator) (entry .year) (entry .figure) ≡ totalAt (total h) entry
   figure-is = now .held .total _ _ _ (w .operator-lt) (w .year-lt) (w .figure-lt)
 
-  enters-book : Enters (isJoined b) (figureOf b) entry
+  enters-book : Enters kind (isJoined b) (figureOf b) entry
   enters-book =
       record {
         within = w;
@@ -172,7 +191,7 @@ module _ (b : Book) (h : History) (now : Agrees b h) (entry : Entry) (enters : E
   unfolding entered figureOf
   entered-figure o y f ly lf =
       stored (b .figures) (figureSlot (entry .operator) (entry .year) (entry .figure)) _ (figureSlot o y f)
-      (rw (now .bounds .figures .long) (figure-slot-lt (entry .operator) (entry .year) (entry .figure) (w .operator-lt) (w .year-lt) (w .figure-lt)))
+      (rw (now .ranged .bounds .figures .long) (figure-slot-lt (entry .operator) (entry .year) (entry .figure) (w .operator-lt) (w .year-lt) (w .figure-lt)))
       ∙ rw (same-figure-slot o y f (entry .operator) (entry .year) (entry .figure) ly lf (w .year-lt) (w .figure-lt)) refl
 
   entry-holds : Same (heldBy (entered b entry)) (heldIn (withEntry h entry))
@@ -196,8 +215,8 @@ module _ (b : Book) (h : History) (now : Agrees b h) (entry : Entry) (enters : E
           rw e (omega (arith, enters .covers one, held-here o y f e, now .covered o y f))
       go false false s e = rw e (now .covered o y f)
 
-  entry-agrees : Agrees (entered b entry) (withEntry h entry)
-  entry-agrees = record { bounds = entry-bounds b (now .bounds) entry enters-book; held = entry-holds; covered = entry-covered }
+  entry-agrees : Agrees kind (entered b entry) (withEntry h entry)
+  entry-agrees = record { ranged = entry-ranged kind b (now .ranged) entry enters-book; held = entry-holds; covered = entry-covered }
 
   -- entries at other figures can be made as before
   still-total : (other : Entry) → other .figure ≢ entry .figure → totalAt (total (withEntry h entry)) other ≡ totalAt (total h) other
@@ -205,8 +224,8 @@ module _ (b : Book) (h : History) (now : Agrees b h) (entry : Entry) (enters : E
       summed-total (other .operator) (other .year) (other .figure)
       ∙ rw (ne-eqb (other .figure) (entry .figure) apart, and-false-right) refl
 
-  still-enters : (other : Entry) → other .figure ≢ entry .figure → Enters (h .joined) (total h) other
-      → Enters (withEntry h entry .joined) (total (withEntry h entry)) other
+  still-enters : (other : Entry) → other .figure ≢ entry .figure → Enters kind (h .joined) (total h) other
+      → Enters kind (withEntry h entry .joined) (total (withEntry h entry)) other
   unfolding withEntry
   still-enters other apart before =
       record {
@@ -216,62 +235,62 @@ module _ (b : Book) (h : History) (now : Agrees b h) (entry : Entry) (enters : E
         covers = λ withdrawn. rw (still-total other apart) (before .covers withdrawn);
       }
 
-  all-still-enter : (list : List Entry) → All (λ (other : Entry). other .figure ≢ entry .figure) list → All (Enters (h .joined) (total h)) list
-      → All (Enters (withEntry h entry .joined) (total (withEntry h entry))) list
+  all-still-enter : (list : List Entry) → All (λ (other : Entry). other .figure ≢ entry .figure) list → All (Enters kind (h .joined) (total h)) list
+      → All (Enters kind (withEntry h entry .joined) (total (withEntry h entry))) list
   all-still-enter [] apart all = tt
   all-still-enter (other ∷ rest) apart all = (still-enters other (apart .0) (all .0), all-still-enter rest (apart .1) (all .1))
 
 -- the entries of a call
-entries-agree : (list : List Entry) (b : Book) (h : History) → Agrees b h → Distinct list → All (Enters (h .joined) (total h)) list
-    → Agrees (enterAll b list) (withEntries h list)
+entries-agree : (kind : List Indicator) (list : List Entry) (b : Book) (h : History) → Agrees kind b h → Distinct list → All (Enters kind (h .joined) (total h)) list
+    → Agrees kind (enterAll b list) (withEntries h list)
 unfolding enterAll withEntries
-entries-agree [] b h now distinct all = now
-entries-agree (entry ∷ rest) b h now distinct all =
-    entries-agree rest (entered b entry) (withEntry h entry) (entry-agrees b h now entry (all .0)) (distinct .1)
-    (all-still-enter b h now entry (all .0) rest (distinct .0) (all .1))
+entries-agree kind [] b h now distinct all = now
+entries-agree kind (entry ∷ rest) b h now distinct all =
+    entries-agree kind rest (entered b entry) (withEntry h entry) (entry-agrees kind b h now entry (all .0)) (distinct .1)
+    (all-still-enter kind b h now entry (all .0) rest (distinct .0) (all .1))
 
 -- an accepted call
-module _ (b : Book) (h : History) (now : Agrees b h) where
+module _ (kind : List Indicator) (b : Book) (h : History) (now : Agrees kind b h) where
   member-joined : (operator : ℕ) → operator < operators → h .joined operator ≡ true → isJoined b operator ≡ true
   member-joined operator lt there = now .held .joined operator lt ∙ there
 
-  pub changed-agrees : (call : Call) → Passed (h .joined) (total h) call → Agrees (changed b call) (recorded h call)
+  pub changed-agrees : (call : Call) → Passed kind (h .joined) (total h) call → Agrees kind (changed kind b call) (recorded kind h call)
   unfolding factsOf some changed recorded
   changed-agrees (Join operator) passed =
       record {
-        bounds = join-bounds b (now .bounds) operator (known-lt operator (passed .known));
-        held = join-holds b h (now .bounds) (now .held) operator;
+        ranged = join-ranged kind b (now .ranged) operator (known-lt operator (passed .known));
+        held = join-holds kind b h (now .ranged) (now .held) operator;
         covered = now .covered;
       }
   changed-agrees (Setting operator which value) passed =
       let lt = known-lt operator (passed .known) in
       record {
-        bounds = setting-bounds b (now .bounds) operator which value (member-joined operator lt (member-there _ (passed .present))) (passed .in-range .0) (passed .in-range .1);
-        held = setting-holds b h (now .bounds) (now .held) operator which value lt (passed .in-range .0);
+        ranged = setting-ranged kind b (now .ranged) operator which value (member-joined operator lt (member-there _ (passed .present))) (passed .in-range .0) (passed .in-range .1) (passed .in-range .2);
+        held = setting-holds kind b h (now .ranged) (now .held) operator which value lt (passed .in-range .0);
         covered = now .covered;
       }
   changed-agrees (Interruption operator sign level cause start end weight) passed =
       let call : Call = Interruption operator sign level cause start end weight in
-      entries-agree (factsOf call .entries) b h now (entries-distinct call (passed .in-range)) (call-enters (h .joined) (total h) call passed)
+      entries-agree kind (factsOf kind call .entries) b h now (entries-distinct kind call (passed .in-range)) (call-enters kind (h .joined) (total h) call passed)
   changed-agrees (Amount operator year figure sign value) passed =
       let call : Call = Amount operator year figure sign value in
-      entries-agree (factsOf call .entries) b h now (entries-distinct call (passed .in-range)) (call-enters (h .joined) (total h) call passed)
+      entries-agree kind (factsOf kind call .entries) b h now (entries-distinct kind call (passed .in-range)) (call-enters kind (h .joined) (total h) call passed)
   changed-agrees (Mark operator indicator mark) passed =
       let lt = known-lt operator (passed .known) in
       record {
-        bounds = mark-bounds b (now .bounds) operator indicator mark lt (member-joined operator lt (member-there _ (passed .present))) (passed .in-range .0);
-        held = mark-holds b h (now .bounds) (now .held) operator indicator mark (passed .in-range .0);
+        ranged = mark-ranged kind b (now .ranged) operator indicator mark lt (member-joined operator lt (member-there _ (passed .present))) (passed .in-range .0) (passed .in-range .2);
+        held = mark-holds kind b h (now .ranged) (now .held) operator indicator mark (passed .in-range .0);
         covered = now .covered;
       }
   changed-agrees (Rates pot cap) passed =
       record {
-        bounds = rates-bounds b (now .bounds) pot cap (passed .in-range .0) (passed .in-range .1);
-        held = rates-holds b h (now .bounds) (now .held) pot cap;
+        ranged = rates-ranged kind b (now .ranged) pot cap (passed .in-range .0) (passed .in-range .1);
+        held = rates-holds kind b h (now .ranged) (now .held) pot cap;
         covered = now .covered;
       }
   changed-agrees (Index number value) passed =
       record {
-        bounds = index-bounds b (now .bounds) number value (passed .in-range .1) (passed .in-range .2);
-        held = index-holds b h (now .bounds) (now .held) number value (passed .in-range .0);
+        ranged = index-ranged kind b (now .ranged) number value (passed .in-range .1) (passed .in-range .2);
+        held = index-holds kind b h (now .ranged) (now .held) number value (passed .in-range .0);
         covered = now .covered;
       }

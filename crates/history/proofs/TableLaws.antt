@@ -11,46 +11,51 @@ use Rattle.calls.specs.declared.Call.{Call}
 use Rattle.calls.specs.Limits.{operators, years, figureCount, figureLimit}
 use Rattle.calls.specs.Answers.{Said, refused-by, accepted, firstOf, Acceptance}
 use Rattle.calls.specs.Call.{Entry, factsOf}
-use Rattle.ledger.specs.Table.{some, totalAt, passesLimit, fallsBelow, linesFor, answerTo}
+use Rattle.calls.specs.Indicators.{Indicator, some}
+use Rattle.ledger.specs.Table.{totalAt, passesLimit, fallsBelow, linesFor, answerTo}
 use Rattle.calls.proofs.Flags.{and-other}
 use Rattle.ledger.proofs.AdmissionLaws.{isUnknown, joinsAgain, lacksOperator}
 use Rattle.calls.proofs.RangeLaws.{Ranges, ranges}
 use Rattle.history.proofs.EntryLaws.{All, Within, all-map, all-both, all-parts, none-some, same-some, entries-within, entries-joined}
 
--- none of the numbers 4 to 9 applies
-pub record Passed (joined : ℕ → Bool) (total : ℕ → ℕ → ℕ → ℕ) (call : Call) : Type 0 where
-  pub known : isUnknown call ≡ false
-  pub in-range : Ranges call
-  pub no-join : joinsAgain joined call ≡ false
-  pub present : lacksOperator joined call ≡ false
-  pub below : some (passesLimit total) (factsOf call .entries) ≡ false
-  pub above : some (fallsBelow total) (factsOf call .entries) ≡ false
+-- none of the numbers 2 and 4 to 9 applies
+pub record Passed (kind : List Indicator) (joined : ℕ → Bool) (total : ℕ → ℕ → ℕ → ℕ) (call : Call) : Type 0 where
+  pub had : factsOf kind call .known ≡ true
+  pub known : isUnknown kind call ≡ false
+  pub in-range : Ranges kind call
+  pub no-join : joinsAgain kind joined call ≡ false
+  pub present : lacksOperator kind joined call ≡ false
+  pub below : some (passesLimit total) (factsOf kind call .entries) ≡ false
+  pub above : some (fallsBelow total) (factsOf kind call .entries) ≡ false
 
-module _ (joined : ℕ → Bool) (total : ℕ → ℕ → ℕ → ℕ) (call : Call) where
+module _ (kind : List Indicator) (joined : ℕ → Bool) (total : ℕ → ℕ → ℕ → ℕ) (call : Call) where
   abbrev pub Decided : Said Acceptance → Type 0
-  Decided answer = ((answer ≡ accepted (factsOf call .answer)) × Passed joined total call) ⊎ ((number : ℕ) × (answer ≡ refused-by number))
+  Decided answer = ((answer ≡ accepted (factsOf kind call .answer)) × Passed kind joined total call) ⊎ ((number : ℕ) × (answer ≡ refused-by number))
 
-  decide : (t u v w x y : Bool)
-      → isUnknown call ≡ t
-      → factsOf call .in-range ≡ u
-      → joinsAgain joined call ≡ v
-      → lacksOperator joined call ≡ w
-      → some (passesLimit total) (factsOf call .entries) ≡ x
-      → some (fallsBelow total) (factsOf call .entries) ≡ y
-      → Decided (firstOf ((4, t) ∷ (5, not u) ∷ (6, v) ∷ (7, w) ∷ (8, x) ∷ (9, y) ∷ []) (factsOf call .answer))
+  decide : (s t u v w x y : Bool)
+      → factsOf kind call .known ≡ s
+      → isUnknown kind call ≡ t
+      → factsOf kind call .in-range ≡ u
+      → joinsAgain kind joined call ≡ v
+      → lacksOperator kind joined call ≡ w
+      → some (passesLimit total) (factsOf kind call .entries) ≡ x
+      → some (fallsBelow total) (factsOf kind call .entries) ≡ y
+      → Decided (firstOf ((2, not s) ∷ (4, t) ∷ (5, not u) ∷ (6, v) ∷ (7, w) ∷ (8, x) ∷ (9, y) ∷ []) (factsOf kind call .answer))
   unfolding firstOf
-  decide true u v w x y known ranged no-join present below above = inr (4, refl)
-  decide false false v w x y known ranged no-join present below above = inr (5, refl)
-  decide false true true w x y known ranged no-join present below above = inr (6, refl)
-  decide false true false true x y known ranged no-join present below above = inr (7, refl)
-  decide false true false false true y known ranged no-join present below above = inr (8, refl)
-  decide false true false false false true known ranged no-join present below above = inr (9, refl)
-  decide false true false false false false known ranged no-join present below above =
+  decide false t u v w x y had known ranged no-join present below above = inr (2, refl)
+  decide true true u v w x y had known ranged no-join present below above = inr (4, refl)
+  decide true false false v w x y had known ranged no-join present below above = inr (5, refl)
+  decide true false true true w x y had known ranged no-join present below above = inr (6, refl)
+  decide true false true false true x y had known ranged no-join present below above = inr (7, refl)
+  decide true false true false false true y had known ranged no-join present below above = inr (8, refl)
+  decide true false true false false false true had known ranged no-join present below above = inr (9, refl)
+  decide true false true false false false false had known ranged no-join present below above =
       inl (
         refl,
         record {
+          had = had;
           known = known;
-          in-range = ranges call ranged;
+          in-range = ranges kind call ranged;
           no-join = no-join;
           present = present;
           below = below;
@@ -59,22 +64,22 @@ module _ (joined : ℕ → Bool) (total : ℕ → ℕ → ℕ → ℕ) (call : C
       )
 
   -- a call is accepted or refused
-  pub decided : Decided (answerTo joined total call)
+  pub decided : Decided (answerTo kind joined total call)
   unfolding answerTo linesFor
-  decided = decide _ _ _ _ _ _ refl refl refl refl refl refl
+  decided = decide _ _ _ _ _ _ _ refl refl refl refl refl refl refl
 
 -- an entry of a joined operator that neither 8 nor 9 keeps out
-pub record Enters (joined : ℕ → Bool) (total : ℕ → ℕ → ℕ → ℕ) (entry : Entry) : Type 0 where
-  pub within : Within entry
+pub record Enters (kind : List Indicator) (joined : ℕ → Bool) (total : ℕ → ℕ → ℕ → ℕ) (entry : Entry) : Type 0 where
+  pub within : Within kind entry
   pub there : joined (entry .operator) ≡ true
   pub fits : eqb (entry .sign) 0 ≡ true → totalAt total entry + entry .value ≤ figureLimit
   pub covers : eqb (entry .sign) 1 ≡ true → entry .value ≤ totalAt total entry
 
 -- every entry of an accepted call is one
-pub call-enters : (joined : ℕ → Bool) (total : ℕ → ℕ → ℕ → ℕ) (call : Call) → Passed joined total call → All (Enters joined total) (factsOf call .entries)
+pub call-enters : (kind : List Indicator) (joined : ℕ → Bool) (total : ℕ → ℕ → ℕ → ℕ) (call : Call) → Passed kind joined total call → All (Enters kind joined total) (factsOf kind call .entries)
 unfolding passesLimit fallsBelow
-call-enters joined total call passed =
-    all-map _ (Enters joined total)
+call-enters kind joined total call passed =
+    all-map _ (Enters kind joined total)
     (λ entry each.
     record {
       within = each .0 .0;
@@ -82,13 +87,13 @@ call-enters joined total call passed =
       fits = λ filed. ltb-false _ _ (and-other (eqb (entry .sign) 0) _ filed (each .1 .0));
       covers = λ withdrawn. ltb-false _ _ (and-other (eqb (entry .sign) 1) _ withdrawn (each .1 .1));
     })
-    (factsOf call .entries)
-    (all-both _ _ (factsOf call .entries)
-    (all-both _ _ (factsOf call .entries) (entries-within call (passed .known) (passed .in-range)) (entries-joined joined call (passed .present)))
-    (all-both _ _ (factsOf call .entries) (none-some _ (factsOf call .entries) (passed .below)) (none-some _ (factsOf call .entries) (passed .above))))
+    (factsOf kind call .entries)
+    (all-both _ _ (factsOf kind call .entries)
+    (all-both _ _ (factsOf kind call .entries) (entries-within kind call (passed .had) (passed .known) (passed .in-range)) (entries-joined kind joined call (passed .present)))
+    (all-both _ _ (factsOf kind call .entries) (none-some _ (factsOf kind call .entries) (passed .below)) (none-some _ (factsOf kind call .entries) (passed .above))))
 
 -- two tables that agree within the book
-module _ (joined known : ℕ → Bool) (total sum : ℕ → ℕ → ℕ → ℕ)
+module _ (kind : List Indicator) (joined known : ℕ → Bool) (total sum : ℕ → ℕ → ℕ → ℕ)
     (same-joined : (operator : ℕ) → operator < operators → joined operator ≡ known operator)
     (same-total : (operator year figure : ℕ) → operator < operators → year < years → figure < figureCount
     → total operator year figure ≡ sum operator year figure) where
@@ -96,58 +101,59 @@ module _ (joined known : ℕ → Bool) (total sum : ℕ → ℕ → ℕ → ℕ)
   Low : ℕ → Type 0
   Low operator = leb operators operator ≡ false
 
-  both-low : (call : Call) → isUnknown call ≡ false → All Low (factsOf call .newcomers) × All Low (factsOf call .members)
+  both-low : (call : Call) → isUnknown kind call ≡ false → All Low (factsOf kind call .newcomers) × All Low (factsOf kind call .members)
   unfolding Low
-  both-low call e = all-parts _ (factsOf call .newcomers) (factsOf call .members) (none-some (leb operators) _ e)
+  both-low call e = all-parts _ (factsOf kind call .newcomers) (factsOf kind call .members) (none-some (leb operators) _ e)
 
-  same-joins : (call : Call) → isUnknown call ≡ false → joinsAgain joined call ≡ joinsAgain known call
+  same-joins : (call : Call) → isUnknown kind call ≡ false → joinsAgain kind joined call ≡ joinsAgain kind known call
   unfolding Low
   same-joins call e =
-      same-some _ _ (factsOf call .newcomers) (all-map Low _ (λ operator low. same-joined operator (leb-false operators operator low)) (factsOf call .newcomers) (both-low call e .0))
+      same-some _ _ (factsOf kind call .newcomers) (all-map Low _ (λ operator low. same-joined operator (leb-false operators operator low)) (factsOf kind call .newcomers) (both-low call e .0))
 
-  same-lacks : (call : Call) → isUnknown call ≡ false → lacksOperator joined call ≡ lacksOperator known call
+  same-lacks : (call : Call) → isUnknown kind call ≡ false → lacksOperator kind joined call ≡ lacksOperator kind known call
   unfolding Low
   same-lacks call e =
-      same-some _ _ (factsOf call .members) (all-map Low _ (λ operator low. ap not (same-joined operator (leb-false operators operator low))) (factsOf call .members) (both-low call e .1))
+      same-some _ _ (factsOf kind call .members) (all-map Low _ (λ operator low. ap not (same-joined operator (leb-false operators operator low))) (factsOf kind call .members) (both-low call e .1))
 
-  module _ (list : List Entry) (within : All Within list) where
-    total-at : (entry : Entry) → Within entry → totalAt total entry ≡ totalAt sum entry
+  module _ (list : List Entry) (within : All (Within kind) list) where
+    total-at : (entry : Entry) → Within kind entry → totalAt total entry ≡ totalAt sum entry
     total-at entry w = same-total _ _ _ (w .operator-lt) (w .year-lt) (w .figure-lt)
 
     same-passes : some (passesLimit total) list ≡ some (passesLimit sum) list
     unfolding passesLimit
     same-passes =
         same-some _ _ list
-        (all-map Within _ (λ entry w. ap (λ (n : ℕ). eqb (entry .sign) 0 && ltb figureLimit (n + entry .value)) (total-at entry w)) list within)
+        (all-map (Within kind) _ (λ entry w. ap (λ (n : ℕ). eqb (entry .sign) 0 && ltb figureLimit (n + entry .value)) (total-at entry w)) list within)
 
     same-falls : some (fallsBelow total) list ≡ some (fallsBelow sum) list
     unfolding fallsBelow
     same-falls =
-        same-some _ _ list (all-map Within _ (λ entry w. ap (λ (n : ℕ). eqb (entry .sign) 1 && ltb n (entry .value)) (total-at entry w)) list within)
+        same-some _ _ list (all-map (Within kind) _ (λ entry w. ap (λ (n : ℕ). eqb (entry .sign) 1 && ltb n (entry .value)) (total-at entry w)) list within)
 
-  pub same-answer : (call : Call) → answerTo joined total call ≡ answerTo known sum call
+  pub same-answer : (call : Call) → answerTo kind joined total call ≡ answerTo kind known sum call
   unfolding answerTo linesFor firstOf
-  same-answer call = go (isUnknown call) (factsOf call .in-range) refl refl
+  same-answer call = go (factsOf kind call .known) (isUnknown kind call) (factsOf kind call .in-range) refl refl refl
     where
       rest : (ℕ → Bool) → (ℕ → ℕ → ℕ → ℕ) → List (ℕ × Bool)
       rest held figures =
-          (6, joinsAgain held call)
-          ∷ (7, lacksOperator held call)
-          ∷ (8, some (passesLimit figures) (factsOf call .entries))
-          ∷ (9, some (fallsBelow figures) (factsOf call .entries))
+          (6, joinsAgain kind held call)
+          ∷ (7, lacksOperator kind held call)
+          ∷ (8, some (passesLimit figures) (factsOf kind call .entries))
+          ∷ (9, some (fallsBelow figures) (factsOf kind call .entries))
           ∷ []
 
-      go : (t u : Bool) → isUnknown call ≡ t → factsOf call .in-range ≡ u
-          → firstOf ((4, t) ∷ (5, not u) ∷ rest joined total) (factsOf call .answer)
-          ≡ firstOf ((4, t) ∷ (5, not u) ∷ rest known sum) (factsOf call .answer)
-      go true u lt ranged = refl
-      go false false lt ranged = refl
-      go false true lt ranged =
-          let within = entries-within call lt (ranges call ranged) in
+      go : (s t u : Bool) → factsOf kind call .known ≡ s → isUnknown kind call ≡ t → factsOf kind call .in-range ≡ u
+          → firstOf ((2, not s) ∷ (4, t) ∷ (5, not u) ∷ rest joined total) (factsOf kind call .answer)
+          ≡ firstOf ((2, not s) ∷ (4, t) ∷ (5, not u) ∷ rest known sum) (factsOf kind call .answer)
+      go false t u had lt ranged = refl
+      go true true u had lt ranged = refl
+      go true false false had lt ranged = refl
+      go true false true had lt ranged =
+          let within = entries-within kind call had lt (ranges kind call ranged) in
           rw (
             same-joins call lt,
             same-lacks call lt,
-            same-passes (factsOf call .entries) within,
-            same-falls (factsOf call .entries) within,
+            same-passes (factsOf kind call .entries) within,
+            same-falls (factsOf kind call .entries) within,
           )
           refl

@@ -9,7 +9,8 @@ use Rattle.calls.specs.declared.Call.the-variants.{Join, Setting, Interruption,
 use Rattle.calls.specs.Limits.{freshIndex}
 use Rattle.calls.specs.Held.{Held, held}
 use Rattle.calls.specs.Answers.{Said, onAnswer, Acceptance}
-use Rattle.calls.specs.Call.{joinMarks, Entry, factsOf}
+use Rattle.calls.specs.Indicators.{Indicator, takesMark}
+use Rattle.calls.specs.Call.{Entry, factsOf}
 use Rattle.ledger.specs.Table.{answerTo}
 
 pub record History : Type 0 where
@@ -83,30 +84,33 @@ unfoldable pub withEntries : History → List Entry → History
 withEntries h [] = h
 withEntries h (entry ∷ rest) = withEntries (withEntry h entry) rest
 
--- "Join adds the operator", and sets every mark of it (02, point 1: "with a join counted as setting six marks"). "Setting, mark and
--- index replace the value they name, rates both rates."
-unfoldable pub recorded : History → Call → History
-recorded h (Join operator) = historyWithMarks (historyWithOperators h (at1 operator true (h .joined))) (at1 operator joinMarks (h .mark))
-recorded h (Setting operator which value) = historyWithSettings h (at2 operator which value (h .setting))
-recorded h (Interruption operator sign level cause start end weight) = withEntries h (factsOf (Interruption operator sign level cause start end weight) .entries)
-recorded h (Amount operator year figure sign value) = withEntries h (factsOf (Amount operator year figure sign value) .entries)
-recorded h (Mark operator indicator mark) = historyWithMarks h (at2 operator indicator (eqb mark 1) (h .mark))
-recorded h (Rates pot cap) = historyWithRates h pot cap
-recorded h (Index number value) = historyWithIndices h (at1 number value (h .index))
+-- what the history of a kind of operators notes
+module _ (kind : List Indicator) where
+  -- "Join adds the operator", and sets its mark at every indicator of the kind (02, point 1: "with a join counted as setting six marks"; point 4:
+  -- "A gas join marks those two"). "Setting, mark and index replace the value they name, rates both rates."
+  unfoldable pub recorded : History → Call → History
+  recorded h (Join operator) = historyWithMarks (historyWithOperators h (at1 operator true (h .joined))) (at1 operator (takesMark kind) (h .mark))
+  recorded h (Setting operator which value) = historyWithSettings h (at2 operator which value (h .setting))
+  recorded h (Interruption operator sign level cause start end weight) =
+      withEntries h (factsOf kind (Interruption operator sign level cause start end weight) .entries)
+  recorded h (Amount operator year figure sign value) = withEntries h (factsOf kind (Amount operator year figure sign value) .entries)
+  recorded h (Mark operator indicator mark) = historyWithMarks h (at2 operator indicator (eqb mark 1) (h .mark))
+  recorded h (Rates pot cap) = historyWithRates h pot cap
+  recorded h (Index number value) = historyWithIndices h (at1 number value (h .index))
 
--- "The table of answers .. is looked up with what the history itself holds"
-unfoldable pub noteAnswer : History → Call → Said Acceptance
-noteAnswer h call = answerTo (h .joined) (total h) call
+  -- "The table of answers .. is looked up with what the history itself holds"
+  unfoldable pub noteAnswer : History → Call → Said Acceptance
+  noteAnswer h call = answerTo kind (h .joined) (total h) call
 
--- the history after a call; "If a number applies to the call, .. the history stays"
-unfoldable pub noteHistory : History → Call → History
-noteHistory h call = onAnswer (λ (number : ℕ). h) (λ (value : Acceptance). recorded h call) (noteAnswer h call)
+  -- the history after a call; "If a number applies to the call, .. the history stays"
+  unfoldable pub noteHistory : History → Call → History
+  noteHistory h call = onAnswer (λ (number : ℕ). h) (λ (value : Acceptance). recorded h call) (noteAnswer h call)
 
--- a list of calls
-unfoldable pub notedHistory : History → List Call → History
-notedHistory h [] = h
-notedHistory h (call ∷ rest) = notedHistory (noteHistory h call) rest
+  -- a list of calls
+  unfoldable pub notedHistory : History → List Call → History
+  notedHistory h [] = h
+  notedHistory h (call ∷ rest) = notedHistory (noteHistory h call) rest
 
-unfoldable pub notedAnswers : History → List Call → List (Said Acceptance)
-notedAnswers h [] = []
-notedAnswers h (call ∷ rest) = noteAnswer h call ∷ notedAnswers (noteHistory h call) rest
+  unfoldable pub notedAnswers : History → List Call → List (Said Acceptance)
+  notedAnswers h [] = []
+  notedAnswers h (call ∷ rest) = noteAnswer h call ∷ notedAnswers (noteHistory h call) rest

@@ -4,4 +4,5 @@ pub mod OnesLaws
 pub mod WeightLaws
 pub mod Weighting
 pub mod PointLaws
+pub mod NumberLaws
 pub mod Opened

@@ -14,7 +14,7 @@ use Rattle.calls.specs.Masks.{has}
 use Rattle.calls.proofs.Flags.{and-left}
 use Rattle.calls.proofs.MaskLaws.{and-has}
 use Rattle.book.specs.declared.Book.{Book}
-use Rattle.book.specs.Book.{isJoined, isMarked, inRange}
+use Rattle.book.specs.Book.{isJoined, isMarked, withinLimits}
 use Rattle.book.proofs.Bounds.{bounded}
 use Rattle.apportion.specs.Sum.{sum}
 use Rattle.apportion.specs.Share.{share}
@@ -22,7 +22,8 @@ use Rattle.apportion.specs.Laws.{Shared}
 use Rattle.apportion.proofs.Sums.{element-le}
 use Rattle.apportion.proofs.Shared.{shared}
 use Rattle.values.specs.Operators.{count}
-use Rattle.values.specs.Indicator.{Indicator, reliableMask, pool, scores}
+use Rattle.calls.specs.Indicators.{Indicator}
+use Rattle.values.specs.Indicator.{reliableMask, pool, scores}
 use Rattle.indicators.specs.Points.{exponentWeight, isBetter, isLevelled, weights, points}
 use Rattle.indicators.specs.Laws.{PointsMadeUp}
 use Rattle.values.proofs.InRange.{mark-set-small}
@@ -63,7 +64,7 @@ module _ (b : Book) (indicator : Indicator) where
       go true reliable = reliable
       go false marked = absurd (omega (arith, pos, points-none operator lt marked))
 
-  module _ (ranged : inRange b ≡ true) where
+  module _ (ranged : withinLimits b ≡ true) where
     -- "those without a mark at this indicator"
     pub reliable-exactly : (operator : ℕ) → operator < 16 → has (reliableMask b indicator) operator ≡ isJoined b operator && not (isMarked b operator (indicator .number))
     unfolding reliableMask isJoined isMarked
@@ -152,7 +153,7 @@ module _ (b : Book) (indicator : Indicator) where
         better-weight k inside is =
             weight-reliable _ _ _ k inside (better-reliable _ _ k is) ∙ one-better _ _ _ levels k inside is
 
-pub points-made-up : (b : Book) (indicator : Indicator) → inRange b ≡ true → PointsMadeUp b indicator (pool b indicator) (points b indicator)
+pub points-made-up : (b : Book) (indicator : Indicator) → withinLimits b ≡ true → PointsMadeUp b indicator (pool b indicator) (points b indicator)
 unfolding pool
 points-made-up b indicator ranged =
     record {

@@ -17,7 +17,7 @@ use Rattle.calls.specs.Masks.{has}
 use Rattle.calls.proofs.Flags.{and-left}
 use Rattle.values.specs.Operators.{each, count}
 use Rattle.exact.specs.Division.{over}
-use Rattle.values.specs.Indicator.{Measure}
+use Rattle.calls.specs.Indicators.{Measure}
 use Rattle.indicators.specs.Points.{largest, normalised, exponentWeight, isBetter, levelled, isLevelled, weightOfOne, weights}
 use Rattle.values.proofs.Tables.{length-each, each-at, each-le-sum, sum-each-le}
 use Rattle.values.proofs.CountLaws.{cond-le, count-le, count-positive}

@@ -10,7 +10,8 @@ use Rattle.calls.specs.Limits.{indicatorCount}
 use Rattle.calls.specs.Masks.{has}
 use Rattle.apportion.specs.Sum.{sum}
 use Rattle.values.specs.Operators.{each}
-use Rattle.values.specs.Indicator.{Measure, electricity, numbered}
+use Rattle.calls.specs.Indicators.{Measure, electricity}
+use Rattle.values.specs.Indicator.{numbered}
 use Rattle.indicators.specs.Points.{exponentWeight, isBetter, levelled, isLevelled, weightOfOne, weights}
 use Rattle.values.proofs.Tables.{each-at, each-same}
 use Rattle.values.proofs.Numbered.{of-numbered}

@@ -13,7 +13,8 @@ use Rattle.book.specs.Book.{isJoined, isMarked}
 use Rattle.apportion.specs.Sum.{sum}
 use Rattle.exact.specs.Division.{over}
 use Rattle.values.specs.Operators.{count}
-use Rattle.values.specs.Indicator.{Indicator, reliableMask, scores}
+use Rattle.calls.specs.Indicators.{Indicator}
+use Rattle.values.specs.Indicator.{reliableMask, scores}
 use Rattle.indicators.specs.Points.{isBetter, isLevelled}
 
 -- an indicator's pool, and the points given by operator

@@ -1,11 +1,11 @@
 -- Points of an indicator: from the sums of three years to weights, and the pool shared by them (01, "Indicators"; annex 9, 4.2).
 -- Assumes nothing.
-use Prim.Native.Nat.{ℕ, _+_, _*_, _-_, max}
+use Prim.Native.Nat.{ℕ, zero, suc, _+_, _*_, _-_, max}
 use mathlib.Core.Bool.{Bool, true, false, cond, _&&_}
 use mathlib.Core.List.{List, [], _∷_, _++_}
 use lib.Count.{ones}
 use lib.Dec.{ltb, eqb}
-use lib.ListN.{getD}
+use lib.ListN.{getD, replicate}
 use Rattle.calls.specs.Limits.{operators, indicatorCount}
 use Rattle.calls.specs.Masks.{has}
 use Rattle.book.specs.declared.Book.{Book}
@@ -13,8 +13,9 @@ use Rattle.apportion.specs.Sum.{sum}
 use Rattle.apportion.specs.Share.{share}
 use Rattle.exact.specs.Division.{over}
 use Rattle.exponent.specs.Weight.{weightOf}
-use Rattle.values.specs.Operators.{each, count}
-use Rattle.values.specs.Indicator.{Measure, frequency, duration, fee, Indicator, reliableMask, pool, scores}
+use Rattle.values.specs.Operators.{table, each, count}
+use Rattle.calls.specs.Indicators.{Measure, frequency, duration, fee, Indicator, takesMark}
+use Rattle.values.specs.Indicator.{numberedIn, reliableMask, pool, scores}
 
 -- the largest of a list
 unfoldable pub largest : List ℕ → ℕ
@@ -64,10 +65,23 @@ unfoldable pub allPoints : Book → List Indicator → ℕ → ℕ
 allPoints b [] operator = 0
 allPoints b (indicator ∷ rest) operator = getD (points b indicator) operator 0 + allPoints b rest operator
 
--- the lists of all indicators, one after the other
+-- pools and points stand at their indicator's number; 0 at a number that no indicator of a list has
+unfoldable pub poolNumbered : Book → List Indicator → ℕ → ℕ
+poolNumbered b indicators number = cond (takesMark indicators number) (pool b (numberedIn indicators number)) 0
+
+unfoldable pub pointsNumbered : Book → List Indicator → ℕ → List ℕ
+pointsNumbered b indicators number = cond (takesMark indicators number) (points b (numberedIn indicators number)) (replicate operators 0)
+
+unfoldable pub poolsOfAll : Book → List Indicator → List ℕ
+poolsOfAll b indicators = table indicatorCount (poolNumbered b indicators)
+
+-- f 0 to f (n - 1), one list after the other
+unfoldable pub rows : ℕ → (ℕ → List ℕ) → List ℕ
+rows zero f = []
+rows (suc n) f = rows n f ++ f n
+
 unfoldable pub pointsOfAll : Book → List Indicator → List ℕ
-pointsOfAll b [] = []
-pointsOfAll b (indicator ∷ rest) = points b indicator ++ pointsOfAll b rest
+pointsOfAll b indicators = rows indicatorCount (pointsNumbered b indicators)
 
 -- a number for each indicator and operator
 abbrev pub pointPlaces : ℕ

@@ -6,7 +6,7 @@ ghost use lib.ListN.{getD};
 ghost use Rattle.calls.specs.Limits.{operators};
 ghost use Rattle.apportion.specs.Sum.{sum as Sum·sum};
 ghost use Rattle.values.specs.Operators.{each, count};
-ghost use Rattle.values.specs.Indicator.{Measure};
+ghost use Rattle.calls.specs.Indicators.{Measure};
 ghost use Rattle.indicators.specs.Steps.{ScoresWithin, WeighingAsked};
 ghost use Rattle.indicators.specs.Points.{largest, exponentWeight, isBetter, isLevelled, weights};
 use weighing::is_better;

@@ -10,9 +10,10 @@ use lib.Seq.{getD-set-other, set-getD}
 use Rattle.book.specs.declared.Book.{Book}
 use Rattle.calls.specs.Answers.{Said, isRefused, onAnswer, firstOf, Acceptance}
 use Rattle.calls.specs.Call.{Entry}
-use Rattle.calls.proofs.Flags.{or-false-right}
+use Rattle.calls.proofs.Flags.{or-false-right, or-true-right}
 use Rattle.book.specs.Book.{withFigures, figureSlot, figureOf}
-use Rattle.ledger.specs.Table.{some, passesLimit, fallsBelow}
+use Rattle.calls.specs.Indicators.{some}
+use Rattle.ledger.specs.Table.{passesLimit, fallsBelow}
 use Rattle.ledger.specs.Calls.{Outcome, entered, enterAll, outcomeOf}
 use Rattle.ledger.specs.Steps.{entering}
 use Rattle.ledger.proofs.AdmissionLaws.{refusedCall, acceptedCall}
@@ -22,10 +23,6 @@ use Rattle.ledger.proofs.MoveLaws.{passes, falls, no-limit, none-passes
 abbrev pub Apart : List Entry → ℕ → Type 0
 Apart [] slot = Unit {0}
 Apart (entry ∷ rest) slot = (figureSlot (entry .operator) (entry .year) (entry .figure) ≢ slot) × Apart rest slot
-
-or-true : (t : Bool) → t || true ≡ true
-or-true true = refl
-or-true false = refl
 
 some-last : (test : Entry → Bool) (list : List Entry) (entry : Entry) → some test (list ++ (entry ∷ [])) ≡ some test list || test entry
 unfolding some
@@ -55,7 +52,7 @@ module _ (b : Book) (list : List Entry) (entry : Entry) (value : Acceptance) whe
 
   pub last-above : passes (entry .sign) (entry .value) (figureAt b entry) ≡ true → entering b both value ≡ refusedCall b 8
   unfolding entering firstOf outcomeOf onAnswer passesLimit
-  last-above e = rw (some-last (passesLimit (figureOf b)) list entry, e, or-true (some (passesLimit (figureOf b)) list)) refl
+  last-above e = rw (some-last (passesLimit (figureOf b)) list entry, e, or-true-right (some (passesLimit (figureOf b)) list)) refl
 
   pub last-below : Signed list (entry .sign) → falls (entry .sign) (entry .value) (figureAt b entry) ≡ true → entering b both value ≡ refusedCall b 9
   unfolding entering firstOf outcomeOf onAnswer passesLimit fallsBelow
@@ -66,7 +63,7 @@ module _ (b : Book) (list : List Entry) (entry : Entry) (value : Acceptance) whe
         none-passes (figureOf b) list (entry .sign) (entry .value) (figureAt b entry) e signs,
         no-limit (entry .sign) (entry .value) (figureAt b entry) (entry .value) (figureAt b entry) e,
         e,
-        or-true (some (fallsBelow (figureOf b)) list),
+        or-true-right (some (fallsBelow (figureOf b)) list),
       )
       refl
 

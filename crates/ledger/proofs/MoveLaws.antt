@@ -15,11 +15,12 @@ use Rattle.judging.specs.declared.Moved.the-variants.{To, Above, Below}
 use Rattle.calls.specs.Limits.{figureLimit}
 use Rattle.calls.specs.Answers.{refused-by, accepted, onAnswer, firstOf, Acceptance}
 use Rattle.book.specs.Book.{withFigures, figureSlot, figureOf}
+use Rattle.calls.specs.Indicators.{some}
 use Rattle.calls.specs.Call.{Entry}
 use Rattle.judging.specs.Figures.{movedSaid, movedBy}
 use Rattle.calls.proofs.Flags.{and-left}
 use Rattle.judging.proofs.MovedLaws.{movedSaying, moved-back}
-use Rattle.ledger.specs.Table.{some, passesLimit, fallsBelow}
+use Rattle.ledger.specs.Table.{passesLimit, fallsBelow}
 use Rattle.ledger.specs.Calls.{Outcome, entered, enterAll, outcomeOf}
 use Rattle.ledger.specs.Steps.{entering}
 use Rattle.ledger.proofs.AdmissionLaws.{refusedCall, acceptedCall}

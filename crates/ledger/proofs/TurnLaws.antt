@@ -12,25 +12,26 @@ use Rattle.calls.specs.declared.Call.the-variants.{Join, Setting, Interruption,
 use Rattle.calls.specs.declared.Answer.{Answer}
 use Rattle.calls.specs.Limits.{shortMost}
 use Rattle.calls.specs.Answers.{Said, refused-by, accepted, firstOf, Acceptance, yes-said, counted-in, left-out-as-short, left-out-under, said}
+use Rattle.calls.specs.Indicators.{Indicator}
 use Rattle.calls.specs.Call.{outcome, factsOf}
 use Rattle.calls.proofs.Flags.{both}
 use Rattle.calls.proofs.SaidLaws.{answerSaying}
 use Rattle.book.specs.declared.Book.{Book}
 use Rattle.book.specs.Book.{inRange}
 use Rattle.ledger.specs.Table.{linesFor, answerTo}
-use Rattle.ledger.specs.Calls.{outcomeOf, apply, file, filedBook, filedAnswers}
+use Rattle.ledger.specs.Calls.{outcomeOf, apply, fileAs, filedBook, filedAnswers}
 use Rattle.ledger.specs.Filed.{FiledInTurn}
 
 -- ---- a run gives what is defined
-pub in-turn : (calls : List Call) (answers : List Answer) (b last : Book) → FiledInTurn b calls answers last
-    → (map said answers ≡ filedAnswers b calls) × (last ≡ filedBook b calls)
+pub in-turn : (kind : List Indicator) (calls : List Call) (answers : List Answer) (b last : Book) → FiledInTurn kind b calls answers last
+    → (map said answers ≡ filedAnswers kind b calls) × (last ≡ filedBook kind b calls)
 unfolding filedAnswers filedBook
-in-turn [] [] b last ended = (refl, ended)
-in-turn [] (answer ∷ answers) b last none = absurd none
-in-turn (call ∷ calls) [] b last none = absurd none
-in-turn (call ∷ calls) (answer ∷ answers) b last (next, (says, leaves), rest) =
-    let later : (map said answers ≡ filedAnswers (file b call .book) calls) × (last ≡ filedBook (file b call .book) calls) =
-    rw leaves at (in-turn calls answers next last rest) in
+in-turn kind [] [] b last ended = (refl, ended)
+in-turn kind [] (answer ∷ answers) b last none = absurd none
+in-turn kind (call ∷ calls) [] b last none = absurd none
+in-turn kind (call ∷ calls) (answer ∷ answers) b last (next, (says, leaves), rest) =
+    let later : (map said answers ≡ filedAnswers kind (fileAs kind b call .book) calls) × (last ≡ filedBook kind (fileAs kind b call .book) calls) =
+    rw leaves at (in-turn kind calls answers next last rest) in
     (ap₂ _∷_ says (later .0), later .1)
 
 -- ---- some answer says what is defined
@@ -57,39 +58,40 @@ sayable-outcome cause seconds year = go (leb seconds shortMost) (leb 1 cause && 
         sayable-cause cause (leb-true 1 cause (ends .0)) (leb-true cause 3 (ends .1))
     go false false tests = refl
 
-sayable-facts : (call : Call) → Sayable (accepted (factsOf call .answer))
+sayable-facts : (kind : List Indicator) (call : Call) → Sayable (accepted (factsOf kind call .answer))
 unfolding factsOf
-sayable-facts (Join operator) = refl
-sayable-facts (Setting operator which value) = refl
-sayable-facts (Interruption operator sign level cause start end weight) = sayable-outcome cause _ _
-sayable-facts (Amount operator year figure sign value) = refl
-sayable-facts (Mark operator indicator mark) = refl
-sayable-facts (Rates pot cap) = refl
-sayable-facts (Index number value) = refl
+sayable-facts kind (Join operator) = refl
+sayable-facts kind (Setting operator which value) = refl
+sayable-facts kind (Interruption operator sign level cause start end weight) = sayable-outcome cause _ _
+sayable-facts kind (Amount operator year figure sign value) = refl
+sayable-facts kind (Mark operator indicator mark) = refl
+sayable-facts kind (Rates pot cap) = refl
+sayable-facts kind (Index number value) = refl
 
-sayable-lines : (four five six seven eight nine : Bool) (value : Acceptance) → Sayable (accepted value)
-    → Sayable (firstOf ((4, four) ∷ (5, five) ∷ (6, six) ∷ (7, seven) ∷ (8, eight) ∷ (9, nine) ∷ []) value)
+sayable-lines : (two four five six seven eight nine : Bool) (value : Acceptance) → Sayable (accepted value)
+    → Sayable (firstOf ((2, two) ∷ (4, four) ∷ (5, five) ∷ (6, six) ∷ (7, seven) ∷ (8, eight) ∷ (9, nine) ∷ []) value)
 unfolding firstOf
-sayable-lines true five six seven eight nine value it = refl
-sayable-lines false true six seven eight nine value it = refl
-sayable-lines false false true seven eight nine value it = refl
-sayable-lines false false false true eight nine value it = refl
-sayable-lines false false false false true nine value it = refl
-sayable-lines false false false false false true value it = refl
-sayable-lines false false false false false false value it = it
+sayable-lines true four five six seven eight nine value it = refl
+sayable-lines false true five six seven eight nine value it = refl
+sayable-lines false false true six seven eight nine value it = refl
+sayable-lines false false false true seven eight nine value it = refl
+sayable-lines false false false false true eight nine value it = refl
+sayable-lines false false false false false true nine value it = refl
+sayable-lines false false false false false false true value it = refl
+sayable-lines false false false false false false false value it = it
 
-sayable-filed : (b : Book) (call : Call) → Sayable (file b call .said)
-unfolding file apply outcomeOf answerTo linesFor
-sayable-filed b call = go (inRange b)
+sayable-filed : (kind : List Indicator) (b : Book) (call : Call) → Sayable (fileAs kind b call .said)
+unfolding fileAs apply outcomeOf answerTo linesFor
+sayable-filed kind b call = go (inRange kind b)
   where
-    go : (ranged : Bool) → Sayable (cond ranged (apply b call) (outcomeOf b b (refused-by 5)) .said)
-    go true = sayable-lines _ _ _ _ _ _ (factsOf call .answer) (sayable-facts call)
+    go : (ranged : Bool) → Sayable (cond ranged (apply kind b call) (outcomeOf b b (refused-by 5)) .said)
+    go true = sayable-lines _ _ _ _ _ _ _ (factsOf kind call .answer) (sayable-facts kind call)
     go false = refl
 
 -- ---- so every list has a run
-pub has-run : (calls : List Call) (b : Book) → (answers : List Answer) × FiledInTurn b calls answers (filedBook b calls)
+pub has-run : (kind : List Indicator) (calls : List Call) (b : Book) → (answers : List Answer) × FiledInTurn kind b calls answers (filedBook kind b calls)
 unfolding filedBook
-has-run [] b = ([], refl)
-has-run (call ∷ calls) b =
-    let later = has-run calls (file b call .book) in
-    (answerSaying (file b call .said) ∷ later .0, (file b call .book, (sayable-filed b call, refl), later .1))
+has-run kind [] b = ([], refl)
+has-run kind (call ∷ calls) b =
+    let later = has-run kind calls (fileAs kind b call .book) in
+    (answerSaying (fileAs kind b call .said) ∷ later .0, (fileAs kind b call .book, (sayable-filed kind b call, refl), later .1))

@@ -9,10 +9,11 @@ use Rattle.calls.specs.declared.Answer.{Answer}
 use Rattle.calls.specs.Limits.{operators, years, figureCount, weightLimit, longest}
 use Rattle.calls.specs.Masks.{has}
 use Rattle.calls.specs.Answers.{accepted, firstOf, Acceptance, said}
+use Rattle.calls.specs.Indicators.{some}
 use Rattle.calls.specs.Call.{Entry}
 use Rattle.book.specs.declared.Book.{Book}
 use Rattle.book.specs.Book.{withFigures, figureOf}
-use Rattle.ledger.specs.Table.{some, passesLimit, fallsBelow}
+use Rattle.ledger.specs.Table.{passesLimit, fallsBelow}
 use Rattle.ledger.specs.Calls.{Outcome, enterAll, outcomeOf}
 
 -- 4, 5 and 7 of a call that names a member

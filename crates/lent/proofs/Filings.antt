@@ -7,9 +7,12 @@ use denote.Struct.Laws as LL
 use denote.Steps.{only}
 use Rattle.calls.specs.declared.Call.{Call}
 use Rattle.calls.specs.declared.Call.the-variants.{Join, Setting, Interruption, Amount, Mark, Rates, Index}
-use Rattle.ledger.specs.Filed.{Files}
+use Rattle.calls.specs.Indicators.{Indicator}
+use Rattle.ledger.specs.Filed.{FilesAs}
 use Rattle.book.proofs.Book as B
 use Rattle.book.proofs.Book.Laws as B′
+use Rattle.calls.proofs.Call as C
+use Rattle.calls.proofs.Call.Laws as C′
 use Rattle.calls.proofs.Answer as N
 use Rattle.calls.proofs.Answer.Laws as N′
 use Rattle.bookkeeping.proofs.Answered as F
@@ -81,6 +84,10 @@ rates = record { params = u32 ∷ u32 ∷ []; call = λ xs. Rates (xs .0) (xs .1
 abbrev pub index : CallOf
 index = record { params = u8 ∷ u32 ∷ []; call = λ xs. Index (xs .0) (xs .1 .0) }
 
--- what each promises of its parameters
-abbrev pub FilesBy : (c : CallOf) → Promise filed (c .params)
-FilesBy c b xs a b′ = Files b (c .call xs) a b′
+-- any of them at hand as a value
+abbrev pub anyCall : CallOf
+anyCall = record { params = by-value (of-enum C.the-type C′.the-laws tt C′.the-plain C′.the-copy) ∷ []; call = λ xs. xs .0 }
+
+-- what each promises of its parameters, on a book of a kind
+abbrev pub FilesBy : List Indicator → (c : CallOf) → Promise filed (c .params)
+FilesBy kind c b xs a b′ = FilesAs kind b (c .call xs) a b′

@@ -6,7 +6,8 @@ use denote.Builtin.{u8}
 use denote.Ref.{now}
 use denote.Steps.{only}
 use denote.Struct.Laws as LL
-use Rattle.filing.specs.Reader.{reachedBy, read}
+use Rattle.calls.specs.Indicators.{Indicator}
+use Rattle.filing.specs.Reader.{reachedBy, readAs}
 use Rattle.filing.proofs.Progress as N
 use Rattle.filing.proofs.Progress.Laws as N′
 use Rattle.filing.proofs.Reading as F
@@ -37,6 +38,6 @@ reading = record {
 abbrev pub Bytes : List (Passed 1)
 Bytes = shared-slice u8 ∷ []
 
--- the book that is left, and what is told beside it, are what reading gives
-abbrev pub Reads : Promise reading Bytes
-Reads b xs progress b′ = reachedBy b′ progress ≡ read b (now (xs .0))
+-- the book that is left, and what is told beside it, are what reading gives, into a book of a kind
+abbrev pub Reads : List Indicator → Promise reading Bytes
+Reads kind b xs progress b′ = reachedBy b′ progress ≡ readAs kind b (now (xs .0))

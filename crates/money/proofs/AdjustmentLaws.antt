@@ -8,7 +8,7 @@ use lib.IntN.{pos, subℕ, natAbs}
 use lib.ListN.{getD}
 use Rattle.apportion.specs.Sum.{sum}
 use Rattle.book.specs.declared.Book.{Book}
-use Rattle.values.specs.Indicator.{Indicator}
+use Rattle.calls.specs.Indicators.{Indicator}
 use Rattle.values.proofs.Tables.{table-at}
 use Rattle.money.specs.Money.{limits, capped, balanced, adjustedBy, adjustments, sumℤ}
 use Rattle.money.proofs.DifferenceLaws.{none-left, difference-most, differences-sum, table-of}

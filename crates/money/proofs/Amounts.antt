@@ -7,11 +7,11 @@ use Prim.Native.Nat.{ℕ, _*_, _/_, _≤_, _<_}
 use native.Mathlib.Nat.{le-trans, mul-le-mul}
 use lib.ListN.{length, getD}
 use Rattle.book.specs.declared.Book.{Book}
-use Rattle.book.specs.Book.{settingOf, inRange}
+use Rattle.book.specs.Book.{settingOf, withinLimits}
 use Rattle.apportion.specs.Sum.{sum}
 use Rattle.apportion.proofs.Sums.{sum-bound}
 use Rattle.values.specs.Operators.{each, settingsOf}
-use Rattle.values.specs.Indicator.{Indicator}
+use Rattle.calls.specs.Indicators.{Indicator}
 use Rattle.indicators.specs.Points.{allPoints}
 use Rattle.money.specs.Money.{pot, limits, capped, balanced}
 use Rattle.values.proofs.Tables.{length-each, each-at, each-same}
@@ -40,11 +40,11 @@ module _ (more less limit : List ℕ) (bounded : (k : ℕ) → k < 16 → getD l
   balanced-le other k lt = le-trans (balanced-within (capped more less limit) other k (rw (capped-length more less limit) lt)) (cut-le k lt)
 
 -- the pot and the limits of a book in range
-pub pot-most : (b : Book) → inRange b ≡ true → pot b ≤ potMost
+pub pot-most : (b : Book) → withinLimits b ≡ true → pot b ≤ potMost
 unfolding pot
 pot-most b ranged = pot-le (b .«pot_rate») (settingsOf b 2) (pot-rate-le b ranged) (incomes-most b ranged) (length-each _)
 
-pub limit-most : (b : Book) → inRange b ≡ true → (k : ℕ) → k < 16 → getD (limits b) k 0 ≤ limitMost
+pub limit-most : (b : Book) → withinLimits b ≡ true → (k : ℕ) → k < 16 → getD (limits b) k 0 ≤ limitMost
 unfolding limits
 limit-most b ranged k lt =
     rw (each-at (λ (operator : ℕ). b .«cap_rate» * settingOf b operator 2 / 1000000) k lt)

@@ -9,7 +9,7 @@ use lib.ListN.{length, getD}
 use Rattle.calls.specs.Limits.{operators, rateLimit}
 use mathlib.Core.List.{List}
 use Rattle.book.specs.declared.Book.{Book}
-use Rattle.book.specs.Book.{settingOf, inRange}
+use Rattle.book.specs.Book.{settingOf, withinLimits}
 use Rattle.apportion.specs.Sum.{sum}
 use Rattle.apportion.proofs.Sums.{sum-bound}
 use Rattle.values.specs.Bounds.{accessLimit, incomeLimit, potMost, limitMost}
@@ -42,8 +42,8 @@ module _ (rate : ℕ) (incomes : List ℕ) (small : rate ≤ rateLimit) (below :
   limit-le k = omega (arith, limit-product-le k)
 
 -- columns of a book in range
-pub access-most : (b : Book) → inRange b ≡ true → (k : ℕ) → getD (settingsOf b 1) k 0 ≤ accessLimit
+pub access-most : (b : Book) → withinLimits b ≡ true → (k : ℕ) → getD (settingsOf b 1) k 0 ≤ accessLimit
 access-most b ranged = each-le _ _ (λ k lt. access-le b ranged k lt)
 
-pub incomes-most : (b : Book) → inRange b ≡ true → (k : ℕ) → getD (settingsOf b 2) k 0 ≤ incomeLimit
+pub incomes-most : (b : Book) → withinLimits b ≡ true → (k : ℕ) → getD (settingsOf b 2) k 0 ≤ incomeLimit
 incomes-most b ranged = each-le _ _ (λ k lt. income-le b ranged k lt)

@@ -12,7 +12,7 @@ use Rattle.book.specs.Book.{settingOf}
 use Rattle.apportion.specs.Sum.{sum}
 use Rattle.apportion.specs.Share.{share}
 use Rattle.values.specs.Operators.{table, each, settingsOf}
-use Rattle.values.specs.Indicator.{Indicator}
+use Rattle.calls.specs.Indicators.{Indicator}
 use Rattle.indicators.specs.Points.{allPoints}
 
 -- "Pot = pot rate × (sum of incomes) / 1,000,000, rounded down"; access points are setting 1, income is setting 2

@@ -9,32 +9,33 @@ use borrow.Author.Tests.{lt-ltb, le-ltb}
 use Rattle.calls.specs.declared.Refusal.{Refusal}
 use Rattle.calls.specs.declared.Answer.{Answer}
 use Rattle.calls.specs.declared.Answer.the-variants.{Refused}
+use Rattle.calls.specs.Indicators.{Indicator}
 use Rattle.calls.specs.Answers.{refused-by, onAnswer, isRefused, numberOf, said}
 use Rattle.calls.proofs.SaidLaws.{otherwise-given}
 use Rattle.book.specs.declared.Book.{Book}
 use Rattle.book.specs.Book.{freshBook}
 use Rattle.filing.specs.declared.Reading.{Reading}
-use Rattle.filing.specs.Reader.{Reached, read, told}
+use Rattle.filing.specs.Reader.{Reached, readAs, told}
 use Rattle.text.specs.Text.{bytesOf}
 use Rattle.text.specs.Buffer.{putInto}
-use Rattle.output.specs.Output.{refusedField, readingText, printedOf}
+use Rattle.output.specs.Output.{refusedField, readingText, printedAs}
 
 -- a program that prints a text of the book
-module _ (text : Book → List ℕ) (filing : List ℕ) where
-  pub printed-long : 65536 < length filing → bytesOf "too long\n" ≡ printedOf text filing
-  unfolding printedOf
+module _ (kind : List Indicator) (text : Book → List ℕ) (filing : List ℕ) where
+  pub printed-long : 65536 < length filing → bytesOf "too long\n" ≡ printedAs kind text filing
+  unfolding printedAs
   printed-long long = rw (lt-ltb 65536 (length filing) long) refl
 
   module _ (short : length filing ≤ 65536) where
-    pub printed-refused : (number : ℕ) → read freshBook filing .said ≡ refused-by number
-        → refusedField number (read freshBook filing .offset) ≡ printedOf text filing
-    unfolding printedOf readingText onAnswer
+    pub printed-refused : (number : ℕ) → readAs kind freshBook filing .said ≡ refused-by number
+        → refusedField number (readAs kind freshBook filing .offset) ≡ printedAs kind text filing
+    unfolding printedAs readingText onAnswer
     printed-refused number refused = rw (le-ltb 65536 (length filing) short, refused) refl
 
-    pub printed-read : isRefused (read freshBook filing .said) ≡ false → text (read freshBook filing .book) ≡ printedOf text filing
-    unfolding printedOf readingText
+    pub printed-read : isRefused (readAs kind freshBook filing .said) ≡ false → text (readAs kind freshBook filing .book) ≡ printedAs kind text filing
+    unfolding printedAs readingText
     printed-read fine =
-        let r : Reached = read freshBook filing in
+        let r : Reached = readAs kind freshBook filing in
         rw (
           le-ltb 65536 (length filing) short,
           otherwise-given (λ (number : ℕ). refusedField number (r .offset)) (text (r .book)) (r .said) fine,
@@ -42,14 +43,14 @@ module _ (text : Book → List ℕ) (filing : List ℕ) where
         refl
 
     -- by what reading gave
-    module _ (reading : Reading) (same : told reading ≡ read freshBook filing) where
+    module _ (reading : Reading) (same : told reading ≡ readAs kind freshBook filing) where
       pub at-field : {answer : Answer} (refusal : Refusal) (number : ℕ) → reading .progress .answer ≡ answer → answer ≡ Refused refusal → number ≡ numberOf refusal
-          → refusedField number (reading .progress .offset) ≡ printedOf text filing
+          → refusedField number (reading .progress .offset) ≡ printedAs kind text filing
       at-field refusal number is refused given =
           (λ i. refusedField (given i) (same i .offset))
           ∙ printed-refused (numberOf refusal) (ap (λ (r : Reached). r .said) (sym same) ∙ ap said (is ∙ refused))
 
-      pub at-end : isRefused (said (reading .progress .answer)) ≡ false → text (reading .book) ≡ printedOf text filing
+      pub at-end : isRefused (said (reading .progress .answer)) ≡ false → text (reading .book) ≡ printedAs kind text filing
       at-end fine = ap (λ (r : Reached). text (r .book)) same ∙ printed-read (ap (λ (r : Reached). isRefused (r .said)) (sym same) ∙ fine)
 
 -- a text at the front of a buffer is another that it is equal to

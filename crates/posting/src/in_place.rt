@@ -1,8 +1,12 @@
 // The seven filing calls on the parts of a book that each changes, lent and altered in place; a refused call leaves them. Each refuses in
-// the order of the table: 4, 5, 6 or 7, then 8 and 9.
+// the order of the table: 2, 4, 5, 6 or 7, then 8 and 9.
 ghost use mathlib.Core.Path.{_≡_};
-ghost use Prim.Native.Nat.{_<_};
-ghost use Rattle.calls.specs.Limits.{operators};
+ghost use mathlib.Core.Bool.{cond};
+ghost use Prim.Native.Nat.{_<_, _≤_};
+ghost use lib.ListN.{length};
+ghost use Rattle.calls.specs.Limits.{operators, indicatorCount};
+ghost use Rattle.calls.specs.Masks.{including};
+ghost use Rattle.calls.specs.Indicators.{indicatorsOf};
 ghost use Rattle.calls.specs.Answers.{firstOf};
 ghost use Rattle.ledger.specs.Calls.{unattested};
 ghost use Rattle.ledger.specs.Steps.{memberLines};
@@ -14,6 +18,7 @@ use calls::Call;
 use calls::FIGURE_PLACES;
 use calls::INDICATORS;
 use calls::INDICES;
+use calls::Kind;
 use calls::LAST_OPERATOR;
 use calls::Refusal;
 use calls::SETTING_PLACES;
@@ -26,6 +31,8 @@ use calls::mark_in_range;
 use calls::rates_in_range;
 use calls::remask;
 use calls::setting_in_range;
+use calls::takes_interruptions;
+use calls::takes_mark;
 use judging::Judged;
 use judging::count_figure;
 use judging::judge;
@@ -34,8 +41,8 @@ use judging::year_of;
 use ledger::enter;
 use ledger::enter_counted;
 
-pub fn join(joined: &mut u16, marks: &mut [u16; INDICATORS], operator: u8) -> Answer
-    ensures { λ r. ⌜ OnMarks (now (joined .entry)) (now (marks .entry)) (Call.Join operator) r (now (joined .exit)) (now (marks .exit)) ⌝ }
+pub fn join(kind: Kind, joined: &mut u16, marks: &mut [u16; INDICATORS], operator: u8) -> Answer
+    ensures { λ r. ⌜ OnMarks (indicatorsOf kind) (now (joined .entry)) (now (marks .entry)) (Call.Join operator) r (now (joined .exit)) (now (marks .exit)) ⌝ }
 {
     if LAST_OPERATOR < operator {
         return Answer::Refused(Refusal::UnknownOperator);
@@ -44,22 +51,33 @@ pub fn join(joined: &mut u16, marks: &mut [u16; INDICATORS], operator: u8) -> An
         return Answer::Refused(Refusal::AlreadyJoined);
     }
     *joined = include_bit(*joined, operator);
-    mark_unattested(marks, operator);
+    mark_unattested(kind, marks, operator);
     Answer::Yes
 }
 
-// No attestation is in when an operator joins: its mark is set at every indicator.
-fn mark_unattested(marks: &mut [u16], operator: u8)
-    requires { ⌜ operator < operators ⌝ }
-    ensures { λ r. ⌜ now (marks .exit) ≡ unattested (now (marks .entry)) operator ⌝ }
+// No attestation is in when an operator joins: its mark is set at every indicator of the kind.
+fn mark_unattested(kind: Kind, marks: &mut [u16], operator: u8)
+    requires { ⌜ (operator < operators) × (length (now marks) ≤ indicatorCount) ⌝ }
+    ensures { λ r. ⌜ now (marks .exit) ≡ unattested (indicatorsOf kind) (now (marks .entry)) operator ⌝ }
 {
     let mut indicator = 0;
     while indicator < marks.len() {
         let mask = marks[indicator];
-        let marked = include_bit(mask, operator);
+        let marked = mark_newcomer(mask, operator, takes_mark(kind, indicator as u8));
         marks[indicator] = marked;
         indicator += 1;
     }
+}
+
+// A mask with an operator's mark set, if the indicator is one of its kind.
+fn mark_newcomer(mask: u16, operator: u8, taken: bool) -> u16
+    requires { ⌜ operator < operators ⌝ }
+    ensures { λ r. ⌜ r ≡ cond taken (including mask operator) mask ⌝ }
+{
+    if taken {
+        return include_bit(mask, operator);
+    }
+    mask
 }
 
 // The checks that setting, interruption, amount, mark and a yearly sheet share: 4, 5 and 7, in the order of the table.
@@ -69,26 +87,32 @@ pub fn admit(joined: u16, operator: u8, valid: bool) -> Admission
     if LAST_OPERATOR < operator {
         return Admission::Refused(Refusal::UnknownOperator);
     }
+    let member = has_bit(joined, operator);
     if !valid {
         return Admission::Refused(Refusal::OutOfRange);
     }
-    if !has_bit(joined, operator) {
+    if !member {
         return Admission::Refused(Refusal::NotJoined);
     }
     Admission::Admitted
 }
 
-// Which: 0 cabins, 1 active access points, 2 income.
+// Which: 1 active access points, 2 income, else the cabins of a year.
 pub fn setting(
+    kind: Kind,
     joined: u16,
     settings: &mut [u64; SETTING_PLACES],
     operator: u8,
     which: u8,
     value: u64,
 ) -> Answer
-    ensures { λ r. ⌜ OnSettings joined (now (settings .entry)) (Call.Setting operator which value) r (now (settings .exit)) ⌝ }
+    ensures { λ r. ⌜ OnSettings (indicatorsOf kind) joined (now (settings .entry)) (Call.Setting operator which value) r (now (settings .exit)) ⌝ }
 {
-    if let Admission::Refused(refusal) = admit(joined, operator, setting_in_range(which, value)) {
+    if let Admission::Refused(refusal) = admit(
+        joined,
+        operator,
+        setting_in_range(kind, which, value),
+    ) {
         return Answer::Refused(refusal);
     }
     let at = setting_slot(operator, which);
@@ -98,6 +122,7 @@ pub fn setting(
 
 // Level: 0 MV, 1 LV. One that is left out is counted, too.
 pub fn interruption(
+    kind: Kind,
     joined: u16,
     figures: &mut [u64; FIGURE_PLACES],
     operator: u8,
@@ -108,8 +133,11 @@ pub fn interruption(
     end: i64,
     weight: u32,
 ) -> Answer
-    ensures { λ r. ⌜ OnFigures joined (now (figures .entry)) (Call.Interruption operator sign level cause start end weight) r (now (figures .exit)) ⌝ }
+    ensures { λ r. ⌜ OnFigures (indicatorsOf kind) joined (now (figures .entry)) (Call.Interruption operator sign level cause start end weight) r (now (figures .exit)) ⌝ }
 {
+    if !takes_interruptions(kind) {
+        return Answer::Refused(Refusal::UnknownTag);
+    }
     let valid = interruption_in_range(sign, level, cause, start, end, weight);
     if let Admission::Refused(refusal) = admit(joined, operator, valid) {
         return Answer::Refused(refusal);
@@ -128,6 +156,7 @@ pub fn interruption(
 
 // Sign: 0 file, 1 withdraw.
 pub fn amount(
+    kind: Kind,
     joined: u16,
     figures: &mut [u64; FIGURE_PLACES],
     operator: u8,
@@ -136,12 +165,12 @@ pub fn amount(
     sign: u8,
     value: u64,
 ) -> Answer
-    ensures { λ r. ⌜ OnFigures joined (now (figures .entry)) (Call.Amount operator year figure sign value) r (now (figures .exit)) ⌝ }
+    ensures { λ r. ⌜ OnFigures (indicatorsOf kind) joined (now (figures .entry)) (Call.Amount operator year figure sign value) r (now (figures .exit)) ⌝ }
 {
     if let Admission::Refused(refusal) = admit(
         joined,
         operator,
-        amount_in_range(year, figure, sign),
+        amount_in_range(kind, year, figure, sign),
     ) {
         return Answer::Refused(refusal);
     }
@@ -150,15 +179,20 @@ pub fn amount(
 
 // Mark: 1 unreliable, 0 not.
 pub fn mark_indicator(
+    kind: Kind,
     joined: u16,
     marks: &mut [u16; INDICATORS],
     operator: u8,
     indicator: u8,
     mark: u8,
 ) -> Answer
-    ensures { λ r. ⌜ OnMarks joined (now (marks .entry)) (Call.Mark operator indicator mark) r joined (now (marks .exit)) ⌝ }
+    ensures { λ r. ⌜ OnMarks (indicatorsOf kind) joined (now (marks .entry)) (Call.Mark operator indicator mark) r joined (now (marks .exit)) ⌝ }
 {
-    if let Admission::Refused(refusal) = admit(joined, operator, mark_in_range(indicator, mark)) {
+    if let Admission::Refused(refusal) = admit(
+        joined,
+        operator,
+        mark_in_range(kind, indicator, mark),
+    ) {
         return Answer::Refused(refusal);
     }
     let at = indicator as usize;

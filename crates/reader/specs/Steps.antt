@@ -3,6 +3,8 @@
 use Prim.Native.Nat.{ℕ, _+_, _≤_}
 use mathlib.Core.Path.{_≡_}
 use mathlib.Core.Bool.{Bool, true, false, cond}
+use mathlib.Core.List.{List}
+use Rattle.calls.specs.Indicators.{Indicator}
 use Rattle.calls.specs.Answers.{Said, refused-by, accepted, onAnswer, isRefused, Acceptance, yes-said}
 use Rattle.book.specs.declared.Book.{Book}
 use Rattle.book.specs.Book.{inRange}
@@ -20,10 +22,10 @@ pub record Turned : Type 0 where
 abbrev pub toldTurn : Book → Turn → Turned
 toldTurn b turn = record { reached = reachedBy b (turn .progress); continues = turn .continues }
 
--- what a step asks of a reading: no more fields than bytes, and a book in range
-pub record Ready (r : Reached) : Type 0 where
+-- what a step asks of a reading: no more fields than bytes, and a book in the range of the kind
+pub record Ready (kind : List Indicator) (r : Reached) : Type 0 where
   pub counted : r .applied ≤ r .offset
-  pub ranged : inRange (r .book) ≡ true
+  pub ranged : inRange kind (r .book) ≡ true
 
 -- the end, or a field that is refused by its bytes or by its call
 unfoldable pub stopped : Reached → Said Acceptance → Turned
@@ -35,9 +37,9 @@ advanced r next given =
     cond (isRefused (given .said)) (stopped r (given .said))
     (record { reached = reading (given .book) (r .applied + 1) next (given .said); continues = true })
 
-unfoldable pub steppedOn : Reached → Found → Turned
-steppedOn r at-end = stopped r (accepted yes-said)
-steppedOn r (call-then call next) = advanced r next (apply (r .book) call)
+unfoldable pub steppedOn : List Indicator → Reached → Found → Turned
+steppedOn kind r at-end = stopped r (accepted yes-said)
+steppedOn kind r (call-then call next) = advanced r next (apply kind (r .book) call)
 
-unfoldable pub stepped : Reached → Said Found → Turned
-stepped r found = onAnswer (λ (number : ℕ). stopped r (refused-by number)) (steppedOn r) found
+unfoldable pub stepped : List Indicator → Reached → Said Found → Turned
+stepped kind r found = onAnswer (λ (number : ℕ). stopped r (refused-by number)) (steppedOn kind r) found

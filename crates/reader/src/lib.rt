@@ -4,12 +4,13 @@ ghost use mathlib.Core.Path.{_≡_};
 ghost use mathlib.Core.Bool.{true};
 ghost use Prim.Native.Nat.{_<_};
 ghost use Rattle.calls.specs.Answers.{isRefused, said};
+ghost use Rattle.calls.specs.Indicators.{indicatorsOf};
 ghost use Rattle.book.specs.declared.Book.{Book as Declared·Book};
 ghost use Rattle.book.specs.Book.{inRange};
 ghost use Rattle.book.specs.Steps.{lentBook, BeforeAndAfter};
 ghost use Rattle.ledger.specs.Calls.{apply as Calls·apply};
-ghost use Rattle.fields.specs.Field.{fieldAt};
-ghost use Rattle.filing.specs.Reader.{reachedBy, told, readFrom};
+ghost use Rattle.fields.specs.Field.{fieldIn};
+ghost use Rattle.filing.specs.Reader.{reachedBy, told, readFromAs, readFrom, readFromGas, readGas};
 ghost use Rattle.reader.specs.Steps.{Ready, toldTurn, stopped, advanced, stepped};
 use book::Book;
 use book::in_range;
@@ -19,10 +20,11 @@ use calls::Call;
 use calls::FIGURE_PLACES;
 use calls::INDICATORS;
 use calls::INDICES;
+use calls::Kind;
 use calls::Refusal;
 use calls::SETTING_PLACES;
 use fields::Field;
-use fields::field_at;
+use fields::field_in;
 use filing::Progress;
 use filing::Reading;
 
@@ -32,10 +34,31 @@ struct Turn {
     continues: bool,
 }
 
+// Into a book of electricity.
 pub fn read_from(b: Book, bytes: &[u8], at: usize) -> Reading
     ensures { λ r. ⌜ told r ≡ readFrom b (now (bytes .entry)) at ⌝ }
 {
-    if !in_range(b) {
+    read_from_as(Kind::Electricity, b, bytes, at)
+}
+
+// Into a book of gas.
+pub fn read_from_gas(b: Book, bytes: &[u8], at: usize) -> Reading
+    ensures { λ r. ⌜ told r ≡ readFromGas b (now (bytes .entry)) at ⌝ }
+{
+    read_from_as(Kind::Gas, b, bytes, at)
+}
+
+// A whole filing of gas.
+pub fn read_gas(b: Book, bytes: &[u8]) -> Reading
+    ensures { λ r. ⌜ told r ≡ readGas b (now (bytes .entry)) ⌝ }
+{
+    read_from_gas(b, bytes, 0)
+}
+
+fn read_from_as(kind: Kind, b: Book, bytes: &[u8], at: usize) -> Reading
+    ensures { λ r. ⌜ told r ≡ readFromAs (indicatorsOf kind) b (now (bytes .entry)) at ⌝ }
+{
+    if !in_range(kind, b) {
         let progress = Progress {
             applied: 0,
             offset: at,
@@ -43,13 +66,13 @@ pub fn read_from(b: Book, bytes: &[u8], at: usize) -> Reading
         };
         return Reading { book: b, progress };
     }
-    read_fields(b, bytes, at)
+    read_fields(kind, b, bytes, at)
 }
 
 // The fields of a filing, into a book in range.
-fn read_fields(b: Book, bytes: &[u8], at: usize) -> Reading
-    requires { ⌜ inRange b ≡ true ⌝ }
-    ensures { λ r. ⌜ told r ≡ readFrom b (now (bytes .entry)) at ⌝ }
+fn read_fields(kind: Kind, b: Book, bytes: &[u8], at: usize) -> Reading
+    requires { ⌜ inRange (indicatorsOf kind) b ≡ true ⌝ }
+    ensures { λ r. ⌜ told r ≡ readFromAs (indicatorsOf kind) b (now (bytes .entry)) at ⌝ }
 {
     let mut joined = b.joined;
     let mut marks = b.marks;
@@ -70,6 +93,7 @@ fn read_fields(b: Book, bytes: &[u8], at: usize) -> Reading
     while turn.continues {
         let reached = turn.progress;
         turn = step(
+            kind,
             &mut joined,
             &mut marks,
             &mut settings,
@@ -96,6 +120,7 @@ fn read_fields(b: Book, bytes: &[u8], at: usize) -> Reading
 
 // The field at the offset.
 fn step(
+    kind: Kind,
     joined: &mut u16,
     marks: &mut [u16; INDICATORS],
     settings: &mut [u64; SETTING_PLACES],
@@ -106,11 +131,12 @@ fn step(
     reached: Progress,
     bytes: &[u8],
 ) -> Turn
-    requires { ⌜ Ready (reachedBy (lentBook joined marks settings figures «pot_rate» «cap_rate» indices) reached) ⌝ }
-    ensures { λ r. ⌜ BeforeAndAfter joined marks settings figures «pot_rate» «cap_rate» indices (λ before after. toldTurn after r ≡ stepped (reachedBy before reached) (fieldAt (now (bytes .entry)) (reached .offset))) ⌝ }
+    requires { ⌜ Ready (indicatorsOf kind) (reachedBy (lentBook joined marks settings figures «pot_rate» «cap_rate» indices) reached) ⌝ }
+    ensures { λ r. ⌜ BeforeAndAfter joined marks settings figures «pot_rate» «cap_rate» indices (λ before after. toldTurn after r ≡ stepped (indicatorsOf kind) (reachedBy before reached) (fieldIn (indicatorsOf kind) (now (bytes .entry)) (reached .offset))) ⌝ }
 {
-    match field_at(bytes, reached.offset) {
+    match field_in(kind, bytes, reached.offset) {
         Field::CallThen { filing_call, next } => advance(
+            kind,
             joined,
             marks,
             settings,
@@ -129,6 +155,7 @@ fn step(
 
 // A call applied; one that is refused leaves the book, the number applied and the offset.
 fn advance(
+    kind: Kind,
     joined: &mut u16,
     marks: &mut [u16; INDICATORS],
     settings: &mut [u64; SETTING_PLACES],
@@ -140,10 +167,11 @@ fn advance(
     filing_call: Call,
     next: usize,
 ) -> Turn
-    requires { ⌜ (reached .applied < next) × (inRange (lentBook joined marks settings figures «pot_rate» «cap_rate» indices) ≡ true) ⌝ }
-    ensures { λ r. ⌜ BeforeAndAfter joined marks settings figures «pot_rate» «cap_rate» indices (λ before after. toldTurn after r ≡ advanced (reachedBy before reached) next (Calls·apply before «filing_call»)) ⌝ }
+    requires { ⌜ (reached .applied < next) × (inRange (indicatorsOf kind) (lentBook joined marks settings figures «pot_rate» «cap_rate» indices) ≡ true) ⌝ }
+    ensures { λ r. ⌜ BeforeAndAfter joined marks settings figures «pot_rate» «cap_rate» indices (λ before after. toldTurn after r ≡ advanced (reachedBy before reached) next (Calls·apply (indicatorsOf kind) before «filing_call»)) ⌝ }
 {
     let answer = apply_in(
+        kind,
         joined,
         marks,
         settings,

@@ -1,17 +1,29 @@
-// A filing call: printed, and done by its own function, by value or with the book lent.
+// A filing call: printed, and done by its own function, by value or with the book lent. Those of gas are in `gas_routes`.
+use crate::gas_routes;
 use book::Book;
 use bookkeeping::Answered;
 use calls::Call;
+use calls::Kind;
 use lent::held;
 use printing::arguments;
 use printing::print::answered;
 
-pub(crate) fn filed(b: Book, lends: bool, filing_call: Call) -> Book {
+pub(crate) fn filed(kind: Kind, b: Book, lends: bool, filing_call: Call) -> Book {
     arguments::print(filing_call);
     if lends {
-        return told(lent(b, filing_call));
+        return told(
+            match kind {
+                Kind::Electricity => lent(b, filing_call),
+                Kind::Gas => gas_routes::lent(b, filing_call),
+            },
+        );
     }
-    told(by_value(b, filing_call))
+    told(
+        match kind {
+            Kind::Electricity => by_value(b, filing_call),
+            Kind::Gas => gas_routes::by_value(b, filing_call),
+        },
+    )
 }
 
 fn told(after: Answered) -> Book {

@@ -1,5 +1,6 @@
 // Shows a whole book, or its whole settlement, on one line: a list has a place and a value for each that is not 0.
 use book::Book;
+use calls::Kind;
 use printing::print::answered;
 use printing::print::equals;
 use printing::print::list;
@@ -30,8 +31,11 @@ fn lists(b: Book) {
     list(&figures);
 }
 
-pub(crate) fn settled(b: Book) -> Book {
-    let s = settlement::settle(b);
+pub(crate) fn settled(kind: Kind, b: Book) -> Book {
+    let s = match kind {
+        Kind::Electricity => settlement::settle(b),
+        Kind::Gas => settlement::settle_gas(b),
+    };
     let answer = s.answer;
     answered(answer);
     let numbers = s.settlement;

@@ -9,30 +9,30 @@ use Rattle.book.specs.declared.Book.{Book}
 use Rattle.calls.specs.Answers.{refused-by, accepted, onAnswer, isRefused, yes-said}
 use Rattle.calls.specs.Laws.{risesFrom, Lowest}
 use Rattle.calls.proofs.Lowest.{lowest, only-value, first-refuses, first-passes}
-use Rattle.values.specs.Indicator.{electricity}
-use Rattle.settlement.specs.Settlement.{settlingLines, settledBy, settled}
+use Rattle.calls.specs.Indicators.{Indicator}
+use Rattle.settlement.specs.Settlement.{settlingLines, settledBy}
 use Rattle.text.specs.Buffer.{tooShort, bufferAfter, fitting}
-use Rattle.report.specs.Report.{textOf, reportLines, reportAnswer, reportBuffer}
+use Rattle.report.specs.Report.{textAs, reportingLines, reportingAnswer, reportingBuffer}
 
-pub lowest-of-reports : (b : Book) (buffer : List ℕ) → Lowest (reportLines b buffer) (length (textOf b))
-unfolding risesFrom reportLines settlingLines
-lowest-of-reports b buffer = lowest (length (textOf b)) (reportLines b buffer) refl
+pub lowest-of-reports : (kind : List Indicator) (b : Book) (buffer : List ℕ) → Lowest (reportingLines kind b buffer) (length (textAs kind b))
+unfolding risesFrom reportingLines settlingLines
+lowest-of-reports kind b buffer = lowest (length (textAs kind b)) (reportingLines kind b buffer) refl
 
-module _ (b : Book) where
+module _ (kind : List Indicator) (b : Book) where
   -- settling that does not refuse says yes
-  pub settled-yes : isRefused (settled b .said) ≡ false → settled b .said ≡ accepted yes-said
-  unfolding settled settledBy
-  settled-yes fine = only-value (settlingLines b electricity) yes-said fine
+  pub settled-yes : isRefused (settledBy b kind .said) ≡ false → settledBy b kind .said ≡ accepted yes-said
+  unfolding settledBy
+  settled-yes fine = only-value (settlingLines b kind) yes-said fine
 
   module _ (buffer : List ℕ) where
-    pub report-accepted : settled b .said ≡ accepted yes-said
-        → (fitting buffer (textOf b) ≡ reportAnswer b buffer) × (bufferAfter buffer (textOf b) (fitting buffer (textOf b)) ≡ reportBuffer b buffer)
-    unfolding settled settledBy reportAnswer reportBuffer reportLines fitting
+    pub report-accepted : settledBy b kind .said ≡ accepted yes-said
+        → (fitting buffer (textAs kind b) ≡ reportingAnswer kind b buffer) × (bufferAfter buffer (textAs kind b) (fitting buffer (textAs kind b)) ≡ reportingBuffer kind b buffer)
+    unfolding settledBy reportingAnswer reportingBuffer reportingLines fitting
     report-accepted fine =
-        rw (first-passes ((13, tooShort buffer (textOf b)) ∷ []) (length (textOf b)) yes-said (settlingLines b electricity) fine) (refl, refl)
+        rw (first-passes ((13, tooShort buffer (textAs kind b)) ∷ []) (length (textAs kind b)) yes-said (settlingLines b kind) fine) (refl, refl)
 
-    pub report-refused : (number : ℕ) → settled b .said ≡ refused-by number
-        → (refused-by number ≡ reportAnswer b buffer) × (buffer ≡ reportBuffer b buffer)
-    unfolding settled settledBy reportAnswer reportBuffer reportLines bufferAfter onAnswer
+    pub report-refused : (number : ℕ) → settledBy b kind .said ≡ refused-by number
+        → (refused-by number ≡ reportingAnswer kind b buffer) × (buffer ≡ reportingBuffer kind b buffer)
+    unfolding settledBy reportingAnswer reportingBuffer reportingLines bufferAfter onAnswer
     report-refused number refused =
-        rw (first-refuses ((13, tooShort buffer (textOf b)) ∷ []) (length (textOf b)) yes-said (settlingLines b electricity) number refused) (refl, refl)
+        rw (first-refuses ((13, tooShort buffer (textAs kind b)) ∷ []) (length (textAs kind b)) yes-said (settlingLines b kind) number refused) (refl, refl)

@@ -10,26 +10,25 @@ use lib.IntN.{pos}
 use lib.ListN.{length, getD, length-append}
 use Rattle.calls.specs.Answers.{accepted, yes-said}
 use Rattle.book.specs.declared.Book.{Book}
-use Rattle.book.specs.Book.{isJoined, inRange}
+use Rattle.book.specs.Book.{isJoined, withinLimits}
 use Rattle.apportion.specs.Sum.{sum}
-use Rattle.apportion.specs.Share.{share}
 use Rattle.apportion.proofs.Sums.{sum-append, sum-bound, element-le}
-use Rattle.apportion.proofs.Shared.{shared}
-use Rattle.values.specs.Indicator.{Indicator, electricity, numbered, reliableMask, scores, pool}
-use Rattle.indicators.specs.Points.{weights, points, pointsOfAll}
-use Rattle.indicators.proofs.WeightLaws.{weights-length}
+use Rattle.calls.specs.declared.Kind.{Kind}
+use Rattle.calls.specs.Indicators.{indicatorsOf}
+use Rattle.indicators.specs.Points.{pointsNumbered, rows, pointsOfAll}
+use Rattle.indicators.proofs.NumberLaws.{numbered-length}
 use Rattle.settlement.specs.declared.Settlement.{Settlement}
-use Rattle.settlement.specs.Settlement.{settlementBy, settled}
+use Rattle.settlement.specs.Settlement.{settlementBy, settledBy}
 use Rattle.settlement.specs.Laws.{Settles, Balanced}
 use Rattle.calls.specs.Limits.{operators, indicatorCount}
 use Rattle.values.specs.Bounds.{poolMost}
 use Rattle.money.proofs.Amounts.{pot-most, limit-most}
-use Rattle.gathering.proofs.Gathering.{share-le, pool-le}
-use Rattle.settlement.proofs.SettledLaws.{worth-electricity, settles-exactly, settles-ranged, settled-so, balanced-if-settles}
+use Rattle.gathering.proofs.Gathering.{numbered-le}
+use Rattle.settlement.proofs.SettledLaws.{worth-kind, settles-exactly, settles-within, settled-so, balanced-if-settles}
 use Rattle.text.specs.Text.{bytesOf, decimal}
 use Rattle.columns.specs.Columns.{line, pointsOfOperator}
 use Rattle.lines.specs.Lines.{header, operatorLine, operatorLines, lastLine, printed}
-use Rattle.report.specs.Report.{textOf}
+use Rattle.report.specs.Report.{textAs}
 use Rattle.lines.specs.Lines.{Printable}
 use Rattle.text.proofs.DigitLaws.{decimal-length, signed-length}
 use Rattle.columns.proofs.SumLaws.{points-most}
@@ -90,63 +89,42 @@ module _ (b : Book) (s : Settlement) (printable : Printable s) where
       rw (length-append (header ++ operatorLines b s 16) (lastLine s), length-append header (operatorLines b s 16))
       (omega (arith, header-length, operators-length 16 (omega arith), last-length))
 
--- shares add up to at most as many times the total as there are
-shares-le : (T : ℕ) (list : List ℕ) → length list ≡ 16 → sum (share T list) ≤ 16 * T
-shares-le T list long = rw (shared T list .long, long) at (sum-bound (share T list) T (λ k lt. share-le T list k))
+-- the points of a kind stay below a bound
+module _ (b : Book) (kind : Kind) where
+  row-le : (number : ℕ) → number < indicatorCount → sum (pointsNumbered b (indicatorsOf kind) number) ≤ operators * poolMost
+  row-le number lt =
+      rw (numbered-length b (indicatorsOf kind) number) at (sum-bound (pointsNumbered b (indicatorsOf kind) number) poolMost (λ k inside. numbered-le b kind number lt k))
 
-six-indicators : length electricity ≡ indicatorCount
-unfolding electricity
-six-indicators = refl
+  rows-le : (n : ℕ) → n ≤ indicatorCount → sum (rows n (pointsNumbered b (indicatorsOf kind))) ≤ n * (operators * poolMost)
+  unfolding rows sum
+  rows-le zero le = omega arith
+  rows-le (suc n) le = rw (sum-append, suc-mul) (omega (arith, rows-le n (omega arith), row-le n (omega arith)))
 
-module _ (b : Book) where
-  -- indicators whose pools stay below a bound
-  Modest : List Indicator → Type 0
-  Modest [] = Unit {0}
-  Modest (indicator ∷ rest) = (pool b indicator ≤ poolMost) × Modest rest
+  module _ (accepted : settledBy b (indicatorsOf kind) .said ≡ accepted yes-said) where
+    settles : Settles b (indicatorsOf kind)
+    settles = settles-exactly b (indicatorsOf kind) .1 accepted
 
-  all-points-le : (indicators : List Indicator) → Modest indicators → sum (pointsOfAll b indicators) ≤ length indicators * (operators * poolMost)
-  unfolding Modest pointsOfAll points sum
-  all-points-le [] modest = omega arith
-  all-points-le (indicator ∷ rest) modest =
-      let list : List ℕ = weights (indicator .measure) (reliableMask b indicator) (scores b indicator) in
-      let shares = shares-le (pool b indicator) list (weights-length (indicator .measure) (reliableMask b indicator) (scores b indicator)) in
-      rw (sum-append, suc-mul) (omega (arith, shares, modest .0, all-points-le rest (modest .1)))
+    within : withinLimits b ≡ true
+    within = settles-within b (indicatorsOf kind) settles
 
-  modest-electricity : Modest electricity
-  unfolding Modest electricity numbered
-  modest-electricity =
-      (pool-le b 0 (omega arith), (pool-le b 1 (omega arith), (pool-le b 2 (omega arith), (pool-le b 3 (omega arith), (pool-le b 4 (omega arith), (pool-le b 5 (omega arith), tt))))))
+    balanced : Balanced b (settlementBy b (indicatorsOf kind))
+    balanced = rw (settled-so b (indicatorsOf kind) settles) at (balanced-if-settles b (indicatorsOf kind) (worth-kind kind) settles)
 
-  module _ (accepted : settled b .said ≡ accepted yes-said) where
-    settles : Settles b electricity
-    unfolding settled
-    settles = settles-exactly b electricity .1 accepted
-
-    ranged : inRange b ≡ true
-    ranged = settles-ranged b electricity settles
-
-    settled-by : settled b .settlement ≡ settlementBy b electricity
-    unfolding settled
-    settled-by = settled-so b electricity settles
-
-    balanced : Balanced b electricity (settlementBy b electricity)
-    balanced = rw (settled-so b electricity settles) at (balanced-if-settles b electricity worth-electricity settles)
-
-    settlement-printable : Printable (settlementBy b electricity)
-    unfolding settlementBy
+    settlement-printable : Printable (settlementBy b (indicatorsOf kind))
+    unfolding settlementBy pointsOfAll
     settlement-printable =
         record {
-          points-few = omega (arith, rw six-indicators at (all-points-le electricity modest-electricity));
-          contributions-few = omega (arith, balanced .contributions-whole, pot-most b ranged);
-          returns-few = omega (arith, balanced .returns-whole, pot-most b ranged);
-          adjustments-small = λ operator lt. omega (arith, balanced .within-limits operator lt, limit-most b ranged operator lt);
+          points-few = omega (arith, rows-le indicatorCount (omega arith));
+          contributions-few = omega (arith, balanced .contributions-whole, pot-most b within);
+          returns-few = omega (arith, balanced .returns-whole, pot-most b within);
+          adjustments-small = λ operator lt. omega (arith, balanced .within-limits operator lt, limit-most b within operator lt);
           adjustments-cancel = balanced .adjustments-cancel;
         }
 
-    pub printable : Printable (settled b .settlement)
-    printable = rw settled-by settlement-printable
+    pub printable : Printable (settledBy b (indicatorsOf kind) .settlement)
+    printable = rw (settled-so b (indicatorsOf kind) settles) settlement-printable
 
     -- the text of a book that settles has its place in 2048 bytes
-    pub text-fits : length (textOf b) ≤ 2048
-    unfolding textOf
-    text-fits = printed-length b (settled b .settlement) printable
+    pub text-fits : length (textAs (indicatorsOf kind) b) ≤ 2048
+    unfolding textAs
+    text-fits = printed-length b (settledBy b (indicatorsOf kind) .settlement) printable

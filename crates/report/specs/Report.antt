@@ -6,22 +6,38 @@ use mathlib.Core.List.{List, [], _∷_, _++_}
 use lib.ListN.{length}
 use Rattle.book.specs.declared.Book.{Book}
 use Rattle.calls.specs.Answers.{Said, firstOf}
-use Rattle.values.specs.Indicator.{electricity}
-use Rattle.settlement.specs.Settlement.{settlingLines, settled}
+use Rattle.calls.specs.Indicators.{Indicator, electricity, gas}
+use Rattle.settlement.specs.Settlement.{settlingLines, settledBy}
 use Rattle.text.specs.Buffer.{tooShort, bufferAfter}
 use Rattle.lines.specs.Lines.{printed}
 
--- the text that a book's report has
-unfoldable pub textOf : Book → List ℕ
-textOf b = printed b (settled b .settlement)
+-- reporting a book of a kind
+module _ (kind : List Indicator) where
+  -- the text that its report has
+  unfoldable pub textAs : Book → List ℕ
+  textAs b = printed b (settledBy b kind .settlement)
 
--- "It refuses by 5, 10, 11, 12 or 13"
-unfoldable pub reportLines : Book → List ℕ → List (ℕ × Bool)
-reportLines b buffer = settlingLines b electricity ++ ((13, tooShort buffer (textOf b)) ∷ [])
+  -- "It refuses by 5, 10, 11, 12 or 13"
+  unfoldable pub reportingLines : Book → List ℕ → List (ℕ × Bool)
+  reportingLines b buffer = settlingLines b kind ++ ((13, tooShort buffer (textAs b)) ∷ [])
 
--- what `report` answers, the number of bytes or of the refusal, and every byte of the buffer after it
-unfoldable pub reportAnswer : Book → List ℕ → Said ℕ
-reportAnswer b buffer = firstOf (reportLines b buffer) (length (textOf b))
+  -- what it answers, the number of bytes or of the refusal, and every byte of the buffer after it
+  unfoldable pub reportingAnswer : Book → List ℕ → Said ℕ
+  reportingAnswer b buffer = firstOf (reportingLines b buffer) (length (textAs b))
 
-unfoldable pub reportBuffer : Book → List ℕ → List ℕ
-reportBuffer b buffer = bufferAfter buffer (textOf b) (reportAnswer b buffer)
+  unfoldable pub reportingBuffer : Book → List ℕ → List ℕ
+  reportingBuffer b buffer = bufferAfter buffer (textAs b) (reportingAnswer b buffer)
+
+-- `report`
+abbrev pub reportAnswer : Book → List ℕ → Said ℕ
+reportAnswer = reportingAnswer electricity
+
+abbrev pub reportBuffer : Book → List ℕ → List ℕ
+reportBuffer = reportingBuffer electricity
+
+-- `report_gas`
+abbrev pub gasReportAnswer : Book → List ℕ → Said ℕ
+gasReportAnswer = reportingAnswer gas
+
+abbrev pub gasReportBuffer : Book → List ℕ → List ℕ
+gasReportBuffer = reportingBuffer gas

@@ -2,3 +2,5 @@
 mod reporting;
 
 pub use reporting::report;
+pub use reporting::report_as;
+pub use reporting::report_gas;

@@ -2,14 +2,16 @@
 ghost use mathlib.Core.Path.{_≡_};
 ghost use Rattle.lines.specs.Lines.{printed};
 ghost use Rattle.text.specs.Buffer.{bufferAfter, filledSaid, fitting};
-ghost use Rattle.report.specs.Report.{reportAnswer, reportBuffer};
+ghost use Rattle.report.specs.Report.{reportingAnswer, reportingBuffer, reportAnswer, reportBuffer, gasReportAnswer, gasReportBuffer};
+ghost use Rattle.calls.specs.Indicators.{indicatorsOf};
 ghost use Rattle.lines.specs.Lines.{Printable};
 use book::Book;
 use calls::Answer;
+use calls::Kind;
 use calls::Refusal;
 use lines::put_lines;
 use settlement::Settlement;
-use settlement::settle;
+use settlement::settle_as;
 use text::Filled;
 use text::put_word;
 
@@ -18,7 +20,23 @@ pub fn report(b: Book, buffer: &mut [u8]) -> Filled
     ensures { λ r. ⌜ filledSaid r ≡ reportAnswer b (now (buffer .entry)) ⌝ }
     ensures { λ r. ⌜ now (buffer .exit) ≡ reportBuffer b (now (buffer .entry)) ⌝ }
 {
-    let settled = settle(b);
+    report_as(Kind::Electricity, b, buffer)
+}
+
+// Of a book of gas.
+pub fn report_gas(b: Book, buffer: &mut [u8]) -> Filled
+    ensures { λ r. ⌜ filledSaid r ≡ gasReportAnswer b (now (buffer .entry)) ⌝ }
+    ensures { λ r. ⌜ now (buffer .exit) ≡ gasReportBuffer b (now (buffer .entry)) ⌝ }
+{
+    report_as(Kind::Gas, b, buffer)
+}
+
+// Of a book of a kind.
+pub fn report_as(kind: Kind, b: Book, buffer: &mut [u8]) -> Filled
+    ensures { λ r. ⌜ filledSaid r ≡ reportingAnswer (indicatorsOf kind) b (now (buffer .entry)) ⌝ }
+    ensures { λ r. ⌜ now (buffer .exit) ≡ reportingBuffer (indicatorsOf kind) b (now (buffer .entry)) ⌝ }
+{
+    let settled = settle_as(kind, b);
     let s = settled.settlement;
     let answer = settled.answer;
     match answer {

@@ -10,9 +10,10 @@ use borrow.Author.Tests.{eqb-true, eqb-false}
 use Rattle.calls.specs.Masks.{has}
 use Rattle.calls.proofs.MaskLaws.{has-zero}
 use Rattle.book.specs.declared.Book.{Book}
-use Rattle.book.specs.Book.{isJoined, isMarked, inRange, every}
+use Rattle.book.specs.Book.{isJoined, isMarked, withinLimits, every}
 use Rattle.book.proofs.EveryLaws.{every-of-each, every-fails}
-use Rattle.values.specs.Indicator.{Indicator, reliableMask}
+use Rattle.calls.specs.Indicators.{Indicator}
+use Rattle.values.specs.Indicator.{reliableMask}
 use Rattle.indicators.proofs.OnesLaws.{some-one}
 use Rattle.indicators.proofs.PointLaws.{reliable-small, reliable-exactly}
 use Rattle.settlement.specs.Settlement.{isMarkedAtAll, allMarked}
@@ -59,7 +60,7 @@ pub marked-none : (b : Book) → allMarked b [] ≡ true
 unfolding allMarked isMarkedAtAll
 marked-none b = every-of-each 16 _ (λ k lt. or-true (isJoined b k))
 
-pub marked-more : (b : Book) → inRange b ≡ true → (indicator : Indicator) (rest : List Indicator)
+pub marked-more : (b : Book) → withinLimits b ≡ true → (indicator : Indicator) (rest : List Indicator)
     → allMarked b (indicator ∷ rest) ≡ eqb (reliableMask b indicator) 0 && allMarked b rest
 unfolding allMarked isMarkedAtAll
 marked-more b ranged indicator rest =

@@ -1,34 +1,38 @@
 -- When a book settles, and that what it is then given is balanced, as specs/Laws.antt says.
 -- Assumes nothing.
-use Prim.Native.Nat.{ℕ, zero, suc, _+_, _*_, _<_}
+use Prim.Native.Nat.{ℕ, _+_, _<_}
 use mathlib.Core.Path.{_≡_, refl, sym, ap, _∙_}
 use mathlib.Core.Logic.{_↔_}
 use mathlib.Core.Bool.{Bool, true, false, not, _&&_, _||_, false≢true}
-use mathlib.Core.List.{List, [], _∷_, map}
+use mathlib.Core.List.{List, [], _∷_}
 use native.Mathlib.Nat.{mul-pos}
 use native.Mathlib.Omega.{arith}
 use lib.Dec.{eqb, lit<}
-use lib.ListN.{length, getD, take, drop}
-use lib.Seq.{take-at, drop-append-add}
+use lib.ListN.{getD}
 use borrow.Author.Tests.{eqb-false, not-false}
 use Rattle.apportion.specs.Sum.{sum}
 use Rattle.apportion.specs.Share.{share}
 use Rattle.apportion.proofs.Shared.{shared}
-use Rattle.calls.specs.Limits.{years}
+use Rattle.calls.specs.Limits.{settingCount}
 use Rattle.calls.specs.Answers.{accepted, yes-said, onAnswer}
 use Rattle.calls.specs.Laws.{applies, risesFrom, Lowest}
-use Rattle.calls.proofs.Flags.{or-right, and-other}
+use Rattle.calls.proofs.Flags.{and-other}
 use Rattle.calls.proofs.Lowest.{lowest}
 use Rattle.book.specs.declared.Book.{Book}
-use Rattle.book.specs.Book.{isJoined, settingOf, inRange}
+use Rattle.book.specs.Book.{isJoined, settingOf, withinLimits, inRange}
 use Rattle.book.proofs.Bounds.{bounded}
-use Rattle.values.specs.Operators.{each, any}
-use Rattle.values.specs.Indicator.{Indicator, electricity, reliableMask, pool, numbered}
+use Rattle.book.proofs.TakenLaws.{ranged-within}
+use Rattle.values.specs.Operators.{each}
+use Rattle.calls.specs.Indicators.{Indicator, electricity, gas, indicatorsOf, isNetwork}
+use Rattle.calls.specs.declared.Kind.{Kind}
+use Rattle.calls.specs.declared.Kind.the-variants.{Electricity, Gas}
+use Rattle.values.specs.Indicator.{reliableMask, pool}
 use Rattle.values.proofs.AnyLaws.{or-left, each-of-none}
 use Rattle.values.proofs.Tables.{each-le-sum, some-place}
-use Rattle.indicators.specs.Points.{points, allPoints, pointsOfAll}
+use Rattle.indicators.specs.Points.{points, allPoints}
 use Rattle.indicators.proofs.OnesLaws.{some-one}
 use Rattle.indicators.proofs.PointLaws.{points-made-up, points-length, points-reliable, reliable-joined, reliable-small, pool-above}
+use Rattle.indicators.proofs.NumberLaws.{pool-at, points-at, numbered-whole, numbered-none}
 use Rattle.money.specs.Money.{pot, contributions, returns}
 use Rattle.settlement.specs.Settlement.{settingMissing, networkMissing, allMarked, settlementBy, settlingLines, settledBy}
 use Rattle.settlement.specs.Laws.{Worth, Settles, pointsAt, Balanced, Settling}
@@ -39,6 +43,14 @@ use Rattle.settlement.proofs.UnjoinedLaws.{points-unjoined, contributio
 pub worth-electricity : Worth electricity
 unfolding electricity
 worth-electricity = (lit< tt, (lit< tt, (lit< tt, (lit< tt, (lit< tt, (lit< tt, tt))))))
+
+pub worth-gas : Worth gas
+unfolding gas
+worth-gas = (lit< tt, (lit< tt, tt))
+
+pub worth-kind : (kind : Kind) → Worth (indicatorsOf kind)
+worth-kind Electricity = worth-electricity
+worth-kind Gas = worth-gas
 
 module _ (b : Book) (indicators : List Indicator) where
   pub lowest-of-settling : Lowest (settlingLines b indicators) yes-said
@@ -51,17 +63,20 @@ module _ (b : Book) (indicators : List Indicator) where
 
   -- a book that settles passes the four tests, and is given its settlement
   module _ (settles : Settles b indicators) where
-    pub settles-ranged : inRange b ≡ true
+    settles-ranged : inRange indicators b ≡ true
     unfolding applies settlingLines
-    settles-ranged = not-false _ (or-left (not (inRange b)) _ (settles 5))
+    settles-ranged = not-false _ (or-left (not (inRange indicators b)) _ (settles 5))
+
+    pub settles-within : withinLimits b ≡ true
+    settles-within = ranged-within indicators b settles-ranged
 
     settles-somebody : eqb (b .joined) 0 ≡ false
     unfolding applies settlingLines
     settles-somebody = or-left (eqb (b .joined) 0) _ (settles 10)
 
-    settles-network : networkMissing b ≡ false
+    settles-network : networkMissing b indicators ≡ false
     unfolding applies settlingLines
-    settles-network = or-left (networkMissing b) _ (settles 11)
+    settles-network = or-left (networkMissing b indicators) _ (settles 11)
 
     settles-reliable : allMarked b indicators ≡ false
     unfolding applies settlingLines
@@ -72,13 +87,14 @@ module _ (b : Book) (indicators : List Indicator) where
     settled-so = rw (lowest-of-settling .answered .1 settles) refl
 
 -- a joined operator has access points
-joined-access : (b : Book) → networkMissing b ≡ false → (operator : ℕ) → operator < 16 → isJoined b operator ≡ true → 0 < settingOf b operator 1
-unfolding networkMissing settingMissing
-joined-access b network operator lt joined =
-    let tests : isJoined b operator && eqb (settingOf b operator 1) 0 ≡ false = each-of-none 16 _ (or-right (any years _) _ network) operator lt in
+joined-access : (b : Book) (indicators : List Indicator) → networkMissing b indicators ≡ false → (operator : ℕ) → operator < 16 → isJoined b operator ≡ true → 0 < settingOf b operator 1
+unfolding networkMissing settingMissing isNetwork
+joined-access b indicators network operator lt joined =
+    let missing : settingMissing b 1 ≡ false = each-of-none settingCount _ network 1 (omega arith) in
+    let tests : isJoined b operator && eqb (settingOf b operator 1) 0 ≡ false = each-of-none 16 _ missing operator lt in
     omega (arith, eqb-false (settingOf b operator 1) 0 (and-other _ _ joined tests))
 
-module _ (b : Book) (ranged : inRange b ≡ true) where
+module _ (b : Book) (ranged : withinLimits b ≡ true) where
   -- where somebody takes part, a joined operator has points
   indicator-points : (indicator : Indicator) → 0 < indicator .points → 0 < reliableMask b indicator
       → (operator : ℕ) × (operator < 16) × (isJoined b operator ≡ true) × (0 < getD (points b indicator) operator 0)
@@ -111,56 +127,43 @@ module _ (b : Book) (ranged : inRange b ≡ true) where
 shared-whole : (T : ℕ) (f : ℕ → ℕ) (k : ℕ) → k < 16 → 0 < f k → sum (share T (each f)) ≡ T
 shared-whole T f k lt above = shared T (each f) .whole (omega (arith, above, each-le-sum f k lt))
 
-contributions-whole : (b : Book) → inRange b ≡ true → eqb (b .joined) 0 ≡ false → networkMissing b ≡ false → sum (contributions b) ≡ pot b
+contributions-whole : (b : Book) (indicators : List Indicator) → withinLimits b ≡ true → eqb (b .joined) 0 ≡ false → networkMissing b indicators ≡ false → sum (contributions b) ≡ pot b
 unfolding contributions isJoined
-contributions-whole b ranged somebody network =
+contributions-whole b indicators ranged somebody network =
     let found = some-one 16 (b .joined) (bounded b ranged .joined) (omega (arith, eqb-false (b .joined) 0 somebody)) in
-    shared-whole (pot b) _ (found .0) (found .1) (joined-access b network (found .0) (found .1) (found .2))
+    shared-whole (pot b) _ (found .0) (found .1) (joined-access b indicators network (found .0) (found .1) (found .2))
 
-returns-whole : (b : Book) (indicators : List Indicator) → inRange b ≡ true → Worth indicators → networkMissing b ≡ false
+returns-whole : (b : Book) (indicators : List Indicator) → withinLimits b ≡ true → Worth indicators → networkMissing b indicators ≡ false
     → allMarked b indicators ≡ false → sum (returns b indicators) ≡ pot b
 unfolding returns
 returns-whole b indicators ranged worth network reliable =
     let found = some-points b ranged indicators worth reliable in
-    shared-whole (pot b) _ (found .0) (found .1) (mul-pos (joined-access b network (found .0) (found .1) (found .2)) (found .3))
+    shared-whole (pot b) _ (found .0) (found .1) (mul-pos (joined-access b indicators network (found .0) (found .1) (found .2)) (found .3))
 
--- the points and the pool at a place of the list are those of its indicator
-pub placed : (b : Book) (indicators : List Indicator) (place : ℕ) (other : Indicator) → place < length indicators
-    → (take 16 (drop (16 * place) (pointsOfAll b indicators)) ≡ points b (getD indicators place other))
-    × (getD (map (pool b) indicators) place 0 ≡ pool b (getD indicators place other))
-unfolding pointsOfAll
-placed b [] place other lt = absurd (omega arith)
-placed b (indicator ∷ rest) zero other lt = (take-at (points b indicator) _ 16 (points-length b indicator), refl)
-placed b (indicator ∷ rest) (suc place) other lt =
-    let found = placed b rest place other (omega arith) in
-    let further : 16 * suc place ≡ length (points b indicator) + 16 * place = omega (arith, points-length b indicator) in
-    (rw (further, drop-append-add (points b indicator) (pointsOfAll b rest) (16 * place)) (found .0), found .1)
-
-balanced-settlement : (b : Book) (indicators : List Indicator) → Worth indicators → Settles b indicators → Balanced b indicators (settlementBy b indicators)
+balanced-settlement : (b : Book) (indicators : List Indicator) → Worth indicators → Settles b indicators → Balanced b (settlementBy b indicators)
 unfolding settlementBy pointsAt
 balanced-settlement b indicators worth settles =
-    let ranged = settles-ranged b indicators settles in
+    let within = settles-within b indicators settles in
     let network = settles-network b indicators settles in
     record {
-      points-whole = λ place lt.
-          let at = placed b indicators place (numbered 0) lt in
-          ap sum (at .0) ∙ points-made-up b _ ranged .whole ∙ sym (at .1);
-      contributions-whole = contributions-whole b ranged (settles-somebody b indicators settles) network;
-      returns-whole = returns-whole b indicators ranged worth network (settles-reliable b indicators settles);
+      points-whole = λ number lt. ap sum (points-at b indicators number lt) ∙ numbered-whole b indicators within number ∙ sym (pool-at b indicators number lt);
+      contributions-whole = contributions-whole b indicators within (settles-somebody b indicators settles) network;
+      returns-whole = returns-whole b indicators within worth network (settles-reliable b indicators settles);
       adjustments-cancel = adjustments-cancel b indicators;
       within-limits = within-limits b indicators;
       unjoined-nought = λ operator lt apart. (
-        λ place inside.
-            ap (λ (l : List ℕ). getD l operator 0) (placed b indicators place (numbered 0) inside .0) ∙ points-unjoined b ranged operator lt apart _,
-        contribution-none b ranged operator lt apart,
-        return-none b ranged operator lt apart indicators,
-        limit-none b ranged operator lt apart,
-        adjustment-none b ranged operator lt apart indicators,
+        λ number inside.
+            ap (λ (l : List ℕ). getD l operator 0) (points-at b indicators number inside)
+            ∙ numbered-none b indicators operator lt (points-unjoined b within operator lt apart) number,
+        contribution-none b within operator lt apart,
+        return-none b within operator lt apart indicators,
+        limit-none b within operator lt apart,
+        adjustment-none b within operator lt apart indicators,
       );
     }
 
 pub balanced-if-settles : (b : Book) (indicators : List Indicator) → Worth indicators → Settles b indicators
-    → Balanced b indicators (settledBy b indicators .settlement)
+    → Balanced b (settledBy b indicators .settlement)
 balanced-if-settles b indicators worth settles = rw (settled-so b indicators settles) (balanced-settlement b indicators worth settles)
 
 pub settling : (b : Book) (indicators : List Indicator) → Settling b indicators

@@ -13,10 +13,11 @@ use Rattle.apportion.proofs.Shared.{shared}
 use Rattle.calls.specs.Masks.{has}
 use Rattle.calls.specs.Limits.{settingCount}
 use Rattle.book.specs.declared.Book.{Book}
-use Rattle.book.specs.Book.{isJoined, settingOf, most, inRange}
+use Rattle.book.specs.Book.{isJoined, settingOf, most, withinLimits}
 use Rattle.book.proofs.Bounds.{bounded}
 use Rattle.values.specs.Operators.{each}
-use Rattle.values.specs.Indicator.{Indicator, reliableMask}
+use Rattle.calls.specs.Indicators.{Indicator}
+use Rattle.values.specs.Indicator.{reliableMask}
 use Rattle.indicators.specs.Points.{points}
 use Rattle.values.proofs.Tables.{length-each, each-at}
 use Rattle.indicators.proofs.PointLaws.{reliable-joined, points-none}
@@ -32,7 +33,7 @@ no-size : (z : ℤ) → natAbs z ≤ 0 → z ≡ pos 0
 no-size (pos n) none = ap pos (omega arith)
 no-size (negsuc n) none = absurd (omega arith)
 
-module _ (b : Book) (ranged : inRange b ≡ true) (operator : ℕ) (lt : operator < 16) (apart : isJoined b operator ≡ false) where
+module _ (b : Book) (ranged : withinLimits b ≡ true) (operator : ℕ) (lt : operator < 16) (apart : isJoined b operator ≡ false) where
   setting-none : (which : ℕ) → which < settingCount → settingOf b operator which ≡ 0
   unfolding most settingOf isJoined
   setting-none which small =

@@ -5,10 +5,12 @@ use calls::Answer;
 use calls::INDICATORS;
 pub use gathering::POINT_PLACES;
 pub use settling::settle;
+pub use settling::settle_as;
+pub use settling::settle_gas;
 
 // All 0 on refusal and for operators not joined.
 pub struct Settlement {
-    // In hundredths, by indicator.
+    // In hundredths, by the indicators' numbers; 0 where the kind has none.
     pub pools: [u64; INDICATORS],
     // In hundredths, at indicator * 16 + operator.
     pub points: [u64; POINT_PLACES],

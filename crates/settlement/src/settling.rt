@@ -1,17 +1,18 @@
 // Settling: the refusals first, then points, money and adjustments.
 ghost use mathlib.Core.Path.{_≡_};
 ghost use mathlib.Core.Bool.{true, _&&_};
+ghost use mathlib.Core.List.{List};
 ghost use Prim.Native.Nat.{_<_};
 ghost use lib.Dec.{eqb};
 ghost use Rattle.calls.specs.Answers.{refused-by, numberOf, said};
 ghost use Rattle.calls.specs.Limits.{settingCount};
 ghost use Rattle.calls.specs.Masks.{has};
-ghost use Rattle.book.specs.Book.{inRange};
+ghost use Rattle.book.specs.Book.{withinLimits, inRange};
 ghost use Rattle.values.specs.Parts.{HasMarks};
-ghost use Rattle.values.specs.Indicator.{electricity};
+ghost use Rattle.calls.specs.Indicators.{Indicator, indicatorsOf, isNetwork};
 ghost use Rattle.gathering.specs.Steps.{AllGathered};
 ghost use Rattle.settlement.specs.Steps.{HasCharges, Payable};
-ghost use Rattle.settlement.specs.Settlement.{settingMissing, networkMissing, allMarked, settlementBy, nothing, settled};
+ghost use Rattle.settlement.specs.Settlement.{settingMissing, networkMissing, allMarked, settlementBy, nothing, settledBy, settled, settledGas};
 use crate::POINT_PLACES;
 use crate::Settled;
 use crate::Settlement;
@@ -22,12 +23,14 @@ use book::setting_slot;
 use calls::Answer;
 use calls::INDICATOR_COUNT;
 use calls::INDICATORS;
+use calls::Kind;
 use calls::LAST_OPERATOR;
-use calls::LAST_YEAR;
+use calls::LAST_SETTING;
 use calls::Refusal;
 use calls::SETTING_PLACES;
-use calls::cabins_in;
+use calls::first_indicator;
 use calls::has_bit;
+use calls::is_network;
 use gathering::Gathered;
 use gathering::gather;
 use money::adjust;
@@ -37,26 +40,40 @@ use money::return_weights;
 use values::reliable_mask;
 use values::settings_of;
 
-// The settlement of a book, or its refusal with all numbers 0. The book is unchanged.
+// The settlement of a book of electricity, or its refusal with all numbers 0. The book is unchanged.
 pub fn settle(b: Book) -> Settled
     ensures { λ r. ⌜ (said (r .answer) ≡ settled b .said) × (r .settlement ≡ settled b .settlement) ⌝ }
 {
-    if !in_range(b) {
+    settle_as(Kind::Electricity, b)
+}
+
+// Of a book of gas.
+pub fn settle_gas(b: Book) -> Settled
+    ensures { λ r. ⌜ (said (r .answer) ≡ settledGas b .said) × (r .settlement ≡ settledGas b .settlement) ⌝ }
+{
+    settle_as(Kind::Gas, b)
+}
+
+// Of a book of a kind.
+pub fn settle_as(kind: Kind, b: Book) -> Settled
+    ensures { λ r. ⌜ (said (r .answer) ≡ settledBy b (indicatorsOf kind) .said) × (r .settlement ≡ settledBy b (indicatorsOf kind) .settlement) ⌝ }
+{
+    if !in_range(kind, b) {
         return refuse(Refusal::OutOfRange);
     }
     if b.joined == 0 {
         return refuse(Refusal::NoneJoined);
     }
     let settings = b.settings;
-    if network_missing(b.joined, &settings) {
+    if network_missing(kind, b.joined, &settings) {
         return refuse(Refusal::NetworkMissing);
     }
     let marks = b.marks;
-    if all_marked(b.joined, &marks) {
+    if all_marked(kind, b.joined, &marks) {
         return refuse(Refusal::AllMarked);
     }
     Settled {
-        settlement: settle_in_range(b),
+        settlement: settle_in_range(kind, b),
         answer: Answer::Yes,
     }
 }
@@ -78,18 +95,28 @@ fn refuse(refusal: Refusal) -> Settled
     }
 }
 
-// Whether a joined operator has no cabins in one of the years, or no access points.
-fn network_missing(joined: u16, settings: &[u64; SETTING_PLACES]) -> bool
-    ensures { λ r. ⌜ ((b : Book) → b .joined ≡ joined → b .settings ≡ now (settings .entry) → r ≡ networkMissing b) ⌝ }
+// Whether a joined operator has 0 of a setting that the kind asks for: access points, and of electricity the cabins of each year.
+fn network_missing(kind: Kind, joined: u16, settings: &[u64; SETTING_PLACES]) -> bool
+    ensures { λ r. ⌜ ((b : Book) → b .joined ≡ joined → b .settings ≡ now (settings .entry) → r ≡ networkMissing b (indicatorsOf kind)) ⌝ }
 {
-    let mut year = 0;
-    while year <= LAST_YEAR {
-        if setting_missing(joined, settings, cabins_in(year)) {
+    let mut which = 0;
+    while which <= LAST_SETTING {
+        if asked_and_missing(kind, joined, settings, which) {
             return true;
         }
-        year += 1;
+        which += 1;
     }
-    setting_missing(joined, settings, 1)
+    false
+}
+
+fn asked_and_missing(kind: Kind, joined: u16, settings: &[u64; SETTING_PLACES], which: u8) -> bool
+    requires { ⌜ which < settingCount ⌝ }
+    ensures { λ r. ⌜ ((b : Book) → b .joined ≡ joined → b .settings ≡ now (settings .entry) → r ≡ isNetwork (indicatorsOf kind) which && settingMissing b which) ⌝ }
+{
+    if !is_network(kind, which) {
+        return false;
+    }
+    setting_missing(joined, settings, which)
 }
 
 // Whether a joined operator has 0 of a setting.
@@ -117,11 +144,11 @@ fn lacks(joined: u16, operator: u8, value: u64) -> bool
     value == 0
 }
 
-// Whether nobody takes part at any indicator.
-fn all_marked(joined: u16, marks: &[u16; INDICATORS]) -> bool
-    ensures { λ r. ⌜ ((b : Book) → inRange b ≡ true → HasMarks b joined (now (marks .entry)) → r ≡ allMarked b electricity) ⌝ }
+// Whether nobody takes part at any indicator of the kind.
+fn all_marked(kind: Kind, joined: u16, marks: &[u16; INDICATORS]) -> bool
+    ensures { λ r. ⌜ ((b : Book) → withinLimits b ≡ true → HasMarks b joined (now (marks .entry)) → r ≡ allMarked b (indicatorsOf kind)) ⌝ }
 {
-    let mut number = 0;
+    let mut number = first_indicator(kind);
     while number < INDICATOR_COUNT {
         if reliable_mask(joined, marks, number) != 0 {
             return false;
@@ -132,15 +159,15 @@ fn all_marked(joined: u16, marks: &[u16; INDICATORS]) -> bool
 }
 
 // The parts of the book are taken out once, and lent.
-fn settle_in_range(b: Book) -> Settlement
-    requires { ⌜ inRange b ≡ true ⌝ }
-    ensures { λ r. ⌜ r ≡ settlementBy b electricity ⌝ }
+fn settle_in_range(kind: Kind, b: Book) -> Settlement
+    requires { ⌜ inRange (indicatorsOf kind) b ≡ true ⌝ }
+    ensures { λ r. ⌜ r ≡ settlementBy b (indicatorsOf kind) ⌝ }
 {
     let marks = b.marks;
     let settings = b.settings;
     let figures = b.figures;
     let indices = b.indices;
-    let g = gather(b.joined, &marks, &settings, &figures, &indices);
+    let g = gather(kind, b.joined, &marks, &settings, &figures, &indices);
     let access = settings_of(&settings, 1);
     let incomes = settings_of(&settings, 2);
     settle_points(g, access, incomes, b.pot_rate, b.cap_rate)
@@ -155,7 +182,7 @@ fn settle_points(
     cap_rate: u32,
 ) -> Settlement
     requires { ⌜ Payable (g .totals) access incomes «pot_rate» «cap_rate» ⌝ }
-    ensures { λ r. ⌜ ((b : Book) → AllGathered b g → HasCharges b access incomes «pot_rate» «cap_rate» → r ≡ settlementBy b electricity) ⌝ }
+    ensures { λ r. ⌜ ((b : Book) (indicators : List Indicator) → AllGathered b indicators g → HasCharges b access incomes «pot_rate» «cap_rate» → r ≡ settlementBy b indicators) ⌝ }
 {
     let totals = g.totals;
     let pot = pot_of(pot_rate, incomes);

@@ -17,11 +17,13 @@ use Rattle.calls.specs.Call.{factsOf}
 use Rattle.calls.specs.Laws.{risesFrom, Lowest}
 use Rattle.calls.proofs.Lowest.{lowest}
 use Rattle.calls.proofs.Flags.{and-true-right, or-false-right}
+use Rattle.calls.proofs.KindLaws.{kinds-opened}
 use Rattle.book.specs.declared.Book.{Book}
 use Rattle.book.specs.Book.{isJoined, figureSlot, figureOf, most, inRange}
-use Rattle.book.proofs.Bounds.{bounded}
-use Rattle.ledger.specs.Table.{some, passesLimit, fallsBelow, linesFor, answerTo}
-use Rattle.ledger.specs.Calls.{Outcome, outcomeOf, apply, file}
+use Rattle.book.proofs.TakenLaws.{ranged-bounds}
+use Rattle.calls.specs.Indicators.{electricity, some}
+use Rattle.ledger.specs.Table.{passesLimit, fallsBelow, linesFor, answerTo}
+use Rattle.ledger.specs.Calls.{Outcome, outcomeOf, apply, fileAs, file}
 use Rattle.ledger.specs.Steps.{memberLines}
 use Rattle.history.proofs.Kept.{filed-applied}
 use Rattle.sheets.specs.Sheet.{sheetFigures, countsOf, noCounts, Sheet, sheetSaid, sheetOf, sheetLines}
@@ -32,8 +34,9 @@ unfolding figureSlot
 next-slot operator year figure more = omega arith
 
 -- of an amount's values only the year may be out of range
-pub year-alone : (year : ℕ) → ltb year years && ltb firstCount figureCount && leb 0 1 ≡ ltb year years
-year-alone year = rw (and-true-right (ltb year years), and-true-right (ltb year years)) refl
+pub year-alone : (year : ℕ) → factsOf electricity (Amount 0 year firstCount 0 0) .in-range ≡ ltb year years
+unfolding factsOf kinds-opened
+year-alone year = rw (and-true-right (ltb year years), and-true-right (ltb year years), and-true-right (ltb year years)) refl
 
 abbrev pub refusedSheet : ℕ → Sheet
 refusedSheet number = record { said = refused-by number; counts = noCounts }
@@ -47,23 +50,23 @@ module _ (b : Book) (operator year : ℕ) where
   abbrev nothingFiled : Call
   nothingFiled = Amount operator year firstCount 0 0
 
-  filed-out-of-range : inRange b ≡ false → file b nothingFiled ≡ outcomeOf b b (refused-by 5)
-  unfolding file
+  filed-out-of-range : inRange electricity b ≡ false → file b nothingFiled ≡ outcomeOf b b (refused-by 5)
+  unfolding fileAs
   filed-out-of-range e = rw e refl
 
-  said-out-of-range : inRange b ≡ false → sheetSaid b operator year ≡ refused-by 5
+  said-out-of-range : inRange electricity b ≡ false → sheetSaid b operator year ≡ refused-by 5
   unfolding sheetSaid outcomeOf
   said-out-of-range e = ap (λ (o : Outcome). o .said) (filed-out-of-range e)
 
-  pub sheet-out-of-range : inRange b ≡ false → sheetOf b operator year ≡ refusedSheet 5
+  pub sheet-out-of-range : inRange electricity b ≡ false → sheetOf b operator year ≡ refusedSheet 5
   unfolding sheetOf onAnswer
   sheet-out-of-range e = rw (said-out-of-range e) refl
 
-  module _ (ranged : inRange b ≡ true) where
+  module _ (ranged : inRange electricity b ≡ true) where
     -- what stands at a figure passes no limit
     at-most : operator < operators → year < years → (figure : ℕ) → figure < figureCount → figureOf b operator year figure ≤ most (b .joined) operator figureLimit
     unfolding figureOf
-    at-most lo ly figure lf = bounded b ranged .figures .within operator year figure lo ly lf
+    at-most lo ly figure lf = ranged-bounds electricity b ranged .figures .within operator year figure lo ly lf
 
     within-limit : operator < operators → year < years → has (b .joined) operator ≡ true → ltb figureLimit (figureOf b operator year firstCount + 0) ≡ false
     unfolding most
@@ -73,10 +76,10 @@ module _ (b : Book) (operator year : ℕ) where
 
     -- 4, 5 and 7, and nothing else: an amount of 0 passes no limit and falls nowhere below 0
     said-as-member : sheetSaid b operator year ≡ firstOf (memberLines (b .joined) operator (ltb year years)) yes-said
-    unfolding sheetSaid apply outcomeOf answerTo linesFor factsOf some passesLimit fallsBelow memberLines firstOf isJoined
+    unfolding sheetSaid apply outcomeOf answerTo linesFor factsOf some passesLimit fallsBelow memberLines firstOf isJoined kinds-opened
     said-as-member =
-        ap (λ (o : Outcome). o .said) (filed-applied b nothingFiled ranged)
-        ∙ rw (or-false-right (leb operators operator), and-true-right (ltb year years), and-true-right (ltb year years), or-false-right (not (has (b .joined) operator)))
+        ap (λ (o : Outcome). o .said) (filed-applied electricity b nothingFiled ranged)
+        ∙ rw (or-false-right (leb operators operator), and-true-right (ltb year years), and-true-right (ltb year years), and-true-right (ltb year years), or-false-right (not (has (b .joined) operator)))
         (go (leb operators operator) (ltb year years) (has (b .joined) operator) refl refl refl)
       where
         go : (t u v : Bool) → leb operators operator ≡ t → ltb year years ≡ u → has (b .joined) operator ≡ v
@@ -120,9 +123,9 @@ module _ (b : Book) (operator year : ℕ) where
   -- the number that is given is the first line that applies
   pub sheet-by-lines : sheetOf b operator year .said ≡ firstOf (sheetLines b operator year) yes-said
   unfolding sheetOf sheetLines memberLines firstOf isJoined
-  sheet-by-lines = go (inRange b) refl
+  sheet-by-lines = go (inRange electricity b) refl
     where
-      go : (t : Bool) → inRange b ≡ t
+      go : (t : Bool) → inRange electricity b ≡ t
           → sheetOf b operator year .said
           ≡ firstOf (cond t ((4, leb operators operator) ∷ (5, not (ltb year years)) ∷ (7, not (has (b .joined) operator)) ∷ []) ((5, true) ∷ [])) yes-said
       go true ranged = said-as-member ranged
@@ -130,7 +133,7 @@ module _ (b : Book) (operator year : ℕ) where
 
 pub lowest-of-sheets : (b : Book) (operator year : ℕ) → Lowest (sheetLines b operator year) yes-said
 unfolding sheetLines risesFrom
-lowest-of-sheets b operator year = lowest yes-said (sheetLines b operator year) (go (inRange b))
+lowest-of-sheets b operator year = lowest yes-said (sheetLines b operator year) (go (inRange electricity b))
   where
     go : (t : Bool)
         → risesFrom 0 (cond t ((4, leb operators operator) ∷ (5, not (ltb year years)) ∷ (7, not (isJoined b operator)) ∷ []) ((5, true) ∷ [])) ≡ true

@@ -13,6 +13,7 @@ use borrow.Author.Tests.{eqb-true, eqb-false, eq-eqb, ne-eqb, leb-true, leb-fals
 use Rattle.apportion.specs.Sum.{sum}
 use Rattle.calls.specs.declared.Call.{Call}
 use Rattle.calls.specs.declared.Call.the-variants.{Join, Setting, Interruption, Amount, Mark, Rates, Index}
+use Rattle.calls.specs.Indicators.{electricity}
 use Rattle.calls.specs.Limits.{operators, years, figureCount, firstCount, shortMost}
 use Rattle.calls.specs.Answers.{Said, refused-by, accepted, onAnswer, Acceptance, counted-in, left-out-as-short, left-out-under}
 use Rattle.calls.specs.Call.{Entry, entry, secondsOf, yearOf, outcome, measuredEntries, countFigure, interruptionEntries, factsOf}
@@ -101,12 +102,12 @@ pub record Side (sign : ℕ) (part : History → ℕ → ℕ → ℕ → ℕ) : 
   pub entered : (h : History) (entry : Entry) → entry .sign ≤ 1 → (o y f : ℕ)
       → part (withEntry h entry) o y f ≡ cond (eqb (entry .sign) sign) (summed entry (part h) o y f) (part h o y f)
   -- a call changes it by its entries alone
-  pub by-entries : (h : History) (call : Call) → part (recorded h call) ≡ part (withEntries h (factsOf call .entries))
+  pub by-entries : (h : History) (call : Call) → part (recorded electricity h call) ≡ part (withEntries h (factsOf electricity call .entries))
   pub none : part plain ≡ (λ o y f. 0)
 
 -- what a call makes of the two sums is what its entries make of them
 by-entries-alone : (h : History) (call : Call)
-    → (recorded h call .filed ≡ withEntries h (factsOf call .entries) .filed) × (recorded h call .withdrawn ≡ withEntries h (factsOf call .entries) .withdrawn)
+    → (recorded electricity h call .filed ≡ withEntries h (factsOf electricity call .entries) .filed) × (recorded electricity h call .withdrawn ≡ withEntries h (factsOf electricity call .entries) .withdrawn)
 unfolding withEntries recorded factsOf
 by-entries-alone h (Join operator) = (refl, refl)
 by-entries-alone h (Setting operator which value) = (refl, refl)
@@ -165,7 +166,7 @@ module _ (sign : ℕ) (part : History → ℕ → ℕ → ℕ → ℕ) (side : S
       go true = refl
       go false = omega arith
 
-  one-counted : (h : History) (entry : Entry) → Within entry → counted (withEntry h entry) ≡ counted h + onSheets operator sign entry
+  one-counted : (h : History) (entry : Entry) → Within electricity entry → counted (withEntry h entry) ≡ counted h + onSheets operator sign entry
   one-counted h entry within =
       fifteen-same (part (withEntry h entry) operator) _ (λ y f ly lf. side .entered h entry (within .sign-le) operator y f) ∙ go (eqb (entry .sign) sign)
     where
@@ -178,7 +179,7 @@ module _ (sign : ℕ) (part : History → ℕ → ℕ → ℕ → ℕ) (side : S
           ∙ ap (λ (n : ℕ). counted h + n) (fifteen-one (eqb operator (entry .operator)) (entry .year) (entry .figure) (entry .value) (within .year-lt) (within .figure-lt))
       go false = omega arith
 
-  entries-counted : (list : List Entry) (h : History) → All Within list → counted (withEntries h list) ≡ counted h + allOnSheets operator sign list
+  entries-counted : (list : List Entry) (h : History) → All (Within electricity) list → counted (withEntries h list) ≡ counted h + allOnSheets operator sign list
   unfolding withEntries allOnSheets
   entries-counted [] h within = omega arith
   entries-counted (entry ∷ rest) h within =
@@ -247,7 +248,7 @@ module _ (operator sign : ℕ) where
       go (inl low) = measure-on (entry o year figure s value) low ∙ rw (lt-leb firstCount figure low, and-false-right) refl
       go (inr high) = count-on (entry o year figure s value) high ∙ rw (le-leb firstCount figure high, and-true-right) refl
 
-  call-on : (call : Call) → Ranges call → allOnSheets operator sign (factsOf call .entries) ≡ callOnSheets operator sign call
+  call-on : (call : Call) → Ranges electricity call → allOnSheets operator sign (factsOf electricity call .entries) ≡ callOnSheets operator sign call
   unfolding allOnSheets factsOf outcome asInterruption asAmount
   call-on (Join o) r = refl
   call-on (Setting o which value) r = refl
@@ -260,28 +261,28 @@ module _ (operator sign : ℕ) where
 
 -- ---- lists of calls
 module _ (sign : ℕ) (part : History → ℕ → ℕ → ℕ → ℕ) (side : Side sign part) (operator : ℕ) where
-  call-counted : (h : History) (call : Call) → counted sign part side operator (noteHistory h call)
-      ≡ counted sign part side operator h + onAnswer (λ (number : ℕ). 0) (λ (value : Acceptance). callOnSheets operator sign call) (noteAnswer h call)
+  call-counted : (h : History) (call : Call) → counted sign part side operator (noteHistory electricity h call)
+      ≡ counted sign part side operator h + onAnswer (λ (number : ℕ). 0) (λ (value : Acceptance). callOnSheets operator sign call) (noteAnswer electricity h call)
   unfolding noteHistory noteAnswer onAnswer
-  call-counted h call = go (noteAnswer h call) (decided (h .joined) (total h) call)
+  call-counted h call = go (noteAnswer electricity h call) (decided electricity (h .joined) (total h) call)
     where
-      go : (answer : Said Acceptance) → Decided (h .joined) (total h) call answer
-          → counted sign part side operator (onAnswer (λ (number : ℕ). h) (λ (value : Acceptance). recorded h call) answer)
+      go : (answer : Said Acceptance) → Decided electricity (h .joined) (total h) call answer
+          → counted sign part side operator (onAnswer (λ (number : ℕ). h) (λ (value : Acceptance). recorded electricity h call) answer)
           ≡ counted sign part side operator h + onAnswer (λ (number : ℕ). 0) (λ (value : Acceptance). callOnSheets operator sign call) answer
       go answer (inr (number, e)) = rw e (omega arith)
       go answer (inl (e, passed)) =
           rw (e, side .by-entries h call)
-          (entries-counted sign part side operator (factsOf call .entries) h (entries-within call (passed .known) (passed .in-range))
+          (entries-counted sign part side operator (factsOf electricity call .entries) h (entries-within electricity call (passed .had) (passed .known) (passed .in-range))
           ∙ ap (λ (n : ℕ). counted sign part side operator h + n) (call-on operator sign call (passed .in-range)))
 
   calls-counted : (calls : List Call) (h : History)
-      → counted sign part side operator (notedHistory h calls)
+      → counted sign part side operator (notedHistory electricity h calls)
       ≡ counted sign part side operator h
-      + (overAccepted (asInterruption operator sign) calls (notedAnswers h calls) + overAccepted (asAmount operator sign) calls (notedAnswers h calls))
+      + (overAccepted (asInterruption operator sign) calls (notedAnswers electricity h calls) + overAccepted (asAmount operator sign) calls (notedAnswers electricity h calls))
   unfolding notedHistory notedAnswers overAccepted onAnswer
   calls-counted [] h = omega arith
   calls-counted (call ∷ rest) h =
-      calls-counted rest (noteHistory h call) ∙ omega (arith, call-counted h call, parted (noteAnswer h call))
+      calls-counted rest (noteHistory electricity h call) ∙ omega (arith, call-counted h call, parted (noteAnswer electricity h call))
     where
       parted : (answer : Said Acceptance)
           → onAnswer (λ (number : ℕ). 0) (λ (value : Acceptance). callOnSheets operator sign call) answer
@@ -293,22 +294,22 @@ module _ (sign : ℕ) (part : History → ℕ → ℕ → ℕ → ℕ) (side : S
 -- ---- the sheets of a list
 module _ (calls : List Call) (operator : ℕ) (known : operator < operators) where
   abbrev h : History
-  h = historyOf calls
+  h = historyOf electricity calls
 
-  sheets-are-figures : sheetsTotal (bookOf calls) operator ≡ fifteen (figureOf (bookOf calls) operator)
+  sheets-are-figures : sheetsTotal (bookOf electricity calls) operator ≡ fifteen (figureOf (bookOf electricity calls) operator)
   unfolding sheetsTotal countsOf
   sheets-are-figures =
-      let shown : (y : ℕ) → y < years → sum (sheetOf (bookOf calls) operator y .counts) ≡ row (figureOf (bookOf calls) operator y) = λ y ly. ap sum (counts-are-figures (bookOf calls) operator y (kept calls .in-range) known ly) in
+      let shown : (y : ℕ) → y < years → sum (sheetOf (bookOf electricity calls) operator y .counts) ≡ row (figureOf (bookOf electricity calls) operator y) = λ y ly. ap sum (counts-are-figures (bookOf electricity calls) operator y (kept electricity calls .in-range) known ly) in
       ap₂ _+_ (ap₂ _+_ (shown 0 (omega arith)) (shown 1 (omega arith))) (shown 2 (omega arith))
 
   -- a total is filed less withdrawn, which is no more
-  less-withdrawn : fifteen (figureOf (bookOf calls) operator) + fifteen (h .withdrawn operator) ≡ fifteen (h .filed operator)
+  less-withdrawn : fifteen (figureOf (bookOf electricity calls) operator) + fifteen (h .withdrawn operator) ≡ fifteen (h .filed operator)
   unfolding total
   less-withdrawn =
-      sym (fifteen-added (figureOf (bookOf calls) operator) (h .withdrawn operator))
-      ∙ fifteen-same (λ y f. figureOf (bookOf calls) operator y f + h .withdrawn operator y f) (h .filed operator) (λ y f ly lf. omega (arith, kept calls .held .total operator y f known ly lf, kept calls .covered operator y f))
+      sym (fifteen-added (figureOf (bookOf electricity calls) operator) (h .withdrawn operator))
+      ∙ fifteen-same (λ y f. figureOf (bookOf electricity calls) operator y f + h .withdrawn operator y f) (h .filed operator) (λ y f ly lf. omega (arith, kept electricity calls .held .total operator y f known ly lf, kept electricity calls .covered operator y f))
 
-  pub sheets-add-up : SheetsAddUp (bookOf calls) calls operator
+  pub sheets-add-up : SheetsAddUp (bookOf electricity calls) calls operator
   sheets-add-up =
       let filed = calls-counted 0 (λ g. g .filed) filed-side operator calls plain in
       let withdrawn = calls-counted 1 (λ g. g .withdrawn) withdrawn-side operator calls plain in

@@ -7,6 +7,7 @@ use mathlib.Core.List.{List, [], _∷_, map}
 use lib.Dec.{leb, ltb}
 use lib.ListN.{replicate}
 use Rattle.calls.specs.declared.Call.the-variants.{Amount}
+use Rattle.calls.specs.Indicators.{electricity}
 use Rattle.calls.specs.Limits.{operators, years, firstCount, outcomeCount}
 use Rattle.calls.specs.Answers.{Said, Acceptance, onAnswer}
 use Rattle.book.specs.declared.Book.{Book}
@@ -42,4 +43,4 @@ sheetOf b operator year =
 -- the numbers that apply: a book out of range gets 5, "before any other check", then the three
 unfoldable pub sheetLines : Book → ℕ → ℕ → List (ℕ × Bool)
 sheetLines b operator year =
-    cond (inRange b) ((4, leb operators operator) ∷ (5, not (ltb year years)) ∷ (7, not (isJoined b operator)) ∷ []) ((5, true) ∷ [])
+    cond (inRange electricity b) ((4, leb operators operator) ∷ (5, not (ltb year years)) ∷ (7, not (isJoined b operator)) ∷ []) ((5, true) ∷ [])

@@ -8,6 +8,7 @@ use lib.Dec.{leb, eqb}
 use Rattle.apportion.specs.Sum.{sum}
 use Rattle.calls.specs.declared.Call.{Call}
 use Rattle.calls.specs.declared.Call.the-variants.{Join, Setting, Interruption, Amount, Mark, Rates, Index}
+use Rattle.calls.specs.Indicators.{electricity}
 use Rattle.calls.specs.Answers.{Said, Acceptance, onAnswer}
 use Rattle.book.specs.declared.Book.{Book}
 use Rattle.history.specs.History.{plain, notedAnswers}
@@ -42,7 +43,7 @@ overAccepted number (call ∷ calls) (answer ∷ answers) =
 
 -- those that the plain history accepts
 abbrev pub overHistory : (Call → ℕ) → List Call → ℕ
-overHistory number calls = overAccepted number calls (notedAnswers plain calls)
+overHistory number calls = overAccepted number calls (notedAnswers electricity plain calls)
 
 -- the fifteen numbers of an operator's three sheets
 unfoldable pub sheetsTotal : Book → ℕ → ℕ

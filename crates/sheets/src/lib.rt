@@ -12,6 +12,7 @@ use book::in_range;
 use calls::Answer;
 use calls::FIGURE_PLACES;
 use calls::FIRST_COUNT;
+use calls::Kind;
 use calls::OUTCOMES;
 use calls::Refusal;
 use calls::amount_in_range;
@@ -29,8 +30,8 @@ pub fn sheet(b: Book, operator: u8, year: u8) -> YearlySheet
     ensures { λ r. ⌜ said (r .answer) ≡ sheetOf b operator year .said ⌝ }
     ensures { λ r. ⌜ r .counts ≡ sheetOf b operator year .counts ⌝ }
 {
-    let ranged = in_range(b);
-    let valid = amount_in_range(year, FIRST_COUNT, 0);
+    let ranged = in_range(Kind::Electricity, b);
+    let valid = amount_in_range(Kind::Electricity, year, FIRST_COUNT, 0);
     if !ranged {
         return refused(Refusal::OutOfRange);
     }

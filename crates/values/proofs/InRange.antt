@@ -10,7 +10,7 @@ use native.Mathlib.Nat.{le-trans}
 use lib.ListN.{length, getD, List·getD-eq-default}
 use Rattle.book.specs.declared.Book.{Book}
 use Rattle.calls.specs.Limits.{operators, years, figureCount, settingCount, indicatorCount, indexCount, settingLimit, figureLimit, rateLimit, indexMost}
-use Rattle.book.specs.Book.{withJoined, withMarks, withSettings, withFigures, withIndices, freshBook, settingOf, figureOf, indexOf, inRange}
+use Rattle.book.specs.Book.{withJoined, withMarks, withSettings, withFigures, withIndices, freshBook, settingOf, figureOf, indexOf, withinLimits}
 use Rattle.calls.proofs.SettingLaws.{limit-most}
 use Rattle.book.proofs.Bounds.{most-le, bounded}
 use Rattle.values.specs.Bounds.{accessLimit, incomeLimit}
@@ -18,7 +18,7 @@ use Rattle.values.specs.Operators.{settingsOf, figuresOf}
 use Rattle.values.specs.Parts.{HasMarks, HasMeasures, SettingsWithin, FiguresWithin, IndicesWithin, Within}
 use Rattle.values.proofs.Tables.{each-le}
 
-module _ (b : Book) (ranged : inRange b ≡ true) where
+module _ (b : Book) (ranged : withinLimits b ≡ true) where
   setting-le : (operator which : ℕ) → operator < operators → which < settingCount → settingOf b operator which ≤ settingLimit which
   unfolding settingOf
   setting-le operator which lo lw = le-trans (bounded b ranged .settings .within operator which lo lw) (most-le (b .joined) operator (settingLimit which))

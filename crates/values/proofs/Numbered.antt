@@ -2,6 +2,7 @@
 -- Assumes nothing.
 use Prim.Native.Nat.{ℕ, zero, suc, _*_, _<_}
 use mathlib.Core.Path.{_≡_, refl, ap₂}
+use mathlib.Core.Bool.{true, false, false≢true}
 use mathlib.Core.List.{List, [], _∷_}
 use native.Mathlib.Omega.{arith}
 use lib.ListN.{length, getD}
@@ -10,7 +11,11 @@ use Rattle.book.specs.declared.Book.{Book}
 use Rattle.book.specs.Book.{settingOf, figureOf, indexOf}
 use Rattle.values.specs.Operators.{each, settingsOf, figuresOf}
 use Rattle.exact.specs.Division.{over}
-use Rattle.values.specs.Indicator.{Indicator, frequency, duration, fee, electricity, numbered, yearlyValue, yearlyValues}
+use Rattle.calls.specs.declared.Kind.{Kind}
+use Rattle.calls.specs.declared.Kind.the-variants.{Electricity, Gas}
+use Rattle.calls.specs.Indicators.{Indicator, frequency, duration, fee, electricity, gas, indicatorsOf, takesMark}
+use Rattle.values.specs.Indicator.{numbered, numberedIn, yearlyValue, yearlyValues}
+use Rattle.calls.proofs.KindLaws.{kinds-opened}
 use Rattle.values.proofs.Tables.{each-at, each-same}
 
 -- a fact of each place of a list and the indicator there
@@ -23,9 +28,27 @@ at-place P [] other n all lt = absurd (omega arith)
 at-place P (indicator ∷ rest) other zero all lt = all .0
 at-place P (indicator ∷ rest) other (suc n) all lt = at-place (λ place. P (suc place)) rest other n (all .1) (omega arith)
 
+-- by number it is the one at that place
+pub numbered-at : (number : ℕ) (other : Indicator) → number < indicatorCount → getD electricity number other ≡ numbered number
+unfolding numbered numberedIn electricity
+numbered-at number other lt =
+    at-place (λ place indicator. indicator ≡ numbered place) electricity other number (refl, (refl, (refl, (refl, (refl, (refl, tt)))))) lt
+
 pub of-numbered : (P : ℕ → Indicator → Type 0) → Throughout P electricity → (number : ℕ) → number < indicatorCount → P number (numbered number)
-unfolding numbered electricity
-of-numbered P all number lt = at-place P electricity _ number all lt
+unfolding electricity
+of-numbered P all number lt = rw (numbered-at number (numbered 0) lt) at (at-place P electricity (numbered 0) number all lt)
+
+-- the indicator of a kind by its number
+pub kind-numbered : (kind : Kind) (number : ℕ) → number < indicatorCount → takesMark (indicatorsOf kind) number ≡ true
+    → numberedIn (indicatorsOf kind) number ≡ numbered number
+unfolding numbered numberedIn kinds-opened
+kind-numbered Electricity number lt taken = refl
+kind-numbered Gas number lt taken =
+    of-numbered (λ number indicator. takesMark gas number ≡ true → numberedIn gas number ≡ indicator)
+    (none, (none, (none, (none, ((λ taken. refl), ((λ taken. refl), tt)))))) number lt taken
+  where
+    none : {i j : Indicator} → false ≡ true → i ≡ j
+    none e = absurd (false≢true e)
 
 pub number-of : (number : ℕ) → number < indicatorCount → numbered number .number ≡ number
 unfolding electricity

@@ -1,7 +1,8 @@
 -- The definitions of `values`, and of the crates that they rest on, opened by one name, for cases that are computed.
 -- Assumes nothing.
 use Rattle.exact.specs.Division.{over}
-use Rattle.values.specs.Indicator.{electricity, yearlyValue, threeYears, reliableMask, scores, pool, numbered}
+use Rattle.calls.specs.Indicators.{electricity}
+use Rattle.values.specs.Indicator.{yearlyValue, threeYears, reliableMask, scores, pool, numbered, numberedIn}
 use Rattle.values.specs.Operators.{table, each, count, any}
 use Rattle.calls.proofs.Opened.{calls-opened}
 use Rattle.book.proofs.Opened.{book-opened}
@@ -9,5 +10,5 @@ use Rattle.apportion.proofs.Opened.{apportion-opened}
 use lib.Count.{ones, onesIn}
 
 unfoldable pub values-opened : Unit {0}
-unfolding electricity over yearlyValue threeYears reliableMask scores pool numbered table each count any calls-opened book-opened apportion-opened ones onesIn
+unfolding over yearlyValue threeYears reliableMask scores pool numbered numberedIn table each count any calls-opened book-opened apportion-opened ones onesIn
 values-opened = tt

@@ -9,7 +9,8 @@ use Rattle.calls.specs.Limits.{operators, years, figureCount, indicatorCount}
 use Rattle.calls.specs.Masks.{has}
 use Rattle.book.specs.declared.Book.{Book}
 use Rattle.exact.specs.Division.{over}
-use Rattle.values.specs.Indicator.{frequency, duration, fee, electricity, numbered, yearlyValue, yearlyValues, threeYears, reliableMask, scores}
+use Rattle.calls.specs.Indicators.{frequency, duration, fee, electricity}
+use Rattle.values.specs.Indicator.{numbered, yearlyValue, yearlyValues, threeYears, reliableMask, scores}
 use Rattle.values.proofs.CountLaws.{cond-le}
 use Rattle.values.proofs.Tables.{each-le}
 use Rattle.values.specs.Bounds.{yearlyMost, scoreMost}

@@ -5,10 +5,11 @@ use mathlib.Core.Path.{_≡_, refl, subst}
 use mathlib.Core.List.{List}
 use native.Mathlib.Omega.{arith}
 use lib.ListN.{length}
+use Rattle.calls.specs.Indicators.{electricity}
 use Rattle.calls.specs.Answers.{Said, refused-by, accepted, onAnswer}
 use Rattle.fields.specs.Field.{Found, at-end, call-then, fieldAt}
 use Rattle.fields.proofs.FieldLaws.{Stands, stands}
-use Rattle.filing.specs.Reader.{Fields, followed, fieldsFrom, fieldsOf}
+use Rattle.filing.specs.Reader.{Fields, followed, fieldsFrom, fieldsIn, fieldsOf}
 use Rattle.filing.specs.Laws.{callsIn}
 use Rattle.filing.proofs.WalkLaws.{after, fields-next}
 use Rattle.filing.specs.Ends.{endIn, foundIn}
@@ -17,7 +18,7 @@ use Rattle.walker.specs.Walk.{pastFound, past, offsetAfter}
 module _ (bytes : List ℕ) where
   -- the fields from an offset on
   abbrev from : ℕ → Fields
-  from at = fieldsFrom (length bytes) bytes at
+  from at = fieldsFrom electricity (length bytes) bytes at
 
   -- so many fields before an offset, and those to come, are the filing's fields
   abbrev Counted : ℕ → Fields → Type 0
@@ -30,17 +31,17 @@ module _ (bytes : List ℕ) where
     pub counted : Counted fields (from offset)
 
   pub at-start : Reached 0 0
-  unfolding fieldsOf
+  unfolding fieldsIn
   at-start = record { within = (omega arith, omega arith); counted = (omega arith, refl, refl) }
 
   module _ (fields offset : ℕ) (reached : Reached fields offset) where
     ahead : Counted fields (after from offset (fieldAt bytes offset))
-    ahead = subst (Counted fields) (fields-next bytes offset) (reached .counted)
+    ahead = subst (Counted fields) (fields-next electricity bytes offset) (reached .counted)
 
     -- a walker that moves has a field before it
     pub one-more : offset < offsetAfter bytes offset → Reached (fields + 1) (offsetAfter bytes offset)
     unfolding offsetAfter past pastFound onAnswer followed callsIn endIn foundIn
-    one-more = go (fieldAt bytes offset) (stands bytes offset) ahead
+    one-more = go (fieldAt bytes offset) (stands electricity bytes offset) ahead
       where
         go : (found : Said Found) → Stands bytes offset found → Counted fields (after from offset found) → offset < past offset found
             → Reached (fields + 1) (past offset found)
@@ -53,7 +54,7 @@ module _ (bytes : List ℕ) where
     pub no-more : offsetAfter bytes offset ≤ offset
         → (fields ≡ length (callsIn (fieldsOf bytes))) × (offset ≡ endIn (fieldsOf bytes)) × (fieldAt bytes offset ≡ foundIn (fieldsOf bytes))
     unfolding offsetAfter past pastFound onAnswer followed callsIn endIn foundIn
-    no-more = go (fieldAt bytes offset) (stands bytes offset) ahead
+    no-more = go (fieldAt bytes offset) (stands electricity bytes offset) ahead
       where
         go : (found : Said Found) → Stands bytes offset found → Counted fields (after from offset found) → past offset found ≤ offset
             → (fields ≡ length (callsIn (fieldsOf bytes))) × (offset ≡ endIn (fieldsOf bytes)) × (found ≡ foundIn (fieldsOf bytes))

@@ -2,13 +2,15 @@
 ghost use mathlib.Core.Path.{_≡_};
 ghost use Prim.Native.Nat.{_+_, _≤_};
 ghost use lib.ListN.{length};
+ghost use Rattle.calls.specs.Indicators.{indicatorsOf};
 ghost use Rattle.text.specs.Buffer.{filledSaid, putInto};
 ghost use Rattle.text.specs.Steps.{withTextAt};
-ghost use Rattle.writing.specs.Written.{written};
-ghost use Rattle.writer.specs.Writer.{writerAnswer, writerBuffer};
+ghost use Rattle.writing.specs.Written.{writtenAs};
+ghost use Rattle.writer.specs.Writer.{writingAnswer, writingBuffer, writerAnswer, writerBuffer, gasWriterAnswer, gasWriterBuffer};
 ghost use Rattle.entries.specs.Entries.{entryBytes};
 use book::Book;
 use book::in_range;
+use calls::Kind;
 use calls::Refusal;
 use encoding::field_size;
 use encoding::put_field;
@@ -17,27 +19,45 @@ use entries::PLACES;
 use entries::entry_at;
 use text::Filled;
 
-// The most that a written filing has.
+// The most that a written filing has, of electricity and of gas.
 pub const WRITTEN_MOST: usize = 11083;
+
+pub const WRITTEN_MOST_GAS: usize = 3595;
 
 // A refusal leaves the buffer; otherwise the bytes after the filing stay.
 pub fn write(b: Book, buffer: &mut [u8]) -> Filled
     ensures { λ r. ⌜ filledSaid r ≡ writerAnswer b (now (buffer .entry)) ⌝ }
     ensures { λ r. ⌜ now (buffer .exit) ≡ writerBuffer b (now (buffer .entry)) ⌝ }
 {
-    if !in_range(b) {
+    write_as(Kind::Electricity, b, buffer)
+}
+
+// Of a book of gas.
+pub fn write_gas(b: Book, buffer: &mut [u8]) -> Filled
+    ensures { λ r. ⌜ filledSaid r ≡ gasWriterAnswer b (now (buffer .entry)) ⌝ }
+    ensures { λ r. ⌜ now (buffer .exit) ≡ gasWriterBuffer b (now (buffer .entry)) ⌝ }
+{
+    write_as(Kind::Gas, b, buffer)
+}
+
+// Of a book of a kind.
+pub fn write_as(kind: Kind, b: Book, buffer: &mut [u8]) -> Filled
+    ensures { λ r. ⌜ filledSaid r ≡ writingAnswer (indicatorsOf kind) b (now (buffer .entry)) ⌝ }
+    ensures { λ r. ⌜ now (buffer .exit) ≡ writingBuffer (indicatorsOf kind) b (now (buffer .entry)) ⌝ }
+{
+    if !in_range(kind, b) {
         return Filled::Refused(Refusal::OutOfRange);
     }
-    let size = written_size(b);
+    let size = written_size(kind, b);
     if buffer.len() < size {
         return Filled::Refused(Refusal::BufferTooShort);
     }
-    put_entries(b, buffer);
+    put_entries(kind, b, buffer);
     Filled::Bytes(size)
 }
 
-fn written_size(b: Book) -> usize
-    ensures { λ r. ⌜ r ≡ length (written b) ⌝ }
+fn written_size(kind: Kind, b: Book) -> usize
+    ensures { λ r. ⌜ r ≡ length (writtenAs (indicatorsOf kind) b) ⌝ }
 {
     let marks = b.marks;
     let settings = b.settings;
@@ -50,6 +70,7 @@ fn written_size(b: Book) -> usize
     let mut place = 0;
     while place < PLACES {
         size += size_of(entry_at(
+            kind,
             joined,
             &marks,
             &settings,
@@ -75,9 +96,9 @@ fn size_of(entry: Entry) -> usize
 }
 
 // Puts the whole filing at the front of a buffer that has room for it.
-fn put_entries(b: Book, out: &mut [u8])
-    requires { ⌜ length (written b) ≤ length (now out) ⌝ }
-    ensures { λ r. ⌜ now (out .exit) ≡ putInto (now (out .entry)) (written b) ⌝ }
+fn put_entries(kind: Kind, b: Book, out: &mut [u8])
+    requires { ⌜ length (writtenAs (indicatorsOf kind) b) ≤ length (now out) ⌝ }
+    ensures { λ r. ⌜ now (out .exit) ≡ putInto (now (out .entry)) (writtenAs (indicatorsOf kind) b) ⌝ }
 {
     let marks = b.marks;
     let settings = b.settings;
@@ -90,6 +111,7 @@ fn put_entries(b: Book, out: &mut [u8])
     let mut place = 0;
     while place < PLACES {
         let entry = entry_at(
+            kind,
             joined,
             &marks,
             &settings,

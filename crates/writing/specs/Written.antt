@@ -7,7 +7,7 @@ use lib.Dec.{eqb}
 use Rattle.book.specs.declared.Book.{Book}
 use Rattle.calls.specs.declared.Call.{Call}
 use Rattle.calls.specs.declared.Call.the-variants.{Join, Setting, Amount, Mark, Rates, Index}
-use Rattle.calls.specs.Call.{joinMarks}
+use Rattle.calls.specs.Indicators.{Indicator, electricity, gas, takesMark}
 use Rattle.calls.specs.Limits.{operators, years, figureCount, settingCount, indicatorCount, indexCount, freshIndex}
 use Rattle.book.specs.Book.{isJoined, isMarked, settingOf, figureOf, indexOf}
 use Rattle.fields.specs.Encoding.{encoded}
@@ -37,12 +37,6 @@ module _ (b : Book) where
       inTurn operators (λ (operator : ℕ). inTurn years (λ (year : ℕ). inTurn figureCount (λ (figure : ℕ).
       unlessFresh (figureOf b operator year figure) 0 (Amount operator year figure 0 (figureOf b operator year figure)))))
 
-  -- "the cleared marks of joined operators and no set ones" (02, point 1)
-  unfoldable pub markCalls : List Call
-  markCalls =
-      inTurn operators (λ (operator : ℕ). inTurn indicatorCount (λ (indicator : ℕ).
-      cond (isJoined b operator && (joinMarks indicator && not (isMarked b operator indicator))) (Mark operator indicator 0 ∷ []) []))
-
   unfoldable pub indexCalls : List Call
   indexCalls = inTurn indexCount (λ (number : ℕ). unlessFresh (indexOf b number) freshIndex (Index number (indexOf b number)))
 
@@ -50,14 +44,30 @@ module _ (b : Book) where
   unfoldable pub rateCalls : List Call
   rateCalls = cond (eqb (b .«pot_rate») 0 && eqb (b .«cap_rate») 0) [] (Rates (b .«pot_rate») (b .«cap_rate») ∷ [])
 
+-- a book of a kind
+module _ (kind : List Indicator) (b : Book) where
+  -- "the cleared marks of joined operators and no set ones" (02, point 1), at the kind's indicators: "the gas writer puts out no other mark"
+  -- (point 4)
+  unfoldable pub markCalls : List Call
+  markCalls =
+      inTurn operators (λ (operator : ℕ). inTurn indicatorCount (λ (indicator : ℕ).
+      cond (isJoined b operator && (takesMark kind indicator && not (isMarked b operator indicator))) (Mark operator indicator 0 ∷ []) []))
+
   -- "only what differs from fresh: joins, settings, amounts, marks .., indices, rates"
   unfoldable pub writtenCalls : List Call
-  writtenCalls = joinCalls ++ settingCalls ++ amountCalls ++ markCalls ++ indexCalls ++ rateCalls
+  writtenCalls = joinCalls b ++ settingCalls b ++ amountCalls b ++ markCalls ++ indexCalls b ++ rateCalls b
 
 -- calls as the bytes of a filing
 unfoldable pub filingOf : List Call → List ℕ
 filingOf [] = []
 filingOf (call ∷ rest) = encoded call ++ filingOf rest
 
-unfoldable pub written : Book → List ℕ
-written b = filingOf (writtenCalls b)
+unfoldable pub writtenAs : List Indicator → Book → List ℕ
+writtenAs kind b = filingOf (writtenCalls kind b)
+
+-- "Filing, writing and settling have calls of their own for a gas book" (02, point 4); a book is electricity's else
+abbrev pub written : Book → List ℕ
+written = writtenAs electricity
+
+abbrev pub writtenGas : Book → List ℕ
+writtenGas = writtenAs gas

@@ -2,16 +2,16 @@
 -- Assumes nothing.
 use mathlib.Core.Path.{refl, _∙_}
 use Rattle.values.proofs.InRange.{lending, lending-marked, lending-measured}
-use Rattle.gathering.proofs.Gathering.{point-le}
+use Rattle.gathering.proofs.Gathering.{numbered-le}
 use borrow.Author.Needs.{needs}
 use Rattle.gathering.proofs.gather_one.Statement.{statement}
 use Rattle.gathering.proofs.gather_one.Tie as tie
 
-points-of-requires : tie.Need-points-of-requires
-points-of-requires c κs = search needs
+points-in-requires : tie.Need-points-in-requires
+points-in-requires c κs = search needs
 
-pool-of-requires : tie.Need-pool-of-requires
-pool-of-requires c κs = search needs
+pool-in-requires : tie.Need-pool-in-requires
+pool-in-requires c κs = search needs
 
 mul-pools : tie.Need-mul-pools
 mul-pools c = search needs
@@ -35,16 +35,16 @@ add-requires c κs =
     let indices = begun .args .indices .now in
     let b = lending joined marks settings figures indices in
     let shares =
-    c .before .before .before .before .before .points-of .ensures b (lending-marked joined marks settings figures indices) (lending-measured joined marks settings figures indices) in (
+    c .before .before .before .before .before .points-in .ensures b (lending-marked joined marks settings figures indices) (lending-measured joined marks settings figures indices) in (
       begun .pre .totals-most,
-      λ k. rw shares (point-le b (begun .args .number) (begun .pre .number-there) k),
+      λ k. rw shares (numbered-le b (begun .args .kind) (begun .args .number) (begun .pre .number-there) k),
     )
 
 returns : tie.Need-returns
 returns c = λ b marked measured.
-    let shares = c .before .before .before .before .before .before .points-of .ensures b marked measured in
+    let shares = c .before .before .before .before .before .before .points-in .ensures b marked measured in
     record {
-      pools-are = rw (c .before .before .before .before .pool-of .ensures .0 b marked) refl;
+      pools-are = rw (c .before .before .before .before .pool-in .ensures b marked) refl;
       points-are = c .before .before .place .ensures ∙ rw shares refl;
       totals-are = c .add .ensures ∙ rw shares refl;
     }
@@ -53,8 +53,8 @@ pub gather-one-spec : {M : Type 1} → statement M
 gather-one-spec =
     tie.close
     (tie.spec
-    points-of-requires
-    pool-of-requires
+    points-in-requires
+    pool-in-requires
     mul-pools
     array-write-pools
     mul-place

@@ -4,6 +4,7 @@ use mathlib.Core.Path.{_≡_, refl, sym, ap, _∙_}
 use mathlib.Core.Bool.{true, false}
 use Rattle.book.specs.declared.Book.{Book}
 use Rattle.calls.specs.Answers.{isRefused}
+use Rattle.calls.specs.Indicators.{indicatorsOf}
 use Rattle.book.specs.Steps.{lentBook}
 use Rattle.ledger.specs.Calls.{apply}
 use Rattle.filing.specs.Reader.{reachedBy}
@@ -37,13 +38,13 @@ returns c =
     let start = begun (c .before .before .before) in
     let old = before start in
     let gives = c .before .before .before .apply-in .ensures in
-    let stops : isRefused (apply old (start .args .filing-call) .said) ≡ true =
+    let stops : isRefused (apply (indicatorsOf (start .args .kind)) old (start .args .filing-call) .said) ≡ true =
     ap isRefused (sym (gives .0)) ∙ sym (c .before .before .is-refused .ensures) ∙ c .before .if1 .taken in
     rw stops
-    (c .stop .ensures _ ∙ (λ i. stopped (reachedBy ((gives .1 ∙ refused-leaves old (start .args .filing-call) stops) i) (start .args .reached)) (gives .0 i)))
+    (c .stop .ensures _ ∙ (λ i. stopped (reachedBy ((gives .1 ∙ refused-leaves _ old (start .args .filing-call) stops) i) (start .args .reached)) (gives .0 i)))
 
-add-t21 : tie.Need-add-t21
-add-t21 c = search needs
+add-t22 : tie.Need-add-t22
+add-t22 c = search needs
 
 -- applied
 returns-2 : tie.Need-returns-2
@@ -52,11 +53,11 @@ returns-2 c =
     let start = begun (c .before .before .before) in
     let old = before start in
     let gives = c .before .before .before .apply-in .ensures in
-    let goes : isRefused (apply old (start .args .filing-call) .said) ≡ false =
+    let goes : isRefused (apply (indicatorsOf (start .args .kind)) old (start .args .filing-call) .said) ≡ false =
     ap isRefused (sym (gives .0)) ∙ sym (c .before .before .is-refused .ensures) ∙ c .before .if1 .left in
     rw (goes, ← gives .0, ← gives .1) refl
 
 pub advance-spec : {M : Type 1} → statement M
 advance-spec =
     tie.close
-    (tie.spec apply-in-requires is-refused-requires stop-requires returns add-t21 returns-2)
+    (tie.spec apply-in-requires is-refused-requires stop-requires returns add-t22 returns-2)

@@ -7,10 +7,10 @@ use Rattle.replay.proofs.run.Statement.{statement}
 use Rattle.replay.proofs.run.Tie as tie
 
 abbrev Inv-loop : tie.InvT-loop
-Inv-loop bytes lends b₀ at₀ b at = at ≤ length bytes
+Inv-loop bytes lends kind₀ b₀ at₀ kind b at = at ≤ length bytes
 
 abbrev μ-loop : tie.MeasureT-loop
-μ-loop bytes lends b₀ at₀ b at = length bytes - at
+μ-loop bytes lends kind₀ b₀ at₀ kind b at = length bytes - at
 
 fresh-requires : tie.Need-fresh-requires Inv-loop μ-loop
 fresh-requires c κs = search needs
@@ -26,6 +26,12 @@ shared-slice-read-word c = search needs
 
 word-requires : tie.Need-word-requires Inv-loop μ-loop
 word-requires c κs = search needs
+
+shared-slice-read-kind-by : tie.Need-shared-slice-read-kind-by Inv-loop μ-loop
+shared-slice-read-kind-by c = search needs
+
+kind-by-requires : tie.Need-kind-by-requires Inv-loop μ-loop
+kind-by-requires c κs = search needs
 
 step-requires : tie.Need-step-requires Inv-loop μ-loop
 step-requires c κs = search needs
@@ -56,6 +62,8 @@ run-spec =
     sub-loop
     shared-slice-read-word
     word-requires
+    shared-slice-read-kind-by
+    kind-by-requires
     step-requires
     put-requires
     after-requires

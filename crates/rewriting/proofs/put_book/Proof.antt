@@ -3,6 +3,7 @@
 use Prim.Native.Nat.{ℕ}
 use mathlib.Core.Path.{_≡_, sym, ap, _∙_}
 use native.Mathlib.Omega.{arith}
+use Rattle.calls.specs.Indicators.{indicatorsOf}
 use Rattle.text.specs.Buffer.{filledSaid}
 use Rattle.writer.proofs.AnswerLaws.{write-fits}
 use Rattle.rewriting.proofs.PrintoutLaws.{wrote-all}
@@ -10,8 +11,8 @@ use borrow.Author.Needs.{needs}
 use Rattle.rewriting.proofs.put_book.Statement.{statement}
 use Rattle.rewriting.proofs.put_book.Tie as tie
 
-write-requires : tie.Need-write-requires
-write-requires c κs = search needs
+write-as-requires : tie.Need-write-as-requires
+write-as-requires c κs = search needs
 
 enum-known-count : tie.Need-enum-known-count
 enum-known-count c = search needs
@@ -26,9 +27,9 @@ same-length c = search needs
 returns : tie.Need-returns
 returns c =
     let begun = c .before .before .before .before .before .before .before .before in
-    let wrote = c .before .before .before .before .before .write in
-    let counted = sym (ap filledSaid (c .before .count .given .1)) ∙ wrote-all (begun .args .b) (begun .args .out .now) (begun .pre .0) (begun .pre .1) (wrote .result) (wrote .ensures .0) in
-    (cc, wrote .ensures .1 ∙ sym (write-fits (begun .args .b) (begun .args .out .now) (begun .pre .0) (begun .pre .1) .1))
+    let wrote = c .before .before .before .before .before .write-as in
+    let counted = sym (ap filledSaid (c .before .count .given .1)) ∙ wrote-all (indicatorsOf (begun .args .kind)) (begun .args .b) (begun .args .out .now) (begun .pre .0) (begun .pre .1) (wrote .result) (wrote .ensures .0) in
+    (cc, wrote .ensures .1 ∙ sym (write-fits (indicatorsOf (begun .args .kind)) (begun .args .b) (begun .args .out .now) (begun .pre .0) (begun .pre .1) .1))
 
 same-length-2 : tie.Need-same-length-2
 same-length-2 c = search needs
@@ -37,8 +38,8 @@ same-length-2 c = search needs
 returns-2 : tie.Need-returns-2
 returns-2 c =
     let begun = c .before .before .before .before .before .before .before .before in
-    let wrote = c .before .before .before .before .before .write in
-    let refused = sym (ap filledSaid (c .before .refusal .given .1)) ∙ wrote-all (begun .args .b) (begun .args .out .now) (begun .pre .0) (begun .pre .1) (wrote .result) (wrote .ensures .0) in
+    let wrote = c .before .before .before .before .before .write-as in
+    let refused = sym (ap filledSaid (c .before .refusal .given .1)) ∙ wrote-all (indicatorsOf (begun .args .kind)) (begun .args .b) (begun .args .out .now) (begun .pre .0) (begun .pre .1) (wrote .result) (wrote .ensures .0) in
     let never : _≡_ {A = ℕ} 0 1 = cc in
     absurd (omega arith)
 
@@ -46,7 +47,7 @@ pub put-book-spec : {M : Type 1} → statement M
 put-book-spec =
     tie.close
     (tie.spec
-    write-requires
+    write-as-requires
     enum-known-count
     enum-known-refusal
     same-length

@@ -3,6 +3,7 @@
 use mathlib.Core.Path.{_≡_, refl, sym, ap, _∙_}
 use mathlib.Core.Bool.{Bool, true}
 use Rattle.posting.specs.declared.Admission.{Admission}
+use Rattle.calls.specs.Indicators.{electricity}
 use Rattle.calls.specs.Answers.{firstOf}
 use Rattle.calls.specs.Call.{factsOf}
 use Rattle.calls.proofs.Flags.{denied, granted}
@@ -47,7 +48,7 @@ abbrev begun : tie.After-admit → tie.Start
 begun m = m .before .before .before .before
 
 module _ (m : tie.After-admit) where
-  ranged : inRange (begun m .args .b) ≡ true
+  ranged : inRange electricity (begun m .args .b) ≡ true
   ranged = granted (m .before .before .before .in-range .ensures) (m .before .if1 .left)
 
   answered : (answer : Admission) → m .admit .result ≡ answer

@@ -5,21 +5,22 @@ use mathlib.Core.Path.{_≡_, refl, _∙_}
 use native.Mathlib.Omega.{arith}
 use lib.ListN.{length}
 use borrow.Author.Needs.{needs}
+use Rattle.calls.specs.Indicators.{indicatorsOf}
 use Rattle.book.specs.Book.{bookWith}
 use Rattle.text.proofs.WrittenLaws.{Put, put-nothing, put-then, room-after}
 use Rattle.text.proofs.FittingLaws.{written-front}
-use Rattle.writing.specs.Written.{written}
+use Rattle.writing.specs.Written.{writtenAs}
 use Rattle.entries.specs.Entries.{places}
 use Rattle.writer.proofs.SoFarLaws.{soFar, so-far-none, so-far-all, so-far-entry, room-more}
 use Rattle.writer.proofs.put_entries.Statement.{statement}
 use Rattle.writer.proofs.put_entries.Tie as tie
 
 abbrev Inv-loop : tie.InvT-loop
-Inv-loop out₀ marks settings figures indices joined pot-rate cap-rate at₀ place₀ out at place =
-    (place ≤ places) × Put out₀ 0 (soFar (bookWith joined marks settings figures pot-rate cap-rate indices) place) out at × (length out ≡ length out₀)
+Inv-loop kind out₀ marks settings figures indices joined pot-rate cap-rate at₀ place₀ out at place =
+    (place ≤ places) × Put out₀ 0 (soFar (indicatorsOf kind) (bookWith joined marks settings figures pot-rate cap-rate indices) place) out at × (length out ≡ length out₀)
 
 abbrev μ-loop : tie.MeasureT-loop
-μ-loop out₀ marks settings figures indices joined pot-rate cap-rate at₀ place₀ out at place = places - place
+μ-loop kind out₀ marks settings figures indices joined pot-rate cap-rate at₀ place₀ out at place = places - place
 
 loop-holds : tie.Need-loop-holds Inv-loop μ-loop
 loop-holds c = (omega arith, rw so-far-none (put-nothing (c .before .before .before .before .before .args .out .now) 0), refl)
@@ -32,7 +33,7 @@ put-entry-requires c κs =
     let begun = c .before .before .before .before .before .before .before .before .before .before .before .before .before in
     let here = c .before .before .before .before .before .before .before .loop in
     let entry = c .before .entry-at .ensures in
-    room-after (begun .args .out .now) 0 (soFar (begun .args .b) (here .place)) _ (room-more (begun .args .b) (here .place) entry (begun .args .out .now) (omega arith) (begun .pre)) (here .inv .1)
+    room-after (begun .args .out .now) 0 (soFar (indicatorsOf (begun .args .kind)) (begun .args .b) (here .place)) _ (room-more (indicatorsOf (begun .args .kind)) (begun .args .b) (here .place) entry (begun .args .out .now) (omega arith) (begun .pre)) (here .inv .1)
 
 add-place : tie.Need-add-place Inv-loop μ-loop
 add-place c = omega arith
@@ -47,8 +48,8 @@ loop-again c =
     let entry = c .before .before .before .before .entry-at .ensures in
     let put = c .before .before .put-entry in (
       omega arith,
-      rw (so-far-entry (begun .args .b) (here .place) entry)
-          (put-then (begun .args .out .now) 0 (soFar (begun .args .b) (here .place)) _ (room-more (begun .args .b) (here .place) entry (begun .args .out .now) (omega arith) (begun .pre)) (here .inv .1) (put .ensures)),
+      rw (so-far-entry (indicatorsOf (begun .args .kind)) (begun .args .b) (here .place) entry)
+          (put-then (begun .args .out .now) 0 (soFar (indicatorsOf (begun .args .kind)) (begun .args .b) (here .place)) _ (room-more (indicatorsOf (begun .args .kind)) (begun .args .b) (here .place) entry (begun .args .out .now) (omega arith) (begun .pre)) (here .inv .1) (put .ensures)),
       put .kept .0 ∙ here .inv .2,
     )
 
@@ -60,7 +61,7 @@ returns c =
     let begun = c .before .before .before .before .before .before .before in
     let here = c .before .loop in
     let last : here .place ≡ places = omega arith in
-    here .inv .1 .0 ∙ rw (last, so-far-all) (written-front (begun .args .out .now) (written (begun .args .b)))
+    here .inv .1 .0 ∙ rw (last, so-far-all) (written-front (begun .args .out .now) (writtenAs (indicatorsOf (begun .args .kind)) (begun .args .b)))
 
 pub put-entries-spec : {M : Type 1} → statement M
 put-entries-spec =

@@ -4,6 +4,7 @@ use Prim.Native.Nat.{_+_, _*_, _-_, _≤_}
 use mathlib.Core.Path.{_≡_, refl, _∙_}
 use native.Mathlib.Omega.{arith}
 use lib.ListN.{length}
+use Rattle.calls.specs.Indicators.{indicatorsOf}
 use Rattle.book.specs.Book.{bookWith}
 use Rattle.entries.specs.Entries.{places}
 use Rattle.writer.proofs.SoFarLaws.{soFar, so-far-none, so-far-all, size-more}
@@ -11,11 +12,11 @@ use Rattle.writer.proofs.written_size.Statement.{statement}
 use Rattle.writer.proofs.written_size.Tie as tie
 
 abbrev Inv-loop : tie.InvT-loop
-Inv-loop marks settings figures indices joined pot-rate cap-rate size₀ place₀ size place =
-    (place ≤ places) × (size ≡ length (soFar (bookWith joined marks settings figures pot-rate cap-rate indices) place)) × (size ≤ 15 * place)
+Inv-loop kind marks settings figures indices joined pot-rate cap-rate size₀ place₀ size place =
+    (place ≤ places) × (size ≡ length (soFar (indicatorsOf kind) (bookWith joined marks settings figures pot-rate cap-rate indices) place)) × (size ≤ 15 * place)
 
 abbrev μ-loop : tie.MeasureT-loop
-μ-loop marks settings figures indices joined pot-rate cap-rate size₀ place₀ size place = places - place
+μ-loop kind marks settings figures indices joined pot-rate cap-rate size₀ place₀ size place = places - place
 
 loop-holds : tie.Need-loop-holds Inv-loop μ-loop
 loop-holds c = (omega arith, rw so-far-none refl, omega arith)
@@ -40,7 +41,7 @@ loop-again c =
     let here = c .before .before .before .before .before .before .before .loop in
     let entry = c .before .entry-at .ensures in (
       omega arith,
-      rw (here .inv .1, c .size-of .ensures) (size-more _ (here .place) entry),
+      rw (here .inv .1, c .size-of .ensures) (size-more _ _ (here .place) entry),
       omega (arith, entry .short, c .size-of .ensures, here .inv .2),
     )
 

@@ -2,6 +2,7 @@
 -- Assumes nothing.
 use mir.Syntax.{w64}
 use mir.Val.{SFits}
+use Rattle.calls.specs.Indicators.{indicatorsOf}
 use Rattle.calls.proofs.Times.{back}
 use Rattle.book.specs.declared.Book.{Book}
 use Rattle.book.specs.Steps.{lentBook}
@@ -93,13 +94,13 @@ returns-5 c =
 returns-6 : tie.Need-returns-6
 returns-6 c =
     let start = c .before .before .before .before .before .before in
-    rw (c .before .before .before .before .filing-call6 .given .1) (c .rates .ensures (before start))
+    rw (c .before .before .before .before .filing-call6 .given .1) (c .rates .ensures (indicatorsOf (start .args .kind)) (before start))
 
 -- index
 returns-7 : tie.Need-returns-7
 returns-7 c =
     let start = c .before .before .before .before .before in
-    rw (c .before .before .before .filing-call7 .given .1) (c .index .ensures (before start))
+    rw (c .before .before .before .filing-call7 .given .1) (c .index .ensures (indicatorsOf (start .args .kind)) (before start))
 
 pub apply-in-spec : {M : Type 1} → statement M
 apply-in-spec =

@@ -4,8 +4,13 @@ use native.Mathlib.Omega.{arith}
 use borrow.Author.Tests.{lt-ltb, le-ltb}
 use Rattle.calls.specs.Limits.{indicatorCount}
 use Rattle.calls.specs.Call.{factsOf}
+use Rattle.calls.proofs.Flags.{denied, granted}
+use borrow.Author.Needs.{needs}
 use Rattle.calls.proofs.arguments.mark_in_range.Statement.{statement}
 use Rattle.calls.proofs.arguments.mark_in_range.Tie as tie
+
+takes-mark-requires : tie.Need-takes-mark-requires
+takes-mark-requires c κs = search needs
 
 returns : tie.Need-returns
 unfolding factsOf
@@ -13,7 +18,11 @@ returns c = simp (le-ltb (c .before .args .indicator) indicatorCount (c .if1 .ta
 
 returns-2 : tie.Need-returns-2
 unfolding factsOf
-returns-2 c = simp (lt-ltb (c .before .args .indicator) indicatorCount (omega arith))
+returns-2 c = simp (lt-ltb (c .before .before .before .args .indicator) indicatorCount (omega arith), denied (c .before .takes-mark .ensures) (c .if2 .taken))
+
+returns-3 : tie.Need-returns-3
+unfolding factsOf
+returns-3 c = simp (lt-ltb (c .before .before .before .args .indicator) indicatorCount (omega arith), granted (c .before .takes-mark .ensures) (c .if2 .left))
 
 pub mark-in-range-spec : {M : Type 1} → statement M
-mark-in-range-spec = tie.close (tie.spec returns returns-2)
+mark-in-range-spec = tie.close (tie.spec returns takes-mark-requires returns-2 returns-3)

@@ -2,9 +2,9 @@
 -- Assumes nothing.
 use mathlib.Core.Path.{refl}
 use Rattle.calls.specs.declared.Call.the-variants.{Index}
+use Rattle.calls.specs.Indicators.{electricity, some}
 use Rattle.calls.specs.Call.{factsOf}
 use Rattle.book.specs.Book.{withIndices}
-use Rattle.ledger.specs.Table.{some}
 use Rattle.ledger.specs.Calls.{changed}
 use Rattle.calls.proofs.Flags.{denied, granted}
 use Rattle.calls.proofs.RangeLaws.{ranges}
@@ -19,9 +19,9 @@ index-in-range-requires c κs = search needs
 -- 5
 returns : tie.Need-returns
 unfolding factsOf some
-returns c = λ b.
+returns c = λ kind b.
     let start = c .before .before in
-    rw (out-of-range (withIndices b (start .args .indices .now)) (Index (start .args .number) (start .args .value)) refl (denied (c .before .index-in-range .ensures) (c .if1 .taken))) (refl, refl)
+    rw (out-of-range kind (withIndices b (start .args .indices .now)) (Index (start .args .number) (start .args .value)) refl refl (denied (c .before .index-in-range .ensures) (c .if1 .taken))) (refl, refl)
 
 mul-indices : tie.Need-mul-indices
 mul-indices c = search needs
@@ -29,13 +29,13 @@ mul-indices c = search needs
 element-write-indices : tie.Need-element-write-indices
 element-write-indices c =
     let start = c .before .before in
-    ranges (Index (start .args .number) (start .args .value)) (granted (c .before .index-in-range .ensures) (c .if1 .left)) .0
+    ranges electricity (Index (start .args .number) (start .args .value)) (granted (c .before .index-in-range .ensures) (c .if1 .left)) .0
 
 returns-2 : tie.Need-returns-2
 unfolding factsOf some changed
-returns-2 c = λ b.
+returns-2 c = λ kind b.
     let start = c .before .before in
-    rw (done (withIndices b (start .args .indices .now)) (Index (start .args .number) (start .args .value)) refl (granted (c .before .index-in-range .ensures) (c .if1 .left)) refl refl refl) (refl, refl)
+    rw (done kind (withIndices b (start .args .indices .now)) (Index (start .args .number) (start .args .value)) refl refl (granted (c .before .index-in-range .ensures) (c .if1 .left)) refl refl refl) (refl, refl)
 
 pub index-spec : {M : Type 1} → statement M
 index-spec =

@@ -3,6 +3,7 @@
 use mathlib.Core.Path.{refl}
 use Rattle.values.proofs.InRange.{within, pot-rate-le, cap-rate-le}
 use Rattle.money.proofs.InRange.{access-most, incomes-most}
+use Rattle.book.proofs.TakenLaws.{ranged-within}
 use borrow.Author.Needs.{needs}
 use Rattle.settlement.proofs.settling.settle_in_range.Statement.{statement}
 use Rattle.settlement.proofs.settling.settle_in_range.Tie as tie
@@ -10,7 +11,7 @@ use Rattle.settlement.proofs.settling.settle_in_range.Tie as tie
 gather-requires : tie.Need-gather-requires
 gather-requires c κs =
     let start = c .before .before .before .before .before .before .before .before in
-    within (start .args .b) (start .pre)
+    within (start .args .b) (ranged-within _ (start .args .b) (start .pre))
 
 settings-of-requires : tie.Need-settings-of-requires
 settings-of-requires c κs = search needs
@@ -22,15 +23,16 @@ settle-points-requires : tie.Need-settle-points-requires
 settle-points-requires c κs =
     let start = c .before .before .before .before .before .before .before .before .before .before .before .before .before in
     let b = start .args .b in
+    let in-limits = ranged-within _ b (start .pre) in
     let gathered =
     c .before .before .before .before .gather .ensures b (record { joined-are = refl; marks-are = refl })
     (record { settings-are = refl; figures-are = refl; indices-are = refl }) in
     record {
       totals-most = gathered .totals-most;
-      access-most = rw (c .before .before .settings-of .ensures b refl) (access-most b (start .pre));
-      incomes-most = rw (c .settings-of2 .ensures b refl) (incomes-most b (start .pre));
-      pot-most = pot-rate-le b (start .pre);
-      cap-most = cap-rate-le b (start .pre);
+      access-most = rw (c .before .before .settings-of .ensures b refl) (access-most b in-limits);
+      incomes-most = rw (c .settings-of2 .ensures b refl) (incomes-most b in-limits);
+      pot-most = pot-rate-le b in-limits;
+      cap-most = cap-rate-le b in-limits;
     }
 
 returns : tie.Need-returns
@@ -39,7 +41,7 @@ returns c =
     let gathered =
     c .before .before .before .before .before .gather .ensures b (record { joined-are = refl; marks-are = refl })
     (record { settings-are = refl; figures-are = refl; indices-are = refl }) in
-    c .settle-points .ensures b gathered
+    c .settle-points .ensures b _ gathered
     (record {
       access-are = c .before .before .before .settings-of .ensures b refl;
       incomes-are = c .before .settings-of2 .ensures b refl;

@@ -6,7 +6,6 @@ use Prim.Native.Nat.{ℕ, _*_, _/_}
 use lib.ListN.{length, getD}
 use Rattle.values.specs.Operators.{each}
 use Rattle.values.specs.Bounds.{accessLimit}
-use Rattle.values.specs.Indicator.{electricity}
 use Rattle.values.proofs.Tables.{each-same}
 use Rattle.settlement.specs.Settlement.{settlementBy}
 use Rattle.money.specs.Money.{pot, limits, contributions, returns as Money·returns, adjustments}
@@ -48,11 +47,11 @@ returns c =
     let weighed : c .before .before .before .before .before .return-weights .result ≡ each (λ (k : ℕ). getD (args .access) k 0 * getD (args .g .totals) k 0) = c .before .before .before .before .before .return-weights .ensures .0 in
     let shared-2 = c .before .before .before .before .share2 .ensures in
     let capped : c .before .before .before .limits-of .result ≡ each (λ (k : ℕ). args .cap-rate * getD (args .incomes) k 0 / 1000000) = c .before .before .before .limits-of .ensures .0 in
-    λ b gathered charged.
+    λ b indicators gathered charged.
     let pot-is : c .before .before .before .before .before .before .before .pot-of .result ≡ pot b = pooled .0 ∙ rw (charged .pot-is, charged .incomes-are) refl in
     let paid : c .before .before .before .before .before .before .share .result ≡ contributions b = shared ∙ rw (pot-is, charged .access-are) refl in
-    let weights = weighed ∙ weights-same b electricity _ _ (charged .access-are) (gathered .totals-are) in
-    let received : c .before .before .before .before .share2 .result ≡ Money·returns b electricity = shared-2 ∙ rw (pot-is, weights) refl in
+    let weights = weighed ∙ weights-same b indicators _ _ (charged .access-are) (gathered .totals-are) in
+    let received : c .before .before .before .before .share2 .result ≡ Money·returns b indicators = shared-2 ∙ rw (pot-is, weights) refl in
     let limits-are : c .before .before .before .limits-of .result ≡ limits b =
     capped
     ∙ ((λ i. each (λ (k : ℕ). charged .cap-is i * getD (charged .incomes-are i) k 0 / 1000000)) ∙ each-same _ _ (λ k lt. rw (income-at b k lt) refl)) in

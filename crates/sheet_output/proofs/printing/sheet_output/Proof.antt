@@ -5,6 +5,7 @@ use mathlib.Core.Path.{refl}
 use mathlib.Core.List.{List}
 use native.Mathlib.Omega.{arith}
 use Rattle.book.specs.declared.Book.{Book}
+use Rattle.calls.specs.Indicators.{electricity}
 use Rattle.text.specs.Text.{bytesOf}
 use Rattle.calls.proofs.SaidLaws.{told-accepted}
 use Rattle.output.proofs.RefusalLaws.{at-front}
@@ -29,7 +30,7 @@ returns : tie.Need-returns
 unfolding bytesOf sheetOutputOf
 returns c =
     let begun = c .before .before .before .before .before in
-    as-printed (begun .args .out .now) (at-front (begun .args .out .now) (bytesOf "too long\n") (c .put-word .ensures)) (printed-long (sheetAsked begun) (begun .args .filing .now) (omega arith))
+    as-printed (begun .args .out .now) (at-front (begun .args .out .now) (bytesOf "too long\n") (c .put-word .ensures)) (printed-long electricity (sheetAsked begun) (begun .args .filing .now) (omega arith))
 
 read-fresh-requires : tie.Need-read-fresh-requires
 read-fresh-requires c κs = search needs
@@ -53,7 +54,7 @@ returns-2 c =
     let begun = c .before .before .before .before .before .before .before .before .before .before .before in
     let reading = c .before .before .before .before .before .before .before .before .read-fresh in
     as-printed (begun .args .out .now) (c .put-refused-field .ensures)
-    (at-field (sheetAsked begun) (begun .args .filing .now) (omega (arith, c .before .before .before .before .before .before .before .before .before .if1 .left)) (reading .result) (reading .ensures) _ _ refl (c .before .before .before .before .answer .given .1) (c .before .number-of .ensures))
+    (at-field electricity (sheetAsked begun) (begun .args .filing .now) (omega (arith, c .before .before .before .before .before .before .before .before .before .if1 .left)) (reading .result) (reading .ensures) _ _ refl (c .before .before .before .before .answer .given .1) (c .before .number-of .ensures))
 
 -- read to its end
 returns-3 : tie.Need-returns-3
@@ -62,7 +63,7 @@ returns-3 c =
     let begun = c .before .before .before .before .before .before .before .before in
     let reading = c .before .before .before .before .before .read-fresh in
     as-printed (begun .args .out .now) (c .put-sheet .ensures)
-    (at-end (sheetAsked begun) (begun .args .filing .now) (omega (arith, c .before .before .before .before .before .before .if1 .left)) (reading .result) (reading .ensures) (told-accepted (reading .result .progress .answer) (c .before .before .match .keys2)))
+    (at-end electricity (sheetAsked begun) (begun .args .filing .now) (omega (arith, c .before .before .before .before .before .before .if1 .left)) (reading .result) (reading .ensures) (told-accepted (reading .result .progress .answer) (c .before .before .match .keys2)))
 
 pub sheet-output-spec : {M : Type 1} → statement M
 sheet-output-spec =

@@ -37,7 +37,7 @@ use denote.Triple.Walked.{says}
 use denote.Triple.Clauses.{ensured, lasts}
 use Rattle.book.specs.declared.Book.{Book}
 use Rattle.filing.specs.declared.Reading.{Reading}
-use Rattle.filing.specs.Reader.{told, readFrom, read}
+use Rattle.filing.specs.Reader.{told, readFrom, readAs, read}
 use Rattle.book.proofs.Book as B
 use Rattle.book.proofs.Book.Laws as B′
 use Rattle.filing.proofs.Reading as R
@@ -64,7 +64,7 @@ use Rattle.walker.proofs.readings.read.Code as code
 
 -- a walker over the bytes, read on, is the whole filing read
 read-whole : (b : Book) (x : RefT (List ℕ)) (w : Walker) (r : Reading) → w ≡ walkerAt x 0 → told r ≡ readFrom b (now (w .bytes)) (w .offset) → told r ≡ read b (now x)
-unfolding read
+unfolding readAs
 read-whole b x w r made reads = reads ∙ ap (λ (v : Walker). readFrom b (now (v .bytes)) (v .offset)) made
 
 module _ {M : Type 1} (𝓤 : URA M) (H : Heap 𝓤) (A : Atoms 𝓤) (mem : Memory → SProp 𝓤) (run : Routine → Fun 𝓤) where

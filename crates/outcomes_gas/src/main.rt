@@ -1,0 +1,6 @@
+// The program that tells what becomes of each field of a filing of gas.
+use calls::Kind;
+
+fn main() {
+    telling::print_outcomes(Kind::Gas);
+}
