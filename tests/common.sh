@@ -18,6 +18,19 @@ built() { # NAME
 }
 program=$(built quality)
 
+# The option for what is in a folder: those of gas have a name that begins with it.
+option_of() { # FOLDER
+    case $(basename "$1") in
+        gas*) echo --gas ;;
+    esac
+}
+
+# The model, for what is in a folder.
+model_of() { # FOLDER WORD..
+    # shellcheck disable=SC2046
+    "$model" $(option_of "$1") "${@:2}"
+}
+
 # The rest compares programs with the model on generated filings. The script sets "comparison" to the words of the subcommand before
 # the folder, "seed", and "count".
 
@@ -33,7 +46,7 @@ agreeing_part() { # NAME FIRST COUNT
     fi
     mkdir -p mismatches
     cp "$work/$1"/mismatch-*.q mismatches/ || true
-    sed "s|$work/$1|mismatches|g; s|model compare|$model compare|" "$work/$1.said" >&2
+    sed "s|$work/$1|mismatches|g; s|repeat: model |repeat: $model |" "$work/$1.said" >&2
     return 1
 }
 
@@ -49,8 +62,15 @@ filings_agree() { # WHAT
     echo "$1: $count of seed $seed agree"
 }
 
+# Compares a part of the filings made for gas by a program of electricity, which reads most of them and settles few.
+gas_filings_agree() { # WHAT
+    local count=$((count / 6 + 2)) comparison=(--gas-filings "${comparison[@]}")
+    filings_agree "$1"
+}
+
 # The comparison can fail: a model with one mistake is caught.
 wrong_model_is_noticed() { # WHAT
+    rm -rf "$work/slip"
     (cd model && cargo build --quiet --release --offline --features slip --target-dir target/slip)
     if compare_part model/target/slip/release/model slip 0 3000; then
         fail "a wrong model was not noticed"

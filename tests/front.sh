@@ -1,12 +1,14 @@
 #!/usr/bin/env bash
-# Tests the command that staff use, with real runs of the program; the exercise of these tests also by the model.
+# Tests the command that staff use, with real runs of the programs; the exercises of these tests also by the model.
 set -euo pipefail
 . "$(dirname "$0")/common.sh"
 
 # As a first run of staff does, this builds what is not built, or is older than a source by its time alone. It asks every program.
-for asked in "" --show "--sheet 0 2017"; do
+# What becomes of fields is told where there are interruptions, which a gas book refuses.
+for asked in "" --show "--sheet 0 2017" "--gas --show"; do
     ./settle $asked examples/course >"$work/said" 2>&1 </dev/null || fail "$(cat "$work/said")"
 done
+./settle --gas examples/gas >"$work/said" 2>&1 </dev/null || fail "$(cat "$work/said")"
 
 # All that is skipped is told with its reason.
 if ! python3 -B -m unittest --verbose >"$work/said" 2>&1; then
@@ -16,14 +18,18 @@ fi
 sed -n 's/.* \.\.\. skipped /front: skipped: /p' "$work/said" | sort | uniq
 sed -n 's/^Ran /front: /p' "$work/said"
 
-exercise=front/tests/exercise
-./settle --quiet "$exercise/bytes" | cmp - <("$model" program "$exercise/bytes/filing.q")
-echo "front: the exercise prints what the model prints"
+./settle --quiet front/tests/exercise/bytes | cmp - <("$model" program front/tests/exercise/bytes/filing.q)
+./settle --quiet --gas front/tests/gas/bytes | cmp - <("$model" --gas program front/tests/gas/bytes/filing.q)
+echo "front: the exercises print what the model prints"
 
 # What becomes of each field, up to the first that is refused, is what the model answers to its call.
-outcomes=$(built outcomes)
 for example in examples/*/; do
+    case $example in
+    examples/gas*) outcomes=$(built outcomes_gas) calls=(--gas calls) ;;
+    *) outcomes=$(built outcomes) calls=(calls) ;;
+    esac
     (cd "$example" && "$outcomes") >"$work/outcomes"
-    cut -d ' ' -f 2- "$work/outcomes" | cmp - <(sed '/^#/d' "$example/calls.txt" | "$model" calls | sed 's/^left out //; /^refused/q')
+    cut -d ' ' -f 2- "$work/outcomes" |
+        cmp - <(sed '/^#/d' "$example/calls.txt" | "$model" "${calls[@]}" | sed 's/^left out //; /^refused/q')
 done
 echo "front: what becomes of each field of the examples is what the model answers"

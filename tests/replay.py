@@ -19,6 +19,8 @@ COMMANDS = {
     "fresh": (208, ""),
     "show": (209, ""),
     "settle": (210, ""),
+    "gas": (213, ""),
+    "electricity": (214, ""),
 }
 STORE = 211
 SHEET = 212

@@ -1,6 +1,9 @@
 //! The book: what is kept of each operator, the rates and the indices, with
 //! the range of every value.
 
+use crate::sector::Sector;
+use std::ops::Range;
+
 pub const OPERATORS: usize = 16;
 pub const SETTINGS: usize = 5;
 pub const INDICATORS: usize = 6;
@@ -112,16 +115,26 @@ impl Operator {
     }
 
     /// Every value is in its range, and without a join every value is fresh.
-    pub fn in_range(&self) -> bool {
+    pub fn in_range(&self, sector: Sector) -> bool {
         if !self.joined {
             return self.is_fresh();
         }
-        let year_in_range = |year: &Vec<u128>| year.iter().all(|&figure| figure <= MOST_FIGURE);
-        self.cabins.iter().all(|&cabins| cabins <= MOST_CABINS)
-            && self.access_points <= MOST_ACCESS_POINTS
-            && self.income <= MOST_INCOME
+        let setting_in_range =
+            |&setting: &Setting| self.setting(setting) <= sector.most_setting(setting);
+        let figures = sector.figures();
+        let year_in_range = |year: &Vec<u128>| {
+            year.iter().all(|&figure| figure <= MOST_FIGURE)
+                && outside(year, &figures).all(|&figure| figure == 0)
+        };
+        NUMBERED_SETTINGS.iter().all(setting_in_range)
+            && outside(&self.marks, &sector.indicators()).all(|&marked| !marked)
             && self.figures.iter().all(year_in_range)
     }
+}
+
+/// The values of a list whose places are not in the range.
+fn outside<'a, T>(list: &'a [T], range: &Range<usize>) -> impl Iterator<Item = &'a T> {
+    list[..range.start].iter().chain(&list[range.end..])
 }
 
 /// Every year and figure: by year, then figure.
@@ -143,6 +156,10 @@ fn mask(bits: impl Iterator<Item = bool>) -> u128 {
 
 #[derive(Clone, Debug, PartialEq, Eq)]
 pub struct Book {
+    /// The sector of the calls that are made on the book. Its values are of the same
+    /// form in both, so that a book made by the calls of one can be lent to those of
+    /// the other.
+    pub sector: Sector,
     pub operators: Vec<Operator>,
     /// In millionths.
     pub pot_rate: u128,
@@ -153,10 +170,16 @@ pub struct Book {
 }
 
 impl Book {
+    /// A fresh book of electricity.
+    pub fn fresh() -> Book {
+        Book::fresh_in(Sector::Electricity)
+    }
+
     /// Follows 01: "A fresh book has none joined, no marks, all figures and
     /// settings 0, and all four indices 10,000."
-    pub fn fresh() -> Book {
+    pub fn fresh_in(sector: Sector) -> Book {
         Book {
+            sector,
             operators: vec![Operator::fresh(); OPERATORS],
             pot_rate: 0,
             cap_rate: 0,
@@ -164,10 +187,20 @@ impl Book {
         }
     }
 
+    /// The same values, lent to the calls of that sector.
+    pub fn lent_to(&self, sector: Sector) -> Book {
+        Book {
+            sector,
+            ..self.clone()
+        }
+    }
+
     /// False for 01's "book with a value outside its range, or with anything
-    /// but fresh values for an operator not joined".
+    /// but fresh values for an operator not joined"; and by 02, point 4, for "a lent
+    /// gas book in which one of these isn't 0".
     pub fn in_range(&self) -> bool {
-        self.operators.iter().all(Operator::in_range)
+        let operator_in_range = |operator: &Operator| operator.in_range(self.sector);
+        self.operators.iter().all(operator_in_range)
             && self.pot_rate <= MOST_RATE
             && self.cap_rate <= MOST_RATE
             && self
@@ -337,6 +370,68 @@ mod tests {
         }
         out_of_range_with(&fresh, |operator| operator.access_points = 1);
         out_of_range_with(&fresh, |operator| operator.income = 1);
+        for indicator in 0..6 {
+            out_of_range_with(&fresh, |operator| operator.marks[indicator] = true);
+        }
+    }
+
+    /// A gas book with every value at its greatest.
+    fn full_of_gas() -> Book {
+        let mut book = full().lent_to(Sector::Gas);
+        for operator in &mut book.operators {
+            operator.cabins = [0; 3];
+            operator.marks = vec![false, false, false, false, true, true];
+            for year in &mut operator.figures {
+                let [no, most] = [0, 100_000_000_000];
+                *year = vec![no, no, no, no, most, most, most, most, no, no, no, no, no];
+            }
+        }
+        book
+    }
+
+    #[test]
+    fn ends_of_the_ranges_of_gas() {
+        let book = full_of_gas();
+        assert!(book.in_range());
+        // It is in range for electricity as well, but not the other way round.
+        assert!(book.lent_to(Sector::Electricity).in_range());
+        assert!(!full().lent_to(Sector::Gas).in_range());
+        assert!(Book::fresh_in(Sector::Gas).in_range());
+        assert_eq!(
+            Book::fresh_in(Sector::Gas),
+            Book::fresh().lent_to(Sector::Gas)
+        );
+        out_of_range_with(&book, |operator| operator.access_points += 1);
+        out_of_range_with(&book, |operator| operator.income += 1);
+        out_of_range(&book, |book| book.pot_rate += 1);
+        out_of_range(&book, |book| book.cap_rate += 1);
+        out_of_range(&book, |book| book.indices[3] = 0);
+    }
+
+    #[test]
+    fn what_gas_has_not_must_be_0() {
+        let book = full_of_gas();
+        for (year, figure) in figure_places() {
+            // By 1 past the most, which is 0 for those that only electricity has.
+            out_of_range_with(&book, |operator| operator.figures[year][figure] += 1);
+        }
+        for year in 0..3 {
+            out_of_range_with(&book, |operator| operator.cabins[year] = 1);
+        }
+        for indicator in 0..4 {
+            out_of_range_with(&book, |operator| operator.marks[indicator] = true);
+        }
+    }
+
+    #[test]
+    fn values_of_a_gas_operator_not_joined() {
+        let fresh = Book::fresh_in(Sector::Gas);
+        for (year, figure) in figure_places() {
+            out_of_range_with(&fresh, |operator| operator.figures[year][figure] = 1);
+        }
+        for setting in NUMBERED_SETTINGS {
+            out_of_range_with(&fresh, |operator| operator.put_setting(setting, 1));
+        }
         for indicator in 0..6 {
             out_of_range_with(&fresh, |operator| operator.marks[indicator] = true);
         }

@@ -2,8 +2,8 @@
 //! Every call first judges the book, then its own values, then alters the book.
 
 use crate::book::{
-    Book, FIGURES, FIRST_COUNT, INDICATORS, INDICES, LEAST_INDEX, MOST_FIGURE, MOST_INDEX,
-    MOST_RATE, NUMBERED_SETTINGS, OPERATORS, YEARS,
+    Book, FIRST_COUNT, INDICES, LEAST_INDEX, MOST_FIGURE, MOST_INDEX, MOST_RATE, NUMBERED_SETTINGS,
+    OPERATORS, YEARS,
 };
 
 #[cfg(test)]
@@ -58,17 +58,17 @@ pub struct Interruption {
     pub weight: u32,
 }
 
-/// Adds an operator to the joined ones, all six marks set.
-/// Follows 01: "join of one already joined" gives 6; and 02, point 1: "A join
-/// therefore sets all six marks of the operator".
+/// Adds an operator to the joined ones, all marks of the sector set.
+/// Follows 01: "join of one already joined" gives 6.
 pub fn join(book: &mut Book, operator: u8) -> Answer {
     let already = is_joined(book, operator);
     if let Some(number) = refusal(book, &[(4, above_15(operator)), (6, already)]) {
         return Answer::Refused(number);
     }
+    let marks = book.sector.marks_of_a_join();
     let operator = &mut book.operators[usize::from(operator)];
     operator.joined = true;
-    operator.marks = vec![true; INDICATORS];
+    operator.marks = marks;
     Answer::Yes
 }
 
@@ -78,8 +78,10 @@ pub fn join(book: &mut Book, operator: u8) -> Answer {
 pub fn setting(book: &mut Book, operator: u8, which: u8, value: u64) -> Answer {
     let which = usize::from(which);
     let value = u128::from(value);
+    let sector = book.sector;
     let named = NUMBERED_SETTINGS.get(which);
-    let in_range = named.is_some_and(|setting| value <= setting.most());
+    let in_range =
+        named.is_some_and(|&setting| sector.has_setting(setting) && value <= setting.most());
     if let Some(number) = operator_refusal(book, operator, in_range) {
         return Answer::Refused(number);
     }
@@ -89,7 +91,12 @@ pub fn setting(book: &mut Book, operator: u8, which: u8, value: u64) -> Answer {
 
 /// Files or withdraws an interruption.
 /// Follows 01: "The year is that of the end; each has 31,536,000 seconds."
+/// In gas there is no such field: by 02, point 4, it "is refused by 2", whatever its
+/// values; a book out of range gets 5 even before that.
 pub fn interruption(book: &mut Book, filed: &Interruption) -> Answer {
+    if let Some(number) = refusal(book, &[(2, !book.sector.has_interruptions())]) {
+        return Answer::Refused(number);
+    }
     let in_range = interruption_in_range(filed);
     if let Some(number) = operator_refusal(book, filed.operator, in_range) {
         return Answer::Refused(number);
@@ -154,7 +161,7 @@ fn counted_entries(filed: &Interruption) -> Vec<(usize, i128)> {
 pub fn amount(book: &mut Book, operator: u8, year: u8, figure: u8, sign: u8, value: u64) -> Answer {
     let year = usize::from(year);
     let figure = usize::from(figure);
-    let in_range = year < YEARS && figure < FIGURES && sign <= 1;
+    let in_range = year < YEARS && book.sector.has_figure(figure) && sign <= 1;
     if let Some(number) = operator_refusal(book, operator, in_range) {
         return Answer::Refused(number);
     }
@@ -169,7 +176,7 @@ pub fn amount(book: &mut Book, operator: u8, year: u8, figure: u8, sign: u8, val
 /// Follows 02, point 1: "Staff clear each mark when the attestation is in."
 pub fn mark(book: &mut Book, operator: u8, indicator: u8, mark: u8) -> Answer {
     let indicator = usize::from(indicator);
-    let in_range = indicator < INDICATORS && mark <= 1;
+    let in_range = book.sector.has_indicator(indicator) && mark <= 1;
     if let Some(number) = operator_refusal(book, operator, in_range) {
         return Answer::Refused(number);
     }

@@ -1,10 +1,11 @@
 //! Runs programs on generated filings and holds every byte that they put on
 //! standard output and standard error to what the model gives.
 
+mod pairing;
 mod programs;
 
 use crate::files::of_file;
-use crate::generator;
+pub use pairing::Pairing;
 pub use programs::Programs;
 use programs::{Streams, Task};
 use std::fs;
@@ -15,6 +16,7 @@ use std::process::{Command, ExitStatus, Stdio};
 /// Programs, the seed of the filings they are run on, and the folder they are
 /// run in.
 pub struct Comparison {
+    pairing: Pairing,
     programs: Programs,
     folder: PathBuf,
     seed: u64,
@@ -38,9 +40,15 @@ struct Difference {
 
 impl Comparison {
     /// Makes the folder if it is missing; it should hold nothing else.
-    pub fn new(programs: Programs, folder: &str, seed: u64) -> Result<Comparison, String> {
+    pub fn new(
+        pairing: Pairing,
+        programs: Programs,
+        folder: &str,
+        seed: u64,
+    ) -> Result<Comparison, String> {
         fs::create_dir_all(folder).map_err(of_file(folder))?;
         Ok(Comparison {
+            pairing,
             programs,
             folder: PathBuf::from(folder),
             seed,
@@ -59,7 +67,7 @@ impl Comparison {
 
     /// Has the tasks of one filing done, and keeps the filing on a mismatch.
     fn mismatch_at(&self, number: u64) -> Result<Option<Mismatch>, String> {
-        for task in self.programs.tasks(self.seed, number) {
+        for task in self.programs.tasks(self.pairing, self.seed, number) {
             if let Some(difference) = self.difference(task)? {
                 let kept = self.keep(number)?;
                 return Ok(Some(Mismatch {
@@ -75,7 +83,7 @@ impl Comparison {
     fn keep(&self, number: u64) -> Result<PathBuf, String> {
         let name = format!("mismatch-{}-{number}.q", self.seed);
         let kept = self.folder.join(name);
-        let filing = generator::filing(self.seed, number);
+        let filing = self.pairing.filing(self.seed, number);
         fs::write(&kept, filing).map_err(of_file(&kept))?;
         Ok(kept)
     }
@@ -103,7 +111,7 @@ impl Comparison {
         } = mismatch;
         let seed = self.seed;
         let kept = mismatch.kept.display();
-        let words = self.programs.words();
+        let words = [self.pairing.option(), &self.programs.words()].concat();
         let folder = self.folder.display();
         let head = format!(
             "filing {number} of seed {seed} is kept as {kept}\n\

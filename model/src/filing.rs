@@ -3,9 +3,12 @@
 
 use crate::book::Book;
 use crate::calls::{self, lowest, Answer, Interruption};
+use crate::sector::Sector;
 
 /// The bytes of a field before its content: tag and length.
 const HEAD: usize = 3;
+/// The tag of an interruption.
+const INTERRUPTION: u8 = 3;
 
 /// One field: a filing call, its values as filed.
 #[derive(Clone, Copy, Debug, PartialEq, Eq)]
@@ -75,7 +78,7 @@ pub fn read(book: &mut Book, filing: &[u8]) -> Reading {
 
 /// Applies the field at the offset, or notes its refusal.
 fn read_field(book: &mut Book, filing: &[u8], reading: &mut Reading) {
-    let answer = match field_at(filing, reading.offset) {
+    let answer = match field_at(book.sector, filing, reading.offset) {
         Ok(field) => apply(book, &field),
         Err(number) => Answer::Refused(number),
     };
@@ -90,14 +93,14 @@ fn read_field(book: &mut Book, filing: &[u8], reading: &mut Reading) {
 /// The field whose tag is at the offset, or the refusal 1, 2 or 3.
 /// Follows 01's table of answers: "1 or 2 bytes left, or the length passes the
 /// end", "tag unknown", "length wrong for the tag".
-pub fn field_at(filing: &[u8], offset: usize) -> Result<Field, u8> {
+pub fn field_at(sector: Sector, filing: &[u8], offset: usize) -> Result<Field, u8> {
     let left = filing.len() - offset;
     if left < HEAD {
         return Err(1);
     }
     let tag = filing[offset];
     let length = length_at(filing, offset);
-    let right = content_length(tag);
+    let right = content_length(tag).filter(|_| has_tag(sector, tag));
     let refusal = lowest(&[
         (1, length > left - HEAD),
         (2, right.is_none()),
@@ -118,6 +121,11 @@ pub fn after_field(filing: &[u8], offset: usize) -> usize {
 /// The length written after the tag at the offset; its two bytes are there.
 fn length_at(filing: &[u8], offset: usize) -> usize {
     unsigned(&filing[offset + 1..offset + HEAD]) as usize
+}
+
+/// Whether the sector has fields of that tag, if it is one that 01 names.
+fn has_tag(sector: Sector, tag: u8) -> bool {
+    tag != INTERRUPTION || sector.has_interruptions()
 }
 
 /// The length of the content that each tag has.
@@ -618,10 +626,88 @@ mod tests {
             reads_nothing(filing, alter);
         }
     }
+
+    /// Reads into a fresh gas book.
+    fn read_by_gas(filing: &[u8]) -> (Book, Reading) {
+        let mut book = Book::fresh_in(Sector::Gas);
+        let reading = read(&mut book, filing);
+        (book, reading)
+    }
+
+    /// The filing is refused by gas at its first field, and so it is after a join.
+    fn refused_by_gas(filing: &[u8], number: u8) {
+        for (start, applied) in [(&[][..], 0), (&JOIN_0, 1)] {
+            let (book, reading) = read_by_gas(&joined(&[start, filing]));
+            let expected = Reading {
+                applied,
+                offset: start.len(),
+                refusal: Some(number),
+            };
+            assert_eq!(reading, expected, "{filing:02x?}");
+            assert_eq!(book, read_by_gas(start).0);
+        }
+    }
+
+    #[test]
+    fn gas_has_no_tag_3() {
+        // Of any length, with values in range or not, before another field or not.
+        for length in [0, 1, 3, 23, 24, 25, 256] {
+            refused_by_gas(&field(3, length, length), 2);
+            refused_by_gas(&joined(&[&field(3, length, length), &JOIN_1]), 2);
+        }
+        let interruption = Interruption {
+            operator: 0,
+            sign: 0,
+            level: 0,
+            cause: 0,
+            start: 0,
+            end: 181,
+            weight: 1,
+        };
+        refused_by_gas(&encode(&Field::Interruption(interruption)), 2);
+        // 1 comes before it.
+        for length in [1, 24, 65_535] {
+            refused_by_gas(&field(3, length, length - 1), 1);
+        }
+        refused_by_gas(&[3], 1);
+        refused_by_gas(&[3, 0], 1);
+    }
+
+    #[test]
+    fn other_tags_of_gas() {
+        for (tag, right) in [(1, 1), (2, 10), (4, 12), (5, 3), (6, 8), (7, 5)] {
+            refused_by_gas(&field(tag, right + 1, right + 1), 3);
+            refused_by_gas(&field(tag, right, right - 1), 1);
+        }
+        refused_by_gas(&[0, 0, 0], 2);
+        refused_by_gas(&[8, 0, 0], 2);
+        refused_by_gas(&[5, 0, 3, 0, 3, 0], 5);
+        let (book, reading) = read_by_gas(&joined(&[&JOIN_0, &[5, 0, 3, 0, 4, 0]]));
+        assert_eq!((reading.applied, reading.refusal), (2, None));
+        assert_eq!((book.mark_mask(4), book.mark_mask(5)), (0, 1));
+    }
+
+    #[test]
+    fn gas_book_out_of_range() {
+        // An electricity join marks what gas has not: no field is looked at.
+        let mut book = taken(&JOIN_0, 1);
+        book.sector = Sector::Gas;
+        let kept = book.clone();
+        let expected = Reading {
+            applied: 0,
+            offset: 0,
+            refusal: Some(5),
+        };
+        for filing in [&[][..], &[1], &[3, 0, 0], &JOIN_1] {
+            assert_eq!(read(&mut book, filing), expected);
+            assert_eq!(book, kept);
+        }
+    }
+
     /// The field is encoded as these bytes, and decoded from them.
     fn is_encoded(field: Field, bytes: &[u8]) {
         assert_eq!(encode(&field), bytes);
-        assert_eq!(field_at(bytes, 0), Ok(field));
+        assert_eq!(field_at(Sector::Electricity, bytes, 0), Ok(field));
     }
 
     #[test]

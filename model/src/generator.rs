@@ -6,6 +6,7 @@ mod cabins;
 mod counts;
 mod damage;
 mod draft;
+mod gas;
 mod plan;
 mod refused;
 #[cfg(test)]
@@ -13,6 +14,7 @@ mod tests;
 
 use crate::program::MOST_READ;
 use crate::random::Random;
+use crate::sector::Sector;
 pub use asked::asked_sheet;
 use draft::Draft;
 
@@ -54,6 +56,12 @@ pub enum Kind {
     RefusedByCount,
     /// A setting past its limit, or one that there is not.
     RefusedSetting,
+    /// For gas: a setting, figure or indicator that only electricity has.
+    OnlyElectricity,
+    /// For gas: an interruption.
+    Interrupted,
+    /// For gas: a filing made for electricity.
+    Foreign,
     /// About the longest filing that the program reads.
     Long,
 }
@@ -99,18 +107,32 @@ const LONG_LENGTHS: [usize; 8] = [
     MOST_READ,
 ];
 
-/// The kind of the filing with that number.
+/// The kind of electricity's filing with that number.
 pub fn kind(number: u64) -> Kind {
+    kind_in(Sector::Electricity, number)
+}
+
+/// The kind of a sector's filing with that number.
+pub fn kind_in(sector: Sector, number: u64) -> Kind {
     if number % LONG_TURN == LONG_TURN - 1 {
         return Kind::Long;
     }
-    TURNS[(number % TURNS.len() as u64) as usize]
+    let turns = match sector {
+        Sector::Electricity => &TURNS[..],
+        Sector::Gas => &gas::TURNS,
+    };
+    turns[(number % turns.len() as u64) as usize]
 }
 
-/// The filing with that number of the sequence with that seed.
+/// Electricity's filing with that number of the sequence with that seed.
 pub fn filing(seed: u64, number: u64) -> Vec<u8> {
-    let kind = kind(number);
-    let mut draft = Draft::new(Random::new(seed, number));
+    filing_in(Sector::Electricity, seed, number)
+}
+
+/// A sector's filing with that number of the sequence with that seed.
+pub fn filing_in(sector: Sector, seed: u64, number: u64) -> Vec<u8> {
+    let kind = kind_in(sector, number);
+    let mut draft = Draft::new(sector, Random::new(seed, number));
     match kind {
         Kind::Mean => draft.mean(),
         Kind::Incomplete => draft.incomplete(),
@@ -119,6 +141,9 @@ pub fn filing(seed: u64, number: u64) -> Vec<u8> {
         Kind::Refused => draft.refused(),
         Kind::RefusedByCount => draft.refused_by_count(),
         Kind::RefusedSetting => draft.refused_setting(),
+        Kind::OnlyElectricity => draft.only_electricity(),
+        Kind::Interrupted => draft.interrupted(),
+        Kind::Foreign => return filing(seed, number),
         Kind::Long => {
             let turn = number / LONG_TURN % LONG_LENGTHS.len() as u64;
             draft.long(LONG_LENGTHS[turn as usize]);

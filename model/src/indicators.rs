@@ -214,12 +214,15 @@ pub fn value_sums(book: &Book, indicator: &Indicator, operators: &[usize]) -> Ve
         .collect()
 }
 
-/// Pools and points of a book with at least one joined operator.
+/// Pools and points of a book with at least one joined operator, at the indicators of
+/// its sector; 0 at the others.
 /// Follows 01: "Marked operators get 0 and count nowhere else."
 pub fn points(book: &Book, indicators: &[Indicator]) -> Points {
     let mut answer = Points::zero(indicators.len());
-    for (number, indicator) in indicators.iter().enumerate() {
-        put_points(&mut answer, book, number, indicator);
+    for number in book.sector.indicators() {
+        if let Some(indicator) = indicators.get(number) {
+            put_points(&mut answer, book, number, indicator);
+        }
     }
     answer
 }

@@ -1,5 +1,5 @@
 //! The independent reference model, written from the requirement alone: 01, and
-//! points 1 to 3 of 02 where they speak. This file only declares the modules.
+//! points 1 to 4 of 02 where they speak. This file only declares the modules.
 
 pub mod book;
 pub mod calls;
@@ -18,6 +18,7 @@ pub mod program;
 pub mod random;
 pub mod report;
 pub mod script;
+pub mod sector;
 pub mod settlement;
 pub mod sharing;
 pub mod sheet;

@@ -2,9 +2,10 @@
 //! prints the answers, which the modules compute.
 
 use model::book::Book;
-use model::compare::{Comparison, Programs};
+use model::compare::{Comparison, Pairing, Programs};
 use model::files::of_file;
 use model::numbers::{number, numbers};
+use model::sector::Sector;
 use model::{exponent, product, program, script, sharing, walk};
 use std::fs;
 use std::io::{self, BufRead, BufWriter, ErrorKind, Write};
@@ -15,7 +16,9 @@ const SUBCOMMANDS: &str = "expected one of: share, product, table, calls, encode
     program FILE, rewrite FILE, sheet FILE OPERATOR YEAR, \
     compare QUALITY DIR SEED FIRST COUNT, \
     compare-rewrite REWRITE QUALITY DIR SEED FIRST COUNT, \
-    compare-sheet SHEET DIR SEED FIRST COUNT";
+    compare-sheet SHEET DIR SEED FIRST COUNT; \
+    before calls, encode, program, rewrite, compare and compare-rewrite may stand --gas, \
+    before the last two --gas-filings";
 
 const DONE: u8 = 0;
 /// The exit status of `rewrite` when nothing is written.
@@ -45,32 +48,60 @@ fn main() -> ExitCode {
 
 /// Does what the words say; answers the exit status.
 fn dispatch(words: &[&str], output: &mut impl Write) -> Result<u8, String> {
-    let input = io::stdin().lock();
     match words {
-        ["share"] => answer_lines(input, output, on_numbers(sharing::answer)),
-        ["product"] => answer_lines(input, output, on_numbers(product::answer)),
+        ["--gas", words @ ..] => for_both(Sector::Gas, words, output),
+        ["--gas-filings", words @ ..] => comparison(Pairing::GasFilings, words, output),
+        _ => for_electricity(words, output),
+    }
+}
+
+/// The subcommands that are electricity's alone or of no sector, and the others for
+/// electricity.
+fn for_electricity(words: &[&str], output: &mut impl Write) -> Result<u8, String> {
+    match words {
+        ["share"] => answer_lines(input(), output, on_numbers(sharing::answer)),
+        ["product"] => answer_lines(input(), output, on_numbers(product::answer)),
         ["table"] => print_table(output),
-        ["calls"] => answer_calls(input, output),
-        ["encode"] => encode(input, output),
         // Each line is a filing, the empty one too.
-        ["walk"] => for_lines(input, output, as_line(walk::answer)),
-        ["program", file] => print_program(file, output),
-        ["rewrite", file] => rewrite(file, output),
+        ["walk"] => for_lines(input(), output, as_line(walk::answer)),
         ["sheet", file, operator, year] => print_sheet(file, operator, year, output),
-        ["compare", quality, folder, seed, first, count] => {
-            let programs = Programs::settling(quality)?;
-            compare(programs, [folder, seed, first, count], output)
+        ["compare-sheet", sheet, place @ ..] => {
+            let programs = Programs::printing_sheets(sheet);
+            compare(Pairing::Electricity, programs, place, output)
         }
-        ["compare-rewrite", rewrite, quality, folder, seed, first, count] => {
-            let programs = Programs::rewriting(rewrite, quality)?;
-            compare(programs, [folder, seed, first, count], output)
+        _ => for_both(Sector::Electricity, words, output),
+    }
+}
+
+/// The subcommands that there are for both sectors.
+fn for_both(sector: Sector, words: &[&str], output: &mut impl Write) -> Result<u8, String> {
+    match words {
+        ["calls"] => answer_calls(sector, input(), output),
+        // A call has the same bytes in both.
+        ["encode"] => encode(input(), output),
+        ["program", file] => print_program(sector, file, output),
+        ["rewrite", file] => rewrite(sector, file, output),
+        _ => comparison(Pairing::within(sector), words, output),
+    }
+}
+
+/// A comparison of programs for which there is that pairing.
+fn comparison(pairing: Pairing, words: &[&str], output: &mut impl Write) -> Result<u8, String> {
+    match words {
+        ["compare", quality, place @ ..] => {
+            compare(pairing, Programs::settling(quality), place, output)
         }
-        ["compare-sheet", sheet, folder, seed, first, count] => {
-            let programs = Programs::printing_sheets(sheet)?;
-            compare(programs, [folder, seed, first, count], output)
+        ["compare-rewrite", rewrite, quality, place @ ..] => {
+            let programs = Programs::rewriting(rewrite, quality);
+            compare(pairing, programs, place, output)
         }
         _ => Err(SUBCOMMANDS.to_string()),
     }
+}
+
+/// Standard input, which only one subcommand may hold.
+fn input() -> impl BufRead {
+    io::stdin().lock()
 }
 
 fn print_table(output: &mut impl Write) -> Result<u8, String> {
@@ -81,8 +112,12 @@ fn print_table(output: &mut impl Write) -> Result<u8, String> {
 }
 
 /// Answers text commands, which all work on one book.
-fn answer_calls(input: impl BufRead, output: &mut impl Write) -> Result<u8, String> {
-    let mut book = Book::fresh();
+fn answer_calls(
+    sector: Sector,
+    input: impl BufRead,
+    output: &mut impl Write,
+) -> Result<u8, String> {
+    let mut book = Book::fresh_in(sector);
     answer_lines(input, output, |line| script::answer(&mut book, line))
 }
 
@@ -95,9 +130,9 @@ fn encode(input: impl BufRead, output: &mut impl Write) -> Result<u8, String> {
     Ok(DONE)
 }
 
-fn print_program(file: &str, output: &mut impl Write) -> Result<u8, String> {
+fn print_program(sector: Sector, file: &str, output: &mut impl Write) -> Result<u8, String> {
     let bytes = read_if_present(file)?;
-    print(output, &program::printed(bytes.as_deref()))?;
+    print(output, &program::printed_in(sector, bytes.as_deref()))?;
     Ok(DONE)
 }
 
@@ -117,9 +152,9 @@ fn print_sheet(
 
 /// Prints the written filing of the book that a file makes, or tells on standard
 /// error why there is none.
-fn rewrite(file: &str, output: &mut impl Write) -> Result<u8, String> {
+fn rewrite(sector: Sector, file: &str, output: &mut impl Write) -> Result<u8, String> {
     let bytes = read_if_present(file)?;
-    match program::rewritten(bytes.as_deref()) {
+    match program::rewritten_in(sector, bytes.as_deref()) {
         Ok(written) => {
             print(output, &written)?;
             Ok(DONE)
@@ -131,14 +166,20 @@ fn rewrite(file: &str, output: &mut impl Write) -> Result<u8, String> {
     }
 }
 
-/// Compares the programs with the model on so many filings from the first on.
+/// Compares the programs with the model on so many filings from the first on. The
+/// place is the folder, the seed, the first filing and their count.
 fn compare(
-    programs: Programs,
-    [folder, seed, first, count]: [&str; 4],
+    pairing: Pairing,
+    programs: Result<Programs, String>,
+    place: &[&str],
     output: &mut impl Write,
 ) -> Result<u8, String> {
+    let [folder, seed, first, count] = place else {
+        return Err(SUBCOMMANDS.to_string());
+    };
+    let programs = programs?;
     let numbers = numbers_of(first, count)?;
-    let comparison = Comparison::new(programs, folder, number(seed)?)?;
+    let comparison = Comparison::new(pairing, programs, folder, number(seed)?)?;
     let Some(mismatch) = comparison.first_mismatch(numbers)? else {
         return Ok(DONE);
     };
@@ -282,6 +323,19 @@ mod tests {
             &["compare-rewrite", "rewrite", "folder", "1", "2", "3"],
             &["compare-sheet", "sheet", "folder", "1", "2"],
             &["compare-sheet", "sheet", "folder", "1", "2", "3", "4"],
+            &["gas", "program", "a"],
+            &["program", "--gas", "a"],
+            &["--gas"],
+            &["--gas", "--gas", "program", "a"],
+            &["--gas", "program"],
+            &["--gas", "rewrite", "a", "b"],
+            &["--gas", "share"],
+            &["--gas", "walk"],
+            &["--gas", "sheet", "a", "0", "0"],
+            &["--gas", "compare", "quality", "folder", "1", "2"],
+            &["--gas", "compare-sheet", "sheet", "folder", "1", "2", "3"],
+            &["--gas-filings", "program", "a"],
+            &["--gas-filings", "compare", "quality", "folder", "1", "2"],
         ] {
             assert_eq!(dispatch(words, &mut output), refused, "{words:?}");
         }

@@ -5,6 +5,7 @@ use crate::book::Book;
 use crate::calls::Answer;
 use crate::filing::read;
 use crate::report::report;
+use crate::sector::Sector;
 use crate::sheet::{sheet, NAMES};
 use crate::writer::written;
 
@@ -19,7 +20,12 @@ const REPORT_ROOM: usize = 1000;
 /// refused settlement `refused 10`. Such a line, and `too long`, ends with byte
 /// 10 and nothing else is printed."
 pub fn printed(file: Option<&[u8]>) -> Vec<u8> {
-    match book_of(file) {
+    printed_in(Sector::Electricity, file)
+}
+
+/// The same of the program for that sector.
+pub fn printed_in(sector: Sector, file: Option<&[u8]>) -> Vec<u8> {
+    match book_of(sector, file) {
         Ok(book) => reported(&book),
         Err(line) => line,
     }
@@ -28,13 +34,18 @@ pub fn printed(file: Option<&[u8]>) -> Vec<u8> {
 /// The written filing of the book, which the program that rewrites puts on
 /// standard output; or the line that it puts on standard error instead.
 pub fn rewritten(file: Option<&[u8]>) -> Result<Vec<u8>, Vec<u8>> {
-    Ok(written(&book_of(file)?))
+    rewritten_in(Sector::Electricity, file)
+}
+
+/// The same of the program for that sector.
+pub fn rewritten_in(sector: Sector, file: Option<&[u8]>) -> Result<Vec<u8>, Vec<u8>> {
+    Ok(written(&book_of(sector, file)?))
 }
 
 /// What the program that prints a sheet puts on standard output. What stops it from
 /// reading the file is told as by the program that settles.
 pub fn sheet_printed(file: Option<&[u8]>, operator: u8, year: u8) -> Vec<u8> {
-    match book_of(file) {
+    match book_of(Sector::Electricity, file) {
         Ok(book) => sheet_lines(&book, operator, year),
         Err(line) => line,
     }
@@ -55,12 +66,12 @@ fn sheet_lines(book: &Book, operator: u8, year: u8) -> Vec<u8> {
 /// The book that a file makes of a fresh one, or the line that tells why not.
 /// Follows 01: "The program reads `filing.q`, at most 65,536 bytes (a longer
 /// file prints `too long`, a missing one counts as empty)".
-fn book_of(file: Option<&[u8]>) -> Result<Book, Vec<u8>> {
+fn book_of(sector: Sector, file: Option<&[u8]>) -> Result<Book, Vec<u8>> {
     let filing = file.unwrap_or(&[]);
     if filing.len() > MOST_READ {
         return Err(b"too long\n".to_vec());
     }
-    let mut book = Book::fresh();
+    let mut book = Book::fresh_in(sector);
     let reading = read(&mut book, filing);
     match reading.refusal {
         Some(number) => Err(format!("refused {number} at {}\n", reading.offset).into_bytes()),

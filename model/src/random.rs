@@ -1,5 +1,7 @@
 //! Random numbers for made filings and books: always the same for a seed.
 
+use std::ops::Range;
+
 /// A small random generator: a counter whose values are scrambled.
 pub struct Random {
     state: u64,
@@ -58,6 +60,11 @@ impl Random {
     /// A place in a list of that length.
     pub fn place(&mut self, length: usize) -> usize {
         self.up_to(length as u64 - 1) as usize
+    }
+
+    /// One of the numbers of a range.
+    pub fn within(&mut self, range: Range<usize>) -> usize {
+        range.start + self.place(range.len())
     }
 
     pub fn pick<T: Copy>(&mut self, list: &[T]) -> T {

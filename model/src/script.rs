@@ -1,26 +1,30 @@
-//! The text commands of the subcommands `calls` and `encode`: filing calls, raw
-//! values put into the book, and the book, its settlement or a sheet of it printed
-//! on one line.
+//! The text commands of the subcommands `calls` and `encode`: filing calls, the
+//! sector that they are of, raw values put into the book, and the book, its
+//! settlement or a sheet of it printed on one line.
 
 use crate::book::{Book, Operator, NUMBERED_SETTINGS};
 use crate::book::{FIGURES, INDICATORS, INDICES, OPERATORS, SETTINGS, YEARS};
 use crate::calls::{Answer, Interruption, Reason};
 use crate::filing::{self, Field};
 use crate::numbers::{number, signed_number};
+use crate::sector::Sector;
 use crate::settlement;
 use crate::sheet;
 use std::fmt::Display;
 
 /// Answer to one command; filing calls, `fresh` and `store` alter the book. These
-/// two and `show` answer with the whole book.
+/// two and `show` answer with the whole book. After `gas` or `electricity`, which
+/// answer with nothing, the filing calls and `settle` are those of that sector.
 pub fn answer(book: &mut Book, line: &str) -> Result<String, String> {
     let words: Vec<&str> = line.split(' ').collect();
     match words[0] {
         "fresh" => {
             let [] = after(&words)?;
-            *book = Book::fresh();
+            *book = Book::fresh_in(book.sector);
             Ok(show(book))
         }
+        "gas" => lend_to(Sector::Gas, book, &words),
+        "electricity" => lend_to(Sector::Electricity, book, &words),
         "store" => {
             store(book, &words)?;
             Ok(show(book))
@@ -39,6 +43,13 @@ pub fn answer(book: &mut Book, line: &str) -> Result<String, String> {
         }
         _ => Ok(answer_words(filing::apply(book, &field(&words)?))),
     }
+}
+
+/// From now on the calls are those of that sector; the values of the book stay.
+fn lend_to(sector: Sector, book: &mut Book, words: &[&str]) -> Result<String, String> {
+    let [] = after(words)?;
+    book.sector = sector;
+    Ok(String::new())
 }
 
 /// The bytes of the field that a filing call's line names.
@@ -551,6 +562,69 @@ mod tests {
     }
 
     #[test]
+    fn calls_of_gas() {
+        let book = run(&[
+            ("gas", ""),
+            ("show", FRESH),
+            ("settle", "refused 10 0 | | | | | |"),
+            ("join 3", "yes"),
+            ("setting 3 0 0", "refused 5"),
+            ("amount 3 0 8 0 0", "refused 5"),
+            ("mark 3 3 0", "refused 5"),
+            ("interruption 3 0 0 0 0 181 1", "refused 2"),
+            ("interruption 4 0 0 0 0 181 1", "refused 2"),
+            ("interruption 16 0 0 0 0 181 1", "refused 2"),
+            ("store cap 20001", STORED),
+            ("interruption 3 0 0 0 0 181 1", "refused 5"),
+            ("interruption 16 0 0 0 0 181 1", "refused 5"),
+            ("store cap 0", STORED),
+            ("settle", "refused 11 0 | | | | | |"),
+            ("setting 3 1 1", "yes"),
+            ("settle", "refused 12 0 | | | | | |"),
+            ("mark 3 5 0", "yes"),
+            ("settle", "yes 0 | 5:1500 | 83:1500 | | | |"),
+            ("fresh", FRESH),
+            // Still gas.
+            ("join 3", "yes"),
+            (
+                "show",
+                "8 0 0 | 4:8 5:8 | 0:10000 1:10000 2:10000 3:10000 | |",
+            ),
+        ]);
+        assert_eq!(book.sector, Sector::Gas);
+    }
+
+    #[test]
+    fn one_book_for_both_sectors() {
+        let book = run(&[
+            ("join 3", "yes"),
+            ("gas", ""),
+            ("gas", ""),
+            ("rates 1 2", "refused 5"),
+            ("interruption 3 0 0 0 0 181 1", "refused 5"),
+            // The sheet is electricity's.
+            ("sheet 3 0", "yes 0 0 0 0 0"),
+            ("electricity", ""),
+            ("rates 1 2", "yes"),
+            ("interruption 3 0 0 0 0 181 1", "counted 0"),
+            ("gas", ""),
+            ("settle", "refused 5 0 | | | | | |"),
+            ("sheet 3 0", "yes 1 0 0 0 0"),
+            ("store pot 20001", STORED),
+            ("sheet 3 0", "refused 5 0 0 0 0 0"),
+            ("fresh", FRESH),
+            ("join 4", "yes"),
+            ("electricity", ""),
+            ("join 5", "yes"),
+            (
+                "show",
+                "48 0 0 | 0:32 1:32 2:32 3:32 4:48 5:48 | 0:10000 1:10000 2:10000 3:10000 | |",
+            ),
+        ]);
+        assert_eq!(book.sector, Sector::Electricity);
+    }
+
+    #[test]
     fn encoded_commands() {
         for (command, bytes) in [
             ("join 16", vec![1, 0, 1, 16]),
@@ -579,7 +653,15 @@ mod tests {
 
     #[test]
     fn only_filing_calls_are_fields() {
-        for command in ["fresh", "show", "settle", "store pot 1", "sheet 0 0"] {
+        for command in [
+            "fresh",
+            "show",
+            "settle",
+            "store pot 1",
+            "sheet 0 0",
+            "gas",
+            "electricity",
+        ] {
             assert!(encode(command).is_err(), "{command}");
         }
     }
@@ -602,6 +684,10 @@ mod tests {
         "join\t0",
         "fresh 0",
         "show 0",
+        "gas 0",
+        "gas ",
+        "Gas",
+        "electricity 0",
         "sheet",
         "sheet 0",
         "sheet 0 0 0",

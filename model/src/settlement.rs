@@ -1,6 +1,6 @@
 //! Settling a book: the refusals, then points, then money.
 
-use crate::book::{Book, Operator, INDICATORS};
+use crate::book::{Book, Operator, Setting, INDICATORS, NUMBERED_SETTINGS};
 use crate::calls::{lowest, Answer};
 use crate::indicators::{indicators, points, Points};
 use crate::money::{money, Money};
@@ -41,15 +41,21 @@ pub fn settle(book: &Book) -> (Answer, Settlement) {
 /// The number by which settling is refused, if any.
 /// Follows 01's table of answers, numbers 5, 10, 11 and 12; and for the cabins 02,
 /// point 3: "Refusal 11 is given if any of the three is 0." Marks don't matter to it.
+/// For gas it follows 02, point 4: "Refusal 11 looks at access points alone, and
+/// refusal 12 at the two gas indicators."
 pub fn refusal(book: &Book) -> Option<u8> {
     let joined: Vec<&Operator> = book
         .operators
         .iter()
         .filter(|operator| operator.joined)
         .collect();
+    let sector = book.sector;
+    let mut sizes = NUMBERED_SETTINGS.to_vec();
+    sizes.retain(|&setting| sector.has_setting(setting) && setting != Setting::Income);
     let without_size =
-        |operator: &&Operator| operator.cabins.contains(&0) || operator.access_points == 0;
-    let all_marked = |operator: &&Operator| !operator.marks.contains(&false);
+        |operator: &&Operator| sizes.iter().any(|&setting| operator.setting(setting) == 0);
+    let all_marked =
+        |operator: &&Operator| sector.indicators().all(|number| operator.marks[number]);
     lowest(&[
         (5, !book.in_range()),
         (10, joined.is_empty()),

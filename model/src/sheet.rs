@@ -3,6 +3,7 @@
 
 use crate::book::{Book, COUNTS, FIRST_COUNT, YEARS};
 use crate::calls::{operator_refusal, Answer};
+use crate::sector::Sector;
 
 /// The counts of a sheet in their order, in words.
 pub const NAMES: [&str; COUNTS] = ["counted", "short", "planned", "coupled", "exceptional"];
@@ -10,10 +11,12 @@ pub const NAMES: [&str; COUNTS] = ["counted", "short", "planned", "coupled", "ex
 /// The five counts of an operator in a year. The book is unchanged.
 /// Follows 02, point 2: "the call for it gives 4, 5 or 7 as an amount field with
 /// that operator and year would, and five zeros with it"; and 01, by which a book
-/// out of range gets 5 "from every call, before any other check".
+/// out of range gets 5 "from every call, before any other check". The call is
+/// electricity's, whatever those before it were.
 pub fn sheet(book: &Book, operator: u8, year: u8) -> (Answer, [u128; COUNTS]) {
     let year = usize::from(year);
-    if let Some(number) = operator_refusal(book, operator, year < YEARS) {
+    let lent = book.lent_to(Sector::Electricity);
+    if let Some(number) = operator_refusal(&lent, operator, year < YEARS) {
         return (Answer::Refused(number), [0; COUNTS]);
     }
     let figures = &book.operators[usize::from(operator)].figures[year];

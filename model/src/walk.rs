@@ -2,6 +2,7 @@
 
 use crate::filing::{after_field, field_at};
 use crate::numbers::numbers;
+use crate::sector::Sector;
 
 /// What a walk comes to.
 #[derive(Clone, Copy, Debug, PartialEq, Eq)]
@@ -14,8 +15,8 @@ pub struct Walk {
     pub refusal: Option<u8>,
 }
 
-/// Walks over a filing, field by field, up to the first that 1, 2 or 3 of 01's
-/// table of answers refuses.
+/// Walks over a filing of electricity, field by field, up to the first that 1, 2 or 3
+/// of 01's table of answers refuses.
 pub fn walk(filing: &[u8]) -> Walk {
     let mut walk = Walk {
         fields: 0,
@@ -31,7 +32,7 @@ pub fn walk(filing: &[u8]) -> Walk {
 impl Walk {
     /// Passes the field at the offset, or notes its refusal.
     fn step(&mut self, filing: &[u8]) {
-        self.refusal = field_at(filing, self.offset).err();
+        self.refusal = field_at(Sector::Electricity, filing, self.offset).err();
         if self.refusal.is_none() {
             self.fields += 1;
             self.offset = after_field(filing, self.offset);

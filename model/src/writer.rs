@@ -1,9 +1,8 @@
 //! The writer: a book as a filing, put into a lent buffer.
 
-use crate::book::{
-    figure_places, Book, Operator, FRESH_INDEX, INDICATORS, INDICES, OPERATORS, SETTINGS,
-};
+use crate::book::{figure_places, Book, Operator, FRESH_INDEX, INDICES, OPERATORS, SETTINGS};
 use crate::filing::{encode, Field};
+use crate::sector::Sector;
 
 /// Writes the book into the buffer; answers the number of bytes written, or the
 /// number of the refusal, which leaves the buffer.
@@ -31,7 +30,7 @@ pub fn fields(book: &Book) -> Vec<Field> {
         by_operator(book, joins),
         by_operator(book, settings),
         by_operator(book, amounts),
-        by_operator(book, marks),
+        by_operator(book, |operator, kept| marks(operator, kept, book.sector)),
         indices(book),
         rates(book),
     ]
@@ -39,7 +38,7 @@ pub fn fields(book: &Book) -> Vec<Field> {
 }
 
 /// The fields of one sort, by operator.
-fn by_operator(book: &Book, fields: fn(u8, &Operator) -> Vec<Field>) -> Vec<Field> {
+fn by_operator(book: &Book, fields: impl Fn(u8, &Operator) -> Vec<Field>) -> Vec<Field> {
     (0..OPERATORS)
         .flat_map(|k| fields(k as u8, &book.operators[k]))
         .collect()
@@ -81,14 +80,16 @@ fn amounts(operator: u8, kept: &Operator) -> Vec<Field> {
 }
 
 /// Follows 02, point 1: "the writer now writes the cleared marks of joined operators
-/// and no set ones". The join that is written before them sets all six.
-fn marks(operator: u8, kept: &Operator) -> Vec<Field> {
+/// and no set ones"; and point 4: "A gas join marks those two, and the gas writer puts
+/// out no other mark." The join that is written before them sets all of the sector.
+fn marks(operator: u8, kept: &Operator, sector: Sector) -> Vec<Field> {
     let field = |indicator: usize| Field::Mark {
         operator,
         indicator: indicator as u8,
         mark: 0,
     };
-    (0..INDICATORS)
+    let indicators = sector.indicators();
+    indicators
         .filter(|&indicator| kept.joined && !kept.marks[indicator])
         .map(field)
         .collect()
@@ -155,6 +156,7 @@ mod tests {
     /// other value differs from the fresh one.
     fn full() -> Book {
         Book {
+            sector: Sector::Electricity,
             operators: (0..16).map(full_operator).collect(),
             pot_rate: 1,
             cap_rate: 20_000,
@@ -192,7 +194,7 @@ mod tests {
         let filing = written(book);
         // Follows 02, point 3: "The most a writer needs grows to 11,083 bytes."
         assert!(filing.len() <= 11_083);
-        let mut again = Book::fresh();
+        let mut again = Book::fresh_in(book.sector);
         let reading = read(&mut again, &filing);
         assert_eq!(reading.refusal, None);
         assert_eq!(reading.offset, filing.len());
@@ -387,6 +389,60 @@ mod tests {
         round_trip(&other);
     }
 
+    /// A gas book of which everything is written.
+    fn full_of_gas() -> Book {
+        let mut book = full().lent_to(Sector::Gas);
+        for operator in &mut book.operators {
+            operator.cabins = [0; 3];
+            for year in &mut operator.figures {
+                year[..4].fill(0);
+                year[8..].fill(0);
+            }
+        }
+        book
+    }
+
+    #[test]
+    fn longest_filing_of_gas() {
+        // 16 joins of 4 bytes, 32 settings of 13, 192 amounts of 15, 32 cleared
+        // marks of 6, 4 indices of 8 and the rates of 11.
+        let book = full_of_gas();
+        assert!(book.in_range());
+        assert_eq!(fields(&book).len(), 16 + 32 + 192 + 32 + 4 + 1);
+        assert_eq!(written(&book).len(), 3595);
+        round_trip(&book);
+        // Electricity writes the cleared marks of the other indicators too.
+        let lent = book.lent_to(Sector::Electricity);
+        assert_eq!(written(&lent).len(), 3595 + 16 * 4 * 6);
+    }
+
+    #[test]
+    fn only_cleared_marks_of_gas_are_written() {
+        let mut book = Book::fresh_in(Sector::Gas);
+        assert_eq!(join(&mut book, 3), Answer::Yes);
+        writes(&book, &[1, 0, 1, 3]);
+        assert_eq!(mark(&mut book, 3, 5, 0), Answer::Yes);
+        writes(&book, &[1, 0, 1, 3, 5, 0, 3, 3, 5, 0]);
+        round_trip(&book);
+        assert_eq!(mark(&mut book, 3, 4, 0), Answer::Yes);
+        writes(&book, &[1, 0, 1, 3, 5, 0, 3, 3, 4, 0, 5, 0, 3, 3, 5, 0]);
+        round_trip(&book);
+    }
+
+    #[test]
+    fn gas_book_out_of_range() {
+        // An electricity join.
+        let mut book = Book::fresh();
+        assert_eq!(join(&mut book, 3), Answer::Yes);
+        refuses_every_buffer(&book.lent_to(Sector::Gas));
+        let mut cabins = full_of_gas();
+        cabins.operators[15].cabins[2] = 1;
+        refuses_every_buffer(&cabins);
+        let mut count = full_of_gas();
+        count.operators[0].figures[0][8] = 1;
+        refuses_every_buffer(&count);
+    }
+
     #[test]
     fn full_book_with_all_marks_set() {
         let mut book = full();
@@ -422,22 +478,29 @@ mod tests {
         refuses_every_buffer(&index);
     }
 
-    /// The book that a filing makes; a refused one leaves a book as well.
-    fn made(filing: &[u8]) -> Book {
-        let mut book = Book::fresh();
-        read(&mut book, filing);
+    /// The book that a sector's filing makes; a refused one leaves a book as well.
+    fn made(sector: Sector, number: u64) -> Book {
+        let mut book = Book::fresh_in(sector);
+        read(&mut book, &generator::filing_in(sector, 1, number));
         book
     }
 
-    #[test]
-    fn round_trip_of_many_books() {
+    /// Many books of a sector make the round trip; the longest filing has more than
+    /// so many bytes.
+    fn round_trip_of_books(sector: Sector, length: usize) {
         let books: Vec<Book> = (0..1500)
-            .map(|number| made(&generator::filing(1, number)))
-            .filter(|book| *book != Book::fresh())
+            .map(|number| made(sector, number))
+            .filter(|book| *book != Book::fresh_in(sector))
             .collect();
         books.iter().for_each(round_trip);
         assert!(books.len() > 1300, "{}", books.len());
         let longest = books.iter().map(|book| written(book).len()).max();
-        assert!(longest > Some(8000), "{longest:?}");
+        assert!(longest > Some(length), "{longest:?}");
+    }
+
+    #[test]
+    fn round_trip_of_many_books() {
+        round_trip_of_books(Sector::Electricity, 8000);
+        round_trip_of_books(Sector::Gas, 3300);
     }
 }

@@ -7,6 +7,7 @@ mod folder;
 mod text;
 
 use folder::folder;
+use model::sector::Sector;
 use model::{generator, program};
 use std::fs;
 use std::path::{Path, PathBuf};
@@ -23,6 +24,9 @@ const SETTLES: &str = concat!(env!("CARGO_BIN_EXE_model"), " program filing.q");
 const REWRITES: &str = concat!(env!("CARGO_BIN_EXE_model"), " rewrite filing.q");
 /// Prints the sheet that the model prints; the script has the two arguments.
 const PRINTS_SHEETS: &str = concat!(env!("CARGO_BIN_EXE_model"), " sheet filing.q $1 $2");
+/// The same of gas.
+const SETTLES_GAS: &str = concat!(env!("CARGO_BIN_EXE_model"), " --gas program filing.q");
+const REWRITES_GAS: &str = concat!(env!("CARGO_BIN_EXE_model"), " --gas rewrite filing.q");
 /// How many filings are compared: some of them are refused.
 const COUNT: &str = "10";
 /// True from the second run of a program on, which is on what it wrote first.
@@ -32,6 +36,11 @@ const IS_LATER: &str = "echo run >>runs; [ $(wc -l <runs) -gt 1 ]";
 const SETTLING: &[&str] = &["compare", PROGRAM];
 const REWRITING: &[&str] = &["compare-rewrite", PROGRAM, QUALITY];
 const SHEETS: &[&str] = &["compare-sheet", PROGRAM];
+const GAS: &[&str] = &["--gas", "compare", PROGRAM];
+const REWRITING_GAS: &[&str] = &["--gas", "compare-rewrite", PROGRAM, QUALITY];
+/// Programs of electricity on filings made for gas.
+const GAS_FILINGS: &[&str] = &["--gas-filings", "compare", PROGRAM];
+const REWRITING_GAS_FILINGS: &[&str] = &["--gas-filings", "compare-rewrite", PROGRAM, QUALITY];
 
 /// A comparison in a folder of its own.
 struct Compared {
@@ -216,6 +225,47 @@ fn right_programs_are_taken() {
     settling("settles", SETTLES).is_taken();
     rewriting("rewrites", REWRITES).is_taken();
     sheets("sheets", PRINTS_SHEETS).is_taken();
+}
+
+#[test]
+fn right_programs_of_gas_are_taken() {
+    compared("gas", GAS, SETTLES_GAS, "").is_taken();
+    compared("rewrites_gas", REWRITING_GAS, REWRITES_GAS, SETTLES_GAS).is_taken();
+    compared("gas_filings", GAS_FILINGS, SETTLES, "").is_taken();
+    compared(
+        "rewrites_gas_filings",
+        REWRITING_GAS_FILINGS,
+        REWRITES,
+        SETTLES,
+    )
+    .is_taken();
+}
+
+/// A program is noticed that is of the other sector; what is told to repeat it names
+/// its own, and gives the same.
+fn is_told_with_its_sector(compared: &Compared, option: &str) {
+    let (status, told, _) = &compared.given;
+    assert_eq!(*status, 1);
+    let repeat = told.lines().nth(1).unwrap();
+    let start = format!("to repeat: model {option} ");
+    assert!(repeat.starts_with(&start), "{told}");
+    let words: Vec<&str> = repeat.split(' ').skip(3).collect();
+    assert_eq!(run(&words, ""), compared.given);
+    let [file] = &kept(&compared.folder)[..] else {
+        panic!("{told}");
+    };
+    let number = file.strip_prefix("mismatch-1-").unwrap();
+    let number = number.strip_suffix(".q").unwrap().parse().unwrap();
+    let filing = generator::filing_in(Sector::Gas, SEED, number);
+    assert_eq!(fs::read(compared.folder.join(file)).unwrap(), filing);
+}
+
+#[test]
+fn programs_of_the_other_sector_are_noticed() {
+    let other = compared("gas_by_electricity", GAS, SETTLES, "");
+    is_told_with_its_sector(&other, "--gas");
+    let other = compared("gas_filings_by_gas", GAS_FILINGS, SETTLES_GAS, "");
+    is_told_with_its_sector(&other, "--gas-filings");
 }
 
 #[test]

@@ -2,6 +2,7 @@
 //! refusals, and books out of range.
 
 mod counts;
+mod gas;
 
 use super::*;
 use crate::book::{figure_places, Operator};

@@ -1,8 +1,10 @@
 //! The programs under test: what a filing asks of them, and what the model gives.
 
+use super::Pairing;
 use crate::files::of_file;
 use crate::generator;
 use crate::program;
+use crate::sector::Sector;
 use std::fs;
 use std::path::{Path, PathBuf};
 
@@ -78,17 +80,16 @@ impl Programs {
     }
 
     /// The runs that the filing with that number of a seed asks for, in turn.
-    pub fn tasks(&self, seed: u64, number: u64) -> Vec<Task> {
-        let filing = &generator::filing(seed, number)[..];
+    pub fn tasks(&self, pairing: Pairing, seed: u64, number: u64) -> Vec<Task> {
+        let sector = pairing.programs();
+        let filing = &pairing.filing(seed, number)[..];
         match self {
             Programs::Settling { quality } => {
-                let printed = Streams::output(program::printed(Some(filing)));
-                vec![task(quality, "the filing", filing, printed)]
+                vec![task(quality, "the filing", filing, settled(sector, filing))]
             }
-            Programs::Rewriting { rewrite, quality } => match program::rewritten(Some(filing)) {
-                Err(line) => vec![task(rewrite, "the filing", filing, Streams::error(line))],
-                Ok(written) => rewriting_tasks(rewrite, quality, filing, &written),
-            },
+            Programs::Rewriting { rewrite, quality } => {
+                rewriting_tasks(sector, rewrite, quality, filing)
+            }
             Programs::Sheets { sheet } => {
                 let asked = generator::asked_sheet(seed, number);
                 vec![sheet_task(sheet, filing, asked)]
@@ -97,15 +98,24 @@ impl Programs {
     }
 }
 
-/// The filing is rewritten; what was written is rewritten as itself, and settles
-/// as the filing does.
-fn rewriting_tasks(rewrite: &Path, quality: &Path, filing: &[u8], written: &[u8]) -> Vec<Task> {
-    let same = || Streams::output(written.to_vec());
-    let printed = Streams::output(program::printed(Some(filing)));
+/// What the program that settles puts out.
+fn settled(sector: Sector, filing: &[u8]) -> Streams {
+    Streams::output(program::printed_in(sector, Some(filing)))
+}
+
+/// The filing is rewritten, if it is read whole; what was written is rewritten as
+/// itself, and settles as the filing does.
+fn rewriting_tasks(sector: Sector, rewrite: &Path, quality: &Path, filing: &[u8]) -> Vec<Task> {
+    let written = match program::rewritten_in(sector, Some(filing)) {
+        Err(line) => return vec![task(rewrite, "the filing", filing, Streams::error(line))],
+        Ok(written) => written,
+    };
+    let same = || Streams::output(written.clone());
+    let printed = settled(sector, filing);
     vec![
         task(rewrite, "the filing", filing, same()),
-        task(rewrite, "the written filing", written, same()),
-        task(quality, "the written filing", written, printed),
+        task(rewrite, "the written filing", &written, same()),
+        task(quality, "the written filing", &written, printed),
     ]
 }
 

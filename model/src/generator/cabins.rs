@@ -11,13 +11,6 @@ const A1: usize = 0;
 /// The figure that A1 divides.
 const WEIGHT: usize = 0;
 
-/// The numbers of the settings without which a book is refused by 11.
-pub fn size_settings() -> Vec<usize> {
-    (0..SETTINGS)
-        .filter(|&which| least_setting(which) > 0)
-        .collect()
-}
-
 /// The most of each sort of setting, and one past it.
 fn limits() -> Vec<u64> {
     [MOST_CABINS, MOST_ACCESS_POINTS, MOST_INCOME]
@@ -86,6 +79,13 @@ impl Draft {
 
     // Number 11.
 
+    /// The numbers of the settings without which a book is refused by 11.
+    pub fn size_settings(&self) -> Vec<usize> {
+        let mut settings = self.book.sector.settings();
+        settings.retain(|&which| least_setting(which) > 0);
+        settings
+    }
+
     /// A filing in which one setting that every operator needs is missing; now and
     /// then more of them are, or it is filed again.
     pub fn without_size(&mut self) {
@@ -129,7 +129,7 @@ impl Draft {
 
     /// The same for that operator; answers the setting.
     fn take_size_of(&mut self, operator: u8) -> usize {
-        let which = self.random.pick(&size_settings());
+        let which = self.random.pick(&self.size_settings());
         self.file(setting(operator, which, 0));
         which
     }
@@ -145,7 +145,7 @@ impl Draft {
     fn join_without_one_setting(&mut self) {
         let operator = self.other_operator();
         self.file(Field::Join { operator });
-        let mut sizes = size_settings();
+        let mut sizes = self.size_settings();
         sizes.remove(self.random.place(sizes.len()));
         for which in sizes {
             let value = self.value(Style::Digits, 1, most_setting(which));
@@ -182,14 +182,14 @@ impl Draft {
     /// Files a setting with a limit as its value if the book takes it.
     fn file_setting_at_a_limit(&mut self) {
         let operator = self.joined_operator();
-        let which = self.random.place(SETTINGS);
+        let which = self.setting_number();
         let value = self.random.pick(&limits());
         self.file(setting(operator, which, value));
     }
 
     /// A setting past its own limit: by 1, or with a larger limit as its value.
     fn setting_past_a_limit(&mut self, operator: u8) -> Field {
-        let which = self.random.place(SETTINGS);
+        let which = self.setting_number();
         let most = most_setting(which);
         let mut past = limits();
         past.retain(|&value| value > most);

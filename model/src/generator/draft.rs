@@ -1,11 +1,12 @@
 //! A filing in the making: its bytes, the book it makes, and the single fields
 //! that are drawn for it.
 
-use crate::book::{joined, Book, FIGURES, INDICATORS, INDICES, MOST_FIGURE, OPERATORS, YEARS};
-use crate::book::{Setting, NUMBERED_SETTINGS, SETTINGS};
+use crate::book::{joined, Book, INDICATORS, INDICES, MOST_FIGURE, OPERATORS, YEARS};
+use crate::book::{Setting, NUMBERED_SETTINGS};
 use crate::calls::{Answer, Interruption, EARLIEST_START, LATEST_END, YEAR_SECONDS};
 use crate::filing::{apply, encode, Field};
 use crate::random::Random;
+use crate::sector::Sector;
 
 /// 10^11, the most of a figure.
 pub const MOST: u64 = MOST_FIGURE as u64;
@@ -70,7 +71,7 @@ pub fn mark(operator: u8, indicator: usize, mark: u8) -> Field {
     }
 }
 
-/// All six marks of an operator, set or cleared.
+/// All six marks of an operator, set or cleared; gas takes two of them.
 pub fn six_marks(operator: u8, value: u8) -> Vec<Field> {
     (0..INDICATORS)
         .map(|indicator| mark(operator, indicator, value))
@@ -87,11 +88,12 @@ pub fn least_setting(which: usize) -> u64 {
 }
 
 impl Draft {
-    pub fn new(mut random: Random) -> Draft {
+    /// A draft for a sector, whose book takes the fields.
+    pub fn new(sector: Sector, mut random: Random) -> Draft {
         let equal = [(); 3].map(|()| random.of_bits(36));
         Draft {
             random,
-            book: Book::fresh(),
+            book: Book::fresh_in(sector),
             bytes: Vec::new(),
             tags: Vec::new(),
             filed: Vec::new(),
@@ -150,9 +152,20 @@ impl Draft {
         value
     }
 
-    /// Any year and figure.
+    /// Any year and figure of the sector.
     pub fn figure_place(&mut self) -> (usize, usize) {
-        (self.random.place(YEARS), self.random.place(FIGURES))
+        let year = self.random.place(YEARS);
+        (year, self.random.within(self.book.sector.figures()))
+    }
+
+    /// Any indicator of the sector.
+    pub fn indicator(&mut self) -> usize {
+        self.random.within(self.book.sector.indicators())
+    }
+
+    /// The number of any setting of the sector.
+    pub fn setting_number(&mut self) -> usize {
+        self.random.pick(&self.book.sector.settings())
     }
 
     /// What the book has at the place.
@@ -360,7 +373,7 @@ impl Draft {
                 self.index(number)
             }
             2 => {
-                let indicator = self.random.place(INDICATORS);
+                let indicator = self.indicator();
                 mark(operator, indicator, u8::from(self.random.one_in(3)))
             }
             3 => self.interruption_of(operator),
@@ -370,7 +383,7 @@ impl Draft {
                 amount(operator, place, sign, self.value(Style::Digits, 0, MOST))
             }
             _ => {
-                let which = self.random.place(SETTINGS);
+                let which = self.setting_number();
                 let value = self.value(Style::Digits, least_setting(which), most_setting(which));
                 setting(operator, which, value)
             }
@@ -388,14 +401,14 @@ impl Draft {
 
     pub fn clear_mark(&mut self) {
         let operator = self.joined_operator();
-        let indicator = self.random.place(INDICATORS);
+        let indicator = self.indicator();
         self.file(mark(operator, indicator, 0));
     }
 
     /// Sets a mark, whether it was cleared or not; for a while only, or for good.
     pub fn set_mark_again(&mut self) {
         let operator = self.joined_operator();
-        let indicator = self.random.place(INDICATORS);
+        let indicator = self.indicator();
         self.file(mark(operator, indicator, 1));
         if self.random.one_in(2) {
             self.file(mark(operator, indicator, 0));

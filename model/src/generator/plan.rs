@@ -1,6 +1,5 @@
 //! Sound filings: what each kind of them has, and the making of it.
 
-use super::cabins::size_settings;
 use super::draft::{amount, mark, setting, six_marks, Draft, Style, MOST};
 use super::Kind;
 use crate::book::{figure_places, Operator, Setting, MOST_ACCESS_POINTS, MOST_INCOME};
@@ -123,6 +122,10 @@ impl Draft {
             corrections: self.random.pick(&[0, 0, 3]),
         };
         self.suit(&mut plan, kind);
+        if !self.book.sector.has_interruptions() {
+            plan.interruptions = 0;
+            plan.counts = 0;
+        }
         plan
     }
 
@@ -390,11 +393,16 @@ impl Draft {
     /// the next; the yearly values have nothing to round.
     pub fn mean(&mut self) {
         let count = 3 + self.random.place(OPERATORS - 2);
+        // Electricity: one of those that the A indicators read.
+        let first_figure = self.book.sector.figures().start;
         let alike = Alike {
             settings: NUMBERED_SETTINGS.map(|setting| self.even_setting(setting)),
             base: self.random.pick(&[1, 2, 5, 10, 100]),
             step: 1 + self.random.up_to(9),
-            place: (self.random.place(YEARS), self.random.place(4)),
+            place: (
+                self.random.place(YEARS),
+                first_figure + self.random.place(4),
+            ),
         };
         for (steps, operator) in (0..).zip(self.some_operators(count)) {
             self.file_all(alike.fields(operator, steps));
@@ -445,7 +453,7 @@ impl Draft {
 
     fn file_filler(&mut self, operator: u8, left: usize) {
         let field = if left.is_multiple_of(6) {
-            mark(operator, 0, 0)
+            mark(operator, self.book.sector.indicators().start, 0)
         } else {
             self.rates()
         };
@@ -485,7 +493,7 @@ impl Draft {
         let operator = self.other_operator();
         self.file(Field::Join { operator });
         if self.random.one_in(2) {
-            let which = self.random.pick(&size_settings());
+            let which = self.random.pick(&self.size_settings());
             self.file(setting(operator, which, 1));
         }
     }

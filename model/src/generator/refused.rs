@@ -1,7 +1,7 @@
 //! Filings with a field that gets 4 to 9.
 
 use super::draft::{amount, mark, most_setting, setting, Draft, Style, MOST};
-use crate::book::{FIGURES, FIRST_COUNT, INDICATORS, INDICES, OPERATORS, SETTINGS};
+use crate::book::{FIGURES, FIRST_COUNT, INDICES, OPERATORS, SETTINGS};
 use crate::calls::{Interruption, EARLIEST_START, LATEST_END, YEAR_SECONDS};
 use crate::filing::Field;
 
@@ -85,7 +85,7 @@ impl Draft {
     fn field_of(&mut self, operator: u8) -> Field {
         match self.random.up_to(3) {
             0 => {
-                let which = self.random.place(SETTINGS);
+                let which = self.setting_number();
                 let style = self.random.pick(&[Style::Ends, Style::Digits]);
                 setting(operator, which, self.value(style, 0, most_setting(which)))
             }
@@ -100,7 +100,7 @@ impl Draft {
                 amount(operator, place, u8::from(self.random.one_in(4)), value)
             }
             _ => {
-                let indicator = self.random.place(INDICATORS);
+                let indicator = self.indicator();
                 mark(operator, indicator, self.random.place(2) as u8)
             }
         }
@@ -139,7 +139,7 @@ impl Draft {
         let (year, figure) = self.figure_place();
         let sign = self.random.place(2) as u8;
         let value = self.value(Style::Digits, 0, MOST);
-        let indicator = self.random.place(INDICATORS);
+        let indicator = self.indicator();
         let index = self.random.place(INDICES) as u8;
         match self.random.up_to(23) {
             0 => {
@@ -175,7 +175,7 @@ impl Draft {
     }
 
     fn setting_past_most(&mut self, operator: u8) -> Field {
-        let which = self.random.place(SETTINGS);
+        let which = self.setting_number();
         let value = self.random.edge(most_setting(which) + 1, u64::MAX);
         setting(operator, which, value)
     }
@@ -188,7 +188,7 @@ impl Draft {
         }
     }
 
-    fn interruption_out_of_range(&mut self, way: u64, mut filed: Interruption) -> Field {
+    pub fn interruption_out_of_range(&mut self, way: u64, mut filed: Interruption) -> Field {
         match way {
             4 => filed.sign = self.past(2) as u8,
             5 => filed.level = self.past(2) as u8,
@@ -222,13 +222,23 @@ impl Draft {
         Field::Interruption(filed)
     }
 
+    /// One of the ways up to that one, or of those after it, so many, which take
+    /// interruptions.
+    fn way(&mut self, last: u64, by_interruptions: u64) -> u64 {
+        if self.book.sector.has_interruptions() {
+            self.random.up_to(last + by_interruptions)
+        } else {
+            self.random.up_to(last)
+        }
+    }
+
     // Number 8.
 
     /// A figure would pass 10^11.
     fn past_most(&mut self) {
         let operator = self.joined_operator();
         let place = self.figure_place();
-        match self.random.up_to(4) {
+        match self.way(2, 2) {
             0 => {
                 let room = MOST - self.figure(operator, place);
                 self.add(amount(operator, place, 0, room + 1));
@@ -289,7 +299,7 @@ impl Draft {
         let operator = self.joined_operator();
         let place = self.figure_place();
         let total = self.figure(operator, place);
-        match self.random.up_to(3) {
+        match self.way(1, 2) {
             0 => self.add(amount(operator, place, 1, total + 1)),
             1 => {
                 let value = self.random.edge(total + 1, u64::MAX);

@@ -3,16 +3,17 @@
 mod asked;
 mod cabins;
 mod counts;
+mod gas;
 mod marks;
 
 use super::draft::MOST;
 use super::*;
-use crate::book::{Book, INDICATORS};
+use crate::book::Book;
 use crate::calls::{Answer, Interruption, Reason, YEAR_SECONDS};
 use crate::filing::{apply, encode, field_at, read, Field};
 use crate::indicators::{better, indicators, unmarked, value_sums, Kind as IndicatorKind};
 use crate::money::{cut, Money};
-use crate::program::printed;
+use crate::program::printed_in;
 use crate::settlement::{settle, Settlement};
 use std::collections::{BTreeMap, BTreeSet};
 
@@ -67,9 +68,9 @@ fn a_filing_depends_on_seed_and_number_only() {
     assert_eq!(filing(5, u64::MAX), filing(5, u64::MAX));
 }
 
-/// The first words printed, without the offset.
-fn outcome(filing: &[u8]) -> String {
-    let output = String::from_utf8(printed(Some(filing))).unwrap();
+/// The first words printed by the program of a sector, without the offset.
+fn outcome(sector: Sector, filing: &[u8]) -> String {
+    let output = String::from_utf8(printed_in(sector, Some(filing))).unwrap();
     let first = output.lines().next().unwrap();
     match first.split_once(" at ") {
         Some((refused, _)) => format!("{refused} at"),
@@ -77,10 +78,12 @@ fn outcome(filing: &[u8]) -> String {
     }
 }
 
-fn has_all_outcomes(seed: u64) {
+/// All outcomes occur among the filings of a sector, and so many of them settle.
+fn has_all_outcomes(sector: Sector, seed: u64, least_settled: u32) {
     let mut counts: BTreeMap<String, u32> = BTreeMap::new();
     for number in 0..2000 {
-        *counts.entry(outcome(&filing(seed, number))).or_default() += 1;
+        let outcome = outcome(sector, &filing_in(sector, seed, number));
+        *counts.entry(outcome).or_default() += 1;
     }
     let refusals = [
         numbered("refused # at", 1..=9),
@@ -91,14 +94,16 @@ fn has_all_outcomes(seed: u64) {
     assert!(refusals.iter().all(often), "{counts:?}");
     assert!(counts.contains_key("too long"), "{counts:?}");
     let settled = counts["operator points out in adjustment"];
-    assert!(settled >= 1300, "{counts:?}");
+    assert!(settled >= least_settled, "{counts:?}");
     assert_eq!(counts.len(), 14, "{counts:?}");
 }
 
 #[test]
 fn all_outcomes_occur() {
-    has_all_outcomes(1);
-    has_all_outcomes(2017);
+    for seed in [1, 2017] {
+        has_all_outcomes(Sector::Electricity, seed, 1300);
+        has_all_outcomes(Sector::Gas, seed, 1100);
+    }
 }
 
 #[test]
@@ -110,7 +115,7 @@ fn long_filings_have_their_lengths() {
     assert_eq!(lengths, LONG_LENGTHS);
     let too_long: Vec<bool> = filings
         .iter()
-        .map(|filing| outcome(filing) == "too long")
+        .map(|filing| outcome(Sector::Electricity, filing) == "too long")
         .collect();
     let past: Vec<bool> = lengths.iter().map(|&length| length > 65_536).collect();
     assert_eq!(too_long, past);
@@ -184,13 +189,34 @@ fn sound_kinds_are_read_whole() {
     }
 }
 
-/// What filings and their books show.
-#[derive(Default)]
+/// What the filings of a sector and their books show.
 struct Notes {
+    sector: Sector,
     seen: BTreeSet<String>,
 }
 
 impl Notes {
+    /// Those of the first filings.
+    fn of(sector: Sector) -> Notes {
+        let seen = BTreeSet::new();
+        let mut notes = Notes { sector, seen };
+        for number in 0..2000 {
+            notes.filing(&filing_in(sector, 1, number));
+        }
+        notes
+    }
+
+    /// All of this is shown.
+    fn show(&self, expected: Vec<String>) {
+        let expected: BTreeSet<String> = expected.into_iter().collect();
+        let missing: Vec<&String> = expected.difference(&self.seen).collect();
+        assert!(
+            missing.is_empty(),
+            "{missing:?} are not in {:#?}",
+            self.seen
+        );
+    }
+
     fn note(&mut self, what: impl Into<String>) {
         self.seen.insert(what.into());
     }
@@ -212,7 +238,7 @@ impl Notes {
 
     /// Notes the fields up to the first refusal; answers the book they make.
     fn fields(&mut self, filing: &[u8]) -> Book {
-        let mut book = Book::fresh();
+        let mut book = Book::fresh_in(self.sector);
         let mut next = Some(0);
         while let Some(offset) = next {
             next = self.field_at(&mut book, filing, offset);
@@ -222,7 +248,7 @@ impl Notes {
 
     /// Notes the field at the offset; answers the offset after it if it is taken.
     fn field_at(&mut self, book: &mut Book, filing: &[u8], offset: usize) -> Option<usize> {
-        let field = field_at(filing, offset).ok()?;
+        let field = field_at(self.sector, filing, offset).ok()?;
         let before = files_fresh(&field).map(|what| (what, book.clone()));
         let was_marked = mark_in(book, &field);
         let answer = apply(book, &field);
@@ -327,7 +353,7 @@ impl Notes {
 
     fn settlement(&mut self, book: &Book, settlement: &Settlement) {
         self.money(&settlement.money);
-        for number in 0..INDICATORS {
+        for number in book.sector.indicators() {
             self.indicator(book, settlement, number);
         }
     }
@@ -458,26 +484,14 @@ const EXPECTED_TEXTS: [&str; 14] = [
 
 #[test]
 fn filings_show_every_case() {
-    let mut notes = Notes::default();
-    for number in 0..2000 {
-        notes.filing(&filing(1, number));
-    }
     let texts = EXPECTED_TEXTS.map(String::from).to_vec();
-    let expected: BTreeSet<String> = [
+    let expected = [
         expected_counts(),
         expected_left_out(),
         expected_numbers(),
         texts,
-    ]
-    .concat()
-    .into_iter()
-    .collect();
-    let missing: Vec<&String> = expected.difference(&notes.seen).collect();
-    assert!(
-        missing.is_empty(),
-        "{missing:?} are not in {:#?}",
-        notes.seen
-    );
+    ];
+    Notes::of(Sector::Electricity).show(expected.concat());
     assert_eq!(expected_counts().len(), 24);
     assert_eq!(expected_left_out().len(), 48);
 }

@@ -5,6 +5,7 @@ use crate::book::{Book, Operator};
 use crate::calls::Answer;
 use crate::filing::{after_field, apply, field_at, read, Field};
 use crate::generator::{filing, kind, Kind};
+use crate::sector::Sector;
 use crate::settlement::{refusal, settle};
 use std::collections::{BTreeMap, BTreeSet};
 
@@ -187,7 +188,9 @@ fn missing(operator: &Operator) -> Vec<usize> {
 fn is_of_the_old_kind(filing: &[u8]) -> bool {
     let mut offset = 0;
     while offset < filing.len() {
-        if let Ok(Field::Setting { which: 3 | 4, .. }) = field_at(filing, offset) {
+        if let Ok(Field::Setting { which: 3 | 4, .. }) =
+            field_at(Sector::Electricity, filing, offset)
+        {
             return false;
         }
         offset = after_field(filing, offset);
@@ -268,7 +271,7 @@ fn settings_shown(filing: &[u8]) -> BTreeSet<String> {
     let mut book = Book::fresh();
     let mut shown = BTreeSet::new();
     let mut offset = 0;
-    while let Ok(field) = field_at(filing, offset) {
+    while let Ok(field) = field_at(Sector::Electricity, filing, offset) {
         let answer = apply(&mut book, &field);
         let refused = matches!(answer, Answer::Refused(_));
         if let Field::Setting { which, value, .. } = field {

@@ -5,6 +5,7 @@ use crate::book::Book;
 use crate::calls::{Answer, Interruption};
 use crate::filing::{after_field, apply, field_at, Field};
 use crate::generator::filing;
+use crate::sector::Sector;
 use std::collections::{BTreeMap, BTreeSet};
 
 const MOST: u128 = 100_000_000_000;
@@ -64,7 +65,7 @@ impl Shown {
 
     /// Notes the field at the offset; answers the offset after it if it is taken.
     fn field_at(&mut self, book: &mut Book, filing: &[u8], offset: usize) -> Option<usize> {
-        let field = field_at(filing, offset).ok()?;
+        let field = field_at(Sector::Electricity, filing, offset).ok()?;
         let answer = apply(book, &field);
         match field {
             // A refused one has left the book.

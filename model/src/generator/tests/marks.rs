@@ -4,6 +4,7 @@
 use crate::book::{Book, Operator};
 use crate::filing::{after_field, field_at, read, Field};
 use crate::generator::{filing, kind, Kind};
+use crate::sector::Sector;
 use crate::settlement::refusal;
 use std::collections::{BTreeMap, BTreeSet};
 
@@ -19,7 +20,7 @@ fn marks_filed(filing: &[u8]) -> Vec<(MarkPlace, u8)> {
             operator,
             indicator,
             mark,
-        }) = field_at(filing, offset)
+        }) = field_at(Sector::Electricity, filing, offset)
         {
             marks.push(((operator, indicator), mark));
         }
