@@ -4,9 +4,10 @@ import argparse
 
 from front import outputs, table
 from front.calls import OPERATOR, YEAR
+from front.kinds import ELECTRICITY, GAS
 from front.words import shown, value_of
 
-USAGE = "settle [PATH ..] | --show PATH .. | --sheet OPERATOR YEAR PATH .. | --compare A B | --encode FILE PATH | --write FILE PATH"
+USAGE = "settle [--gas] [PATH ..] | --show PATH .. | --sheet OPERATOR YEAR PATH .. | --compare A B | --encode FILE PATH | --write FILE PATH"
 SHEET = (OPERATOR, YEAR)
 
 HELP = """\
@@ -22,6 +23,7 @@ filing (NAME.q), a file of calls in words or, as NAME.csv, by CSV, or - for
 standard input, as a pipe is without a PATH. docs/FILING.md has all the calls:
   amount 1 2018 fees file 50000     # one call a line; this is a comment
 
+  --gas        gas books, which settle on D1 and D2 only; not with --sheet
   --offsets    with --show: the number and the offset of each field, too
   --table      the settlement as CSV; --table=excel has semicolons
   --force      write FILE even if it was read, or is there and is no filing
@@ -55,6 +57,7 @@ def arguments_of(words):
     other.add_argument("--write", metavar="FILE")
     other.add_argument("--table", action="store_const", const=table.COMMA)
     other.add_argument("--table=excel", action="store_const", const=table.SEMICOLON, dest="table")
+    parser.add_argument("--gas", action="store_const", const=GAS, default=ELECTRICITY, dest="book_kind")
     parser.add_argument("--offsets", action="store_true")
     parser.add_argument("--force", action="store_true")
     heard = parser.add_mutually_exclusive_group()
@@ -79,6 +82,8 @@ def _problem(arguments):
         return "--compare takes two PATHs"
     if arguments.show and count == 0:
         return "--show takes at least one PATH"
+    if arguments.sheet is not None and arguments.book_kind.sheet is None:
+        return f"a {arguments.book_kind.name} book has no yearly sheet"
     if arguments.sheet is not None and _wrong_words(arguments.sheet):
         return f"--sheet takes OPERATOR and YEAR: {'; '.join(_wrong_words(arguments.sheet))}"
     if arguments.sheet is not None and count == 0:

@@ -8,12 +8,35 @@ class Place(NamedTuple):
 
     name: str
     bits: int
-    expected: str
+    what: str
     words: Tuple[str, ...] = ()
-    # Words that were taken once, each with what is expected now.
-    former: Tuple[Tuple[str, str], ...] = ()
+    # Words that were taken once, each with the number that it stood for, and what is expected now.
+    former: Tuple[Tuple[str, int, str], ...] = ()
+    # Numbers that have a word and are not taken by a kind of book, each with the reason.
+    lacking: Tuple[Tuple[int, str], ...] = ()
     signed: bool = False
     is_time: bool = False
+
+    @property
+    def taken(self):
+        """The numbers that have a word and are taken."""
+        return [number for number in range(len(self.words)) if not self.lack(number)]
+
+    @property
+    def choice(self):
+        """The words that are taken, and their numbers."""
+        return f"{', '.join(self.words[number] for number in self.taken)}, or a number {self.taken[0]} to {self.taken[-1]}"
+
+    @property
+    def expected(self):
+        """What is expected here."""
+        if self.words:
+            return f"{self.what}: {self.choice}"
+        return self.what if self.is_time else f"{self.what}, as a whole number in digits alone"
+
+    def lack(self, number):
+        """Why a number that has a word is not taken, or None."""
+        return dict(self.lacking).get(number)
 
     def number_of(self, word):
         """The number that a word of this place stands for, or None."""
@@ -23,9 +46,12 @@ class Place(NamedTuple):
                 return number
         return None
 
-    def instead_of(self, word):
-        """What is expected in the place of a word that was taken once, or None."""
-        return dict(self.former).get(word.lower())
+    def former_of(self, word):
+        """The number that a word stood for that was taken once, and what is expected now; nothing twice for any other."""
+        for former, number, expected in self.former:
+            if word.lower() == former:
+                return number, expected
+        return None, None
 
     def fits(self, number):
         """Whether the number can be put into the bytes of this place; its range is the program's to judge."""
@@ -67,12 +93,11 @@ class Call(NamedTuple):
 
 
 def _worded(name, what, words, former=()):
-    numbers = f"a number 0 to {len(words) - 1}"
-    return Place(name, 8, f"{what}: {', '.join(words)}, or {numbers}", words, former)
+    return Place(name, 8, what, words, former)
 
 
 def _number(name, bits, what):
-    return Place(name, bits, f"{what}, as a whole number in digits alone")
+    return Place(name, bits, what)
 
 
 def _time(name):
@@ -90,11 +115,13 @@ SETTINGS = ("cabins-2017", "access-points", "income", "cabins-2018", "cabins-201
 # The settings with the cabins of each year, from 2017 on, whose numbers do not follow each other; then the others.
 CABINS = tuple(SETTINGS.index(f"cabins-{year}") for year in YEARS)
 ACCESS_POINTS, INCOME = map(SETTINGS.index, ("access-points", "income"))
-PLAIN_CABINS = "cabins", "{}, {} or {}: each year has its own cabins".format(*(SETTINGS[which] for which in CABINS))
+PLAIN_CABINS = "cabins", CABINS[0], "{}, {} or {}: each year has its own cabins".format(*(SETTINGS[which] for which in CABINS))
 
-# How many interruptions there were, by what became of them.
+# What interruptions come to, and how many there were, by what became of them.
+MEASURES = ("mv-weight", "mv-seconds", "lv-weight", "lv-seconds")
 COUNTS = ("count-counted", "count-short", "count-planned", "count-coupled", "count-exceptional")
-FIGURES = ("mv-weight", "mv-seconds", "lv-weight", "lv-seconds", "fees", "connections", "reconnection-fees", "reconnections", *COUNTS)
+FIGURES = (*MEASURES, "fees", "connections", "reconnection-fees", "reconnections", *COUNTS)
+INDICATORS = ("A1", "A2", "A3", "A4", "D1", "D2")
 
 OPERATOR = _number("operator", 8, "an operator, 0 to 15")
 YEAR = _worded("year", "a year", YEARS)
@@ -140,7 +167,7 @@ KINDS = (
         "mark",
         (
             OPERATOR,
-            _worded("indicator", "an indicator", ("A1", "A2", "A3", "A4", "D1", "D2")),
+            _worded("indicator", "an indicator", INDICATORS),
             _number("mark", 8, "a mark, 1 (unreliable) or 0"),
         ),
     ),

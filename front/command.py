@@ -8,6 +8,7 @@ from front import outputs
 from front.arguments import arguments_of
 from front.building import ROOT, Builder
 from front.jobs import SETTLED, TROUBLE, Jobs, Outcome
+from front.kinds import ELECTRICITY, kind_of_example
 from front.programs import Programs
 from front.sources import INPUT
 from front.trouble import Trouble
@@ -17,7 +18,7 @@ def main(words):
     """Does what the words of the command line ask; answers the exit status."""
     try:
         arguments = arguments_of(words)
-        return _answered(Jobs(Programs(Builder(ROOT, outputs.tell)), arguments), arguments)
+        return _answered(Builder(ROOT, outputs.tell), arguments)
     except outputs.Closed as closed:
         if str(closed):
             outputs.tell(f"standard output: {closed}; nothing more is printed")
@@ -30,8 +31,9 @@ def main(words):
     return TROUBLE
 
 
-def _answered(jobs, arguments):
+def _answered(builder, arguments):
     """The exit status of what is asked for."""
+    jobs = Jobs(Programs(builder, arguments.book_kind), arguments)
     if arguments.compare:
         return _attempt(lambda _: jobs.compare(*arguments.paths), " and ".join(arguments.paths)).status
     if arguments.show:
@@ -44,7 +46,7 @@ def _answered(jobs, arguments):
         return _each(jobs.write, arguments.paths)
     if arguments.paths or _input_given():
         return _each(jobs.settle, arguments.paths or [INPUT], told=outputs.tell if arguments.table else None)
-    return _examples(jobs)
+    return _examples(builder, arguments)
 
 
 def _each(job, paths, told=None):
@@ -72,10 +74,15 @@ def _input_given():
     return not stat.S_ISCHR(mode)
 
 
-def _examples(jobs):
+def _examples(builder, arguments):
     """Settles the examples, each after what it shows. One is there to be refused, so that only trouble counts."""
     trouble = False
     for calls in sorted(ROOT.glob("examples/*/calls.txt")):
+        book_kind = kind_of_example(calls.parent.name)
+        # Where a kind is asked for, those of that kind alone.
+        if arguments.book_kind not in (ELECTRICITY, book_kind):
+            continue
+        jobs = Jobs(Programs(builder, book_kind), arguments)
         outputs.put(b"".join(line for line in calls.read_bytes().splitlines(True) if line.startswith(b"#")))
         trouble |= _attempt(jobs.settle, os.path.relpath(calls.parent)).status == TROUBLE
     return TROUBLE if trouble else SETTLED

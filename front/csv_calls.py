@@ -3,32 +3,41 @@
 import csv
 
 from front.calls import BY_NAME, KINDS
+from front.kinds import ELECTRICITY
 from front.words import Problem, filled, kind_of
 
 SEPARATORS = ",;\t"
-COLUMNS = tuple(dict.fromkeys(["call", *(place.name for kind in KINDS for place in kind.places)]))
 # A column for people; one whose name begins with # is such a column too.
 NOTE = "note"
 # The line by which a spreadsheet is told the separator.
 TOLD = "sep="
 
 
-def read(text):
-    """The calls of a table, each with the line that its row begins on, and the problems."""
+def columns_of(kinds):
+    """The columns that these calls have."""
+    return tuple(dict.fromkeys(["call", *(place.name for kind in kinds for place in kind.places)]))
+
+
+# A table may have the columns of calls that its kind of book does not take, as long as they are empty.
+COLUMNS = columns_of(KINDS)
+
+
+def read(text, book_kind=ELECTRICITY):
+    """The calls of a table, for that kind of book, each with the line that its row begins on, and the problems."""
     rows, broken = _rows(text)
     header = next((number for number, (_, cells) in enumerate(rows) if not _is_remark(cells)), None)
     if header is None:
-        return [], broken or [Problem(1, "", f"a header line with names of columns: {', '.join(COLUMNS)}")]
+        return [], broken or [Problem(1, "", f"a header line with names of columns: {_names(book_kind)}")]
     line, names = rows[header]
     columns = [name.lower() for name in _header(names)]
-    problems = _header_problems(line, columns)
+    problems = _header_problems(line, columns, book_kind)
     if problems:
         return [], problems + broken
     calls = []
     for line, cells in rows[header + 1 :]:
         cells = _without_comment(["" if _for_people(name) else cell for name, cell in zip(columns, cells)] + cells[len(columns) :])
         if any(cells):
-            row, found = _row_of(line, columns, cells)
+            row, found = _row_of(line, columns, cells, book_kind)
             problems += found
             calls.append(row)
     return [] if problems else calls, problems + broken
@@ -108,8 +117,12 @@ def _for_people(name):
     return name == NOTE or name.startswith("#")
 
 
-def _header_problems(line, columns):
-    expected = f"the name of a column: {', '.join(COLUMNS)}; or {NOTE}, or a name that begins with #, for what is not read"
+def _names(book_kind):
+    return ", ".join(columns_of(book_kind.calls.values()))
+
+
+def _header_problems(line, columns, book_kind):
+    expected = f"the name of a column: {_names(book_kind)}; or {NOTE}, or a name that begins with #, for what is not read"
     problems = [Problem(line, name, expected) for name in columns if name and name not in COLUMNS and not _for_people(name)]
     twice = {name for name in columns if name in COLUMNS and columns.count(name) > 1}
     problems += [Problem(line, name, "each column once") for name in COLUMNS if name in twice]
@@ -118,10 +131,10 @@ def _header_problems(line, columns):
     return problems
 
 
-def _row_of(line, columns, cells):
+def _row_of(line, columns, cells, book_kind):
     """The call of a row, or its problems: a cell that the call has no use for must be empty."""
     named = {name: cell for name, cell in zip(columns, cells) if name}
-    kind, problems = kind_of(line, named.pop("call", ""))
+    kind, problems = kind_of(line, named.pop("call", ""), book_kind)
     nameless = [cell for place, cell in enumerate(cells) if cell and not (place < len(columns) and columns[place])]
     problems += [Problem(line, cell, "no cell under a column without a name") for cell in nameless]
     if kind is None:

@@ -36,7 +36,7 @@ class Jobs:
         if not self.arguments.table:
             outputs.put(answer.output)
         if not answer.settled:
-            return self._refused(source, answer, Asked(self.programs.settled))
+            return self._refused(source, answer, self._asked(self.programs.settled))
         if self.arguments.table:
             self._put_table(path, answer.output)
         return self._noted(source)
@@ -110,7 +110,7 @@ class Jobs:
         """Prints the yearly sheet that is asked for, of the book of a path, as the program prints it, and explains a refusal."""
         source = self._source(path)
         operator, year = self.arguments.sheet
-        asked = sheet_asked(lambda data: self.programs.sheet(data, operator, year), operator, year)
+        asked = sheet_asked(lambda data: self.programs.sheet(data, operator, year), self.programs.book_kind, operator, year)
         answer = asked.answer(source.data)
         outputs.put(answer.output)
         return self._done("printed") if answer.is_sheet else self._refused(source, answer, asked)
@@ -129,7 +129,7 @@ class Jobs:
         source = self._source(path)
         answer = self.programs.written(source.data)
         if answer.complaint:
-            return self._refused(source, answer, Asked(self.programs.written))
+            return self._refused(source, answer, self._asked(self.programs.written))
         outputs.write(self.arguments.write, answer.output, source, self.arguments.force)
         return Outcome(SETTLED, "written")
 
@@ -139,7 +139,7 @@ class Jobs:
         answers = [self.programs.written(source.data) for source in sources]
         refused = [(source, answer) for source, answer in zip(sources, answers) if answer.complaint]
         for source, answer in refused:
-            self._refused(source, answer, Asked(self.programs.written))
+            self._refused(source, answer, self._asked(self.programs.written))
         if refused:
             return Outcome(TROUBLE, "not compared")
         found = compare.differences(*(Book(answer.output) for answer in answers))
@@ -151,11 +151,14 @@ class Jobs:
     def _source(self, path):
         """The filing that a path stands for; files beside it that say something else are told."""
         self.noted = 0
-        source = source_of(path)
+        source = source_of(path, self.programs.book_kind)
         if not self.arguments.quiet:
             beside = [f"note: {source.name} was read; {other} beside it says something else and was not" for other in passed_over(path)]
             self._note(beside, len(beside))
         return source
+
+    def _asked(self, answer):
+        return Asked(answer, self.programs.book_kind)
 
     def _refused(self, source, answer, asked):
         """Explains the answer of a program that has not done what it was asked; it is trouble if it tells no refusal."""

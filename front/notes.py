@@ -43,7 +43,7 @@ def notes_of(source, programs):
     fields = source.fields()
     book = programs.book(source.data)
     on_book = [
-        *_marks(fields, book),
+        *_marks(fields, book, programs.book_kind.indicators),
         *_incomes(fields, book),
         *_cabins(fields, book),
         *_rates(fields, book),
@@ -65,12 +65,11 @@ def _last(fields, name, *values):
     return None
 
 
-def _marks(fields, book):
+def _marks(fields, book, indicators):
     """The marks that still stand, those of one call together."""
-    names = BY_NAME["mark"].places[1].words
     for operator in book.joined():
         by_call = {}
-        for indicator, name in enumerate(names):
+        for indicator, name in indicators:
             if book.value("mark", operator, indicator):
                 field = _last(fields, "mark", operator, indicator) or _last(fields, "join", operator)
                 by_call.setdefault(field.number, (field, []))[1].append(name)

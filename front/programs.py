@@ -9,6 +9,7 @@ from typing import NamedTuple, Optional
 from front.books import Book
 from front.calls import BY_NAME, Call
 from front.filing import encode
+from front.kinds import ELECTRICITY
 from front.sources import FILING
 from front.trouble import Trouble
 
@@ -80,22 +81,23 @@ class FieldAnswer(NamedTuple):
 
 
 class Programs:
-    """The proved programs, built by the builder where need be, and asked about a filing."""
+    """The proved programs of a kind of book, built by the builder where need be, and asked about a filing."""
 
-    def __init__(self, builder):
+    def __init__(self, builder, book_kind=ELECTRICITY):
         self.builder = builder
+        self.book_kind = book_kind
 
     def settled(self, data):
         """What the program prints that settles."""
-        return self._run("quality", data)
+        return self._run(self.book_kind.settling, data)
 
     def written(self, data):
         """What the program prints that writes the book out as a filing."""
-        return self._run("rewrite", data)
+        return self._run(self.book_kind.writing, data)
 
     def sheet(self, data, operator, year):
         """What the program prints that makes the sheet of an operator and a year, which is a number from 0."""
-        return self._run("sheet", data, operator, year)
+        return self._run(self.book_kind.sheet, data, operator, year)
 
     def book(self, data):
         """The book that a filing leads to, which nothing refuses, by what the writer writes."""
@@ -107,7 +109,7 @@ class Programs:
     def outcomes(self, data):
         """What becomes of each field, by its offset: yes, counted in a year, left out and why; none from a refused one on."""
         found = {}
-        for line in self._run("outcomes", data).output.splitlines():
+        for line in self._run(self.book_kind.telling, data).output.splitlines():
             told = OUTCOME.fullmatch(line)
             if told:
                 found[int(told[1])] = FieldAnswer(told[2].decode(), None if told[3] is None else int(told[3]))
@@ -119,7 +121,7 @@ class Programs:
         filed = encode(Call(call.kind, (call.value("operator"), 0, *call.values[2:])))
         told = self.outcomes(join + filed).get(len(join))
         if told is None:
-            raise Trouble("the program outcomes tells nothing of it", "nothing is told of a call")
+            raise Trouble(f"the program {self.book_kind.telling} tells nothing of it", "nothing is told of a call")
         return "counted" if told.word == "refused" else told.word
 
     def _run(self, name, data, *numbers):

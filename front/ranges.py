@@ -17,18 +17,19 @@ MOST_RATE = 20_000
 MOST_INDEX = 100_000
 
 
-def outside(call):
-    """A sentence for each value of a call that is outside its range: the value, and the range."""
-    wrong = [*_without_word(call), *CHECKS.get(call.kind.name, _none)(call)]
+def outside(call, book_kind):
+    """A sentence for each value of a call that is outside its range in that kind of book: the value, and the range."""
+    wrong = [*_untaken(call, book_kind), *(CHECKS.get(call.kind.name, _none)(call) if book_kind.takes(call) else ())]
     words = {place.name: word_of(place, value) for place, value in zip(call.kind.places, call.values)}
     return [f"The {name} is {words[name]}: {text}." for name, text in wrong]
 
 
-def _without_word(call):
-    """The values that should have a word, and are none of its numbers."""
-    for place, value in zip(call.kind.places, call.values):
-        if place.words and value >= len(place.words):
-            yield place.name, f"it is one of {', '.join(place.words)}, or a number 0 to {len(place.words) - 1}"
+def _untaken(call, book_kind):
+    """The values that should have a word, and are no number of one that is taken."""
+    for place, value in zip(book_kind.places_of(call), call.values):
+        if place.words and value not in place.taken:
+            lack = place.lack(value)
+            yield place.name, f"{lack}; it is one of {place.choice}" if lack else f"it is one of {place.choice}"
 
 
 def _none(_call):

@@ -1,9 +1,9 @@
 """The programs' refusals in words: the field, what the number means, what to do, and what to look at."""
 
-from itertools import groupby
-
-from front.calls import ACCESS_POINTS, CABINS, SETTINGS, YEAR
+from front.calls import CABINS, SETTINGS, YEAR
 from front.figures import moves_of
+from front.kinds import hints, hints_to_settle
+from front.listing import listed, runs, sentence
 from front.ranges import outside
 from front.trouble import Trouble
 from front.words import line_of, word_of
@@ -13,8 +13,6 @@ OF_INTERRUPTIONS = (
     "nothing else."
 )
 
-# What an operator must have to be settled.
-NETWORK = (*CABINS, ACCESS_POINTS)
 ONLY_2017 = "Only the cabins of 2017 are filed here, as was done before each year had its own. Add those of 2018 and 2019."
 
 MOST_SHOWN = 16
@@ -28,7 +26,7 @@ def explained(source, refusal, asked, programs):
     """The refusal in lines for staff."""
     meaning = f"  {refusal.number}: {asked.meaning(refusal)}"
     if refusal.offset is None:
-        besides = _of_sheet(source, refusal, asked.like) if asked.like else _without_network(source, source.fields(), refusal)
+        besides = _of_sheet(source, refusal, asked) if asked.like else _without_network(source, source.fields(), refusal, asked.book_kind)
         return [f"{source.name}: the filing is read, and {asked.refused}", meaning, *(f"  {line}" for line in besides)]
     *before, field = [field for field in source.fields() if field.offset <= refusal.offset]
     return [
@@ -68,12 +66,11 @@ def what_else(source, refusal, asked):
 def _also_refused(source, left, refusal, asked):
     meaning = asked.meaning(refusal).split(". ")[0] + "."
     if refusal.offset is None:
-        meaning = " ".join(_without_network(source, left, refusal)) or meaning
+        meaning = " ".join(_without_network(source, left, refusal, asked.book_kind)) or meaning
         return f"{source.name}: then {asked.would_be}: {refusal.number}: {meaning}"
     field = _at(left, refusal.offset)
-    if refusal.number == 5:
-        meaning = " ".join(outside(field.call))
-    return f"{source.start_of(field)}: would be refused too: {_shown(field)}: {refusal.number}: {meaning}"
+    untaken = _untaken(refusal.number, field, asked.book_kind)
+    return f"{source.start_of(field)}: would be refused too: {_shown(field)}: {refusal.number}: {' '.join(untaken) or meaning}"
 
 
 def _at(fields, offset):
@@ -94,8 +91,9 @@ def _shown(field):
 
 
 def _to_look_at(source, number, before, field, programs):
-    if number == 5:
-        return outside(field.call)
+    untaken = _untaken(number, field, programs.book_kind)
+    if untaken:
+        return [*untaken, *_hints(field, programs.book_kind)]
     if number == 6:
         return [f"It joined in {_places(source, [one for one in before if one.call == field.call])}."]
     if number in (8, 9):
@@ -103,6 +101,21 @@ def _to_look_at(source, number, before, field, programs):
     if field.call is None and field.offset == 0 and _is_text(field.data):
         return ["These bytes are a text: if it holds calls in words, give the file a name that ends in .txt."]
     return []
+
+
+def _untaken(number, field, book_kind):
+    """For 5 the values and their ranges; for 2 why this kind of book takes no such call, if another one does."""
+    if number == 5:
+        return outside(field.call, book_kind)
+    lack = book_kind.refusal_of(field.data[0]) if number == 2 else None
+    return [sentence(lack)] if lack else []
+
+
+def _hints(field, book_kind):
+    """What to do if another kind of book takes the call, and this one does not."""
+    if field.call is None or book_kind.takes(field.call):
+        return []
+    return [sentence(hint) for hint in hints(book_kind, [field.call])]
 
 
 def _is_text(data):
@@ -120,7 +133,7 @@ def _same_figure(source, before, field, programs):
     refusing = [move for move in moves if move.refused(book, _withdraws(field.call))] or moves
     keys = {move.key for move in refusing}
     same = [one for one in before if any(move.key in keys for move in moves_of(one.call, outcomes[one.offset].word))]
-    standing = _listed([f"{book.value(*move.key):,} in {move.name}" for move in refusing])
+    standing = listed([f"{book.value(*move.key):,} in {move.name}" for move in refusing])
     lines = [
         f"Of operator {moves[0].operator} in {word_of(YEAR, moves[0].year)} there stands {standing} at this point.",
         f"Earlier calls there: {_places(source, same) or 'none'}.",
@@ -140,56 +153,49 @@ def _moves(call, programs):
 def _moved(call, moves):
     """What an interruption adds to figures, or takes from them."""
     verb, side = ("takes", "from") if _withdraws(call) else ("adds", "to")
-    return f"{verb} {_listed([f'{move.amount:,} {side} {move.name}' for move in moves])}"
+    return f"{verb} {listed([f'{move.amount:,} {side} {move.name}' for move in moves])}"
 
 
 def _withdraws(call):
     return call.value("sign") == 1
 
 
-def _listed(parts):
-    """One part or more, with `and` before the last."""
-    *first, last = parts
-    return f"{', '.join(first)} and {last}" if first else last
-
-
-def _of_sheet(source, refusal, like):
+def _of_sheet(source, refusal, asked):
     """For 5 the year and its range; for 7 who has joined."""
     if refusal.number == 5:
-        return outside(like)
+        return outside(asked.like, asked.book_kind)
     if refusal.number == 7:
         joined = sorted(field.call.value("operator") for field in source.fields() if field.call.kind.name == "join")
-        return [f"Joined here: {_listed([f'operator {operator}' for operator in joined] or ['nobody'])}."]
+        return [f"Joined here: {listed([f'operator {operator}' for operator in joined] or ['nobody'])}."]
     return []
 
 
-def _without_network(source, accepted, refusal):
-    """For 11: what no accepted call files, or the latest as 0, and whether the source names cabins of the first year alone."""
+def _without_network(source, accepted, refusal, book_kind):
+    """For 11: what no accepted call files, or the latest as 0; whether the source names cabins of the first year alone, or another kind
+    of book takes it that needs fewer settings."""
     if refusal.number != 11:
         return []
-    lines = [f"Missing, or 0, of {_operators(those)}: {_listed(lacks)}." for lacks, those in _lacking(accepted).items() if lacks]
-    named = {field.call.value("setting") for field in source.fields() if field.call.kind.name == "setting"}
-    return [*lines, ONLY_2017] if named.intersection(CABINS) == {CABINS[0]} else lines
+    lacking = _lacking(accepted, book_kind.network)
+    lines = [f"Missing, or 0, of {_operators(those)}: {listed(lacks)}." for lacks, those in lacking.items() if lacks]
+    calls = [field.call for field in source.fields()]
+    named = {call.value("setting") for call in calls if call.kind.name == "setting"}
+    only_2017 = [ONLY_2017] if named.intersection(CABINS, book_kind.network) == {CABINS[0]} else []
+    return [*lines, *only_2017, *map(sentence, hints_to_settle(book_kind, calls))]
 
 
-def _lacking(fields):
-    """The operators that have joined, by the settings that they lack, if any, to be settled."""
+def _lacking(fields, network):
+    """The operators that have joined, by the settings of the network that they lack, if any."""
     calls = [field.call for field in fields]
     latest = {call.values[:2]: call.value("value") for call in calls if call.kind.name == "setting"}
     lacking = {}
     for operator in sorted(call.value("operator") for call in calls if call.kind.name == "join"):
-        lacks = tuple(SETTINGS[which] for which in NETWORK if not latest.get((operator, which)))
+        lacks = tuple(SETTINGS[which] for which in network if not latest.get((operator, which)))
         lacking.setdefault(lacks, []).append(operator)
     return lacking
 
 
 def _operators(numbers):
-    """Rising operators; three or more that follow each other are told by the first and the last."""
-    parts = []
-    for _, run in groupby(enumerate(numbers), key=lambda pair: pair[1] - pair[0]):
-        run = [number for _, number in run]
-        parts += [f"{run[0]} to {run[-1]}"] if len(run) > 2 else map(str, run)
-    return f"operator{'s' if len(numbers) > 1 else ''} {_listed(parts)}"
+    return f"operator{'s' if len(numbers) > 1 else ''} {runs(numbers)}"
 
 
 def _places(source, fields):

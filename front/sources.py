@@ -5,7 +5,7 @@ import sys
 from pathlib import Path
 from typing import NamedTuple, Optional, Tuple
 
-from front import csv_calls, filing, reading, words
+from front import csv_calls, filing, kinds, reading, words
 from front.trouble import Trouble
 
 FILING = "filing.q"
@@ -48,16 +48,16 @@ class Source(NamedTuple):
         return f"{self.name}:{self.rows[field.number - 1].line}"
 
 
-def source_of(path):
-    """The filing that a path stands for; trouble if there is none, or a text has an error."""
+def source_of(path, book_kind=kinds.ELECTRICITY):
+    """The filing that a path stands for; trouble if there is none, or a text has an error, or calls that the kind of book does not take."""
     if path == INPUT:
-        return _input()
+        return _input(book_kind)
     path = Path(path)
     if not path.is_dir():
-        return _file(path)
+        return _file(path, book_kind)
     for name in IN_FOLDER:
         if (path / name).exists():
-            return _file(path / name)
+            return _file(path / name, book_kind)
     missing = f"this folder has no filing: no {', '.join(IN_FOLDER[:-1])} or {IN_FOLDER[-1]}"
     raise Trouble(f"{path}: {missing}{_instead(path)}", "no filing in this folder")
 
@@ -68,12 +68,12 @@ def _instead(path):
     return f"; give the file itself, as in: {others[0]}" if others else ""
 
 
-def _input():
+def _input(book_kind):
     """What stands on standard input. Nothing at all is no empty exercise: whatever should have written it has failed."""
     read = reading.read_input(sys.stdin, INPUT_NAME)
     if not read.data:
         raise Trouble(f"{INPUT_NAME}: nothing came. Give a PATH; the examples are settled by: ./settle </dev/null", "nothing came")
-    return _source(INPUT_NAME, "", read)
+    return _source(INPUT_NAME, "", read, book_kind)
 
 
 def passed_over(path):
@@ -86,24 +86,27 @@ def passed_over(path):
 
 
 def _data_or_none(path):
+    """The filing that a file says, in whatever kind of book: electricity takes the calls of all."""
     try:
-        return _file(path).data
+        return _file(path, kinds.ELECTRICITY).data
     except Trouble:
         return None
 
 
-def _file(path):
-    return _source(str(path), path.suffix.lower(), reading.read_file(path))
+def _file(path, book_kind):
+    return _source(str(path), path.suffix.lower(), reading.read_file(path), book_kind)
 
 
-def _source(name, suffix, read):
+def _source(name, suffix, read, book_kind):
     if read.data.startswith(SPREADSHEETS):
         what = "this is a file of a spreadsheet program. Save it there as CSV (UTF-8), and give that file"
         raise Trouble(f"{name}: {what}.", "a spreadsheet that is not saved as CSV")
     if _is_filing(suffix, read.data):
         return Source(name, read.data, origin=read.origin)
     text = words.decoded(read.data)
-    rows = _rows_of(name, _reader_of(name, suffix, text)(text))
+    rows, problems = _reader_of(name, suffix, text)(text, book_kind)
+    if problems:
+        raise _trouble(name, problems, book_kind)
     return Source(name, b"".join(filing.encode(row.call) for row in rows), tuple(rows), read.origin)
 
 
@@ -127,13 +130,12 @@ def _reader_of(name, suffix, text):
     return words.read
 
 
-def _rows_of(name, reading_of_text):
-    """The calls of a text that has no problem."""
-    rows, problems = reading_of_text
-    if not problems:
-        return rows
+def _trouble(name, problems, book_kind):
+    """What is told of a text that has problems."""
     count = "1 error" if len(problems) == 1 else f"{len(problems):,} errors"
     told = [problem.said(name) for problem in problems[:MOST_TOLD]]
     if len(problems) > MOST_TOLD:
         told.append(f"{name}: .. and {len(problems) - MOST_TOLD:,} more")
-    raise Trouble("\n".join([*told, f"{name}: {count}; nothing is settled and nothing is written"]), f"{count} in the text")
+    if any(problem.of_another_kind for problem in problems):
+        told += [f"{name}: {hint}" for hint in kinds.hints(book_kind)]
+    return Trouble("\n".join([*told, f"{name}: {count}; nothing is settled and nothing is written"]), f"{count} in the text")

@@ -15,7 +15,9 @@ from front.building import ROOT
 # Every warning of the command is an error.
 PYTHON = (sys.executable, "-W", "error")
 PROGRAM = ROOT / "target" / "bin" / "quality"
+GAS_PROGRAM = PROGRAM.with_name("quality_gas")
 EXERCISE = Path(__file__).parent / "exercise"
+GAS_EXERCISE = Path(__file__).parent / "gas"
 
 
 class Run(NamedTuple):
@@ -43,11 +45,11 @@ def settle_here(*words):
     return Run(status, output.buffer.getvalue(), said.getvalue())
 
 
-def program_on(data):
+def program_on(data, program=PROGRAM):
     """What the program itself prints for a filing."""
     with tempfile.TemporaryDirectory() as folder:
         Path(folder, "filing.q").write_bytes(data)
-        return subprocess.run([str(PROGRAM)], cwd=folder, capture_output=True, check=True).stdout
+        return subprocess.run([str(program)], cwd=folder, capture_output=True, check=True).stdout
 
 
 class InFolder(unittest.TestCase):

@@ -11,8 +11,10 @@ from front.tests.common import PROGRAM, PYTHON, ROOT, InFolder, settle
 COUNTS = "counted short planned coupled exceptional"
 CRATES = (
     "# the crates\n\nleaf:\nother: leaf\noutput: leaf io\nquality: output libc\n"
-    "rewrite: leaf\noutcomes: leaf\nsheet: leaf\n\nlone_test: other\n"
+    "rewrite: leaf\noutcomes: leaf\nsheet: leaf\n"
+    "quality_gas: output libc\nrewrite_gas: leaf\noutcomes_gas: leaf\n\nlone_test: other\n"
 )
+PROGRAMS = ("quality", "rewrite", "outcomes", "sheet", "quality_gas", "rewrite_gas", "outcomes_gas")
 
 # It counts its runs, proves what crates.txt of this tree has, and builds the program anew where a source has changed.
 RT = """#!/bin/sh
@@ -43,8 +45,11 @@ class Tree(InFolder):
         self.file("tree/standing-in-for-quality", "echo operator; cat filing.q")
         self.file("tree/standing-in-for-rewrite", "cat filing.q")
         self.file("tree/standing-in-for-outcomes", "echo 0 yes")
+        self.file("tree/standing-in-for-quality_gas", "echo operator of gas; cat filing.q")
+        self.file("tree/standing-in-for-rewrite_gas", "cat filing.q; printf gas")
+        self.file("tree/standing-in-for-outcomes_gas", "echo 0 yes; echo 4 refused 2")
         self.file("tree/standing-in-for-sheet", f"for word in {COUNTS}; do echo $word $1$2; done")
-        for crate in ("leaf", "other", "output", "quality", "rewrite", "outcomes", "sheet"):
+        for crate in ("leaf", "other", "output", *PROGRAMS):
             self.file(f"tree/crates/{crate}/src/lib.rt", "")
             self.file(f"tree/crates/{crate}/proofs/part/One.antt", "")
         self.path = self.file("bin/rt", RT)
@@ -154,6 +159,27 @@ class Built(Tree):
         self.assertEqual(self.runs(), ["check sheet"])
         self.assertIn("the program sheet is not built: proving and building it, which takes some minutes\n", run.said)
         self.assertEqual(self.settle("--sheet", "3", "0", self.filing).output[:11], b"counted 30\n")
+
+    def test_a_gas_book_has_its_own_programs(self):
+        run = self.settle("--gas", "--quiet", self.filing)
+        self.assertEqual((run.status, run.output), (0, b"operator of gas\n\x01\x00\x01\x00"))
+        self.assertIn("the program quality_gas is not built: proving and building it, which takes some minutes\n", run.said)
+        self.assertIn("crate 3 of 3: quality_gas proved\n", run.said)
+        self.assertEqual(self.settle("--gas", "--write", "-", self.filing).output, b"\x01\x00\x01\x00gas")
+        interruption = bytes([3, 0, 24, *[0] * 23, 1])
+        shown = self.settle("--gas", "--show", self.file("other.q", b"\x01\x00\x01\x00" + interruption)).output
+        self.assertTrue(shown.endswith(b" 1 # refused 2\n"), shown)
+        self.assertEqual(self.runs(), ["check quality_gas", "check rewrite_gas", "check outcomes_gas"])
+
+    def test_the_examples_are_of_the_kind_that_their_folder_names(self):
+        printed = {"course": "operator", "gas": "operator of gas", "gas-two": "operator of gas", "last": "operator"}
+        for name, heading in printed.items():
+            self.file(f"tree/examples/{name}/calls.txt", f"# {name}\njoin 0\n")
+            printed[name] = f"# {name}\n{heading}\n\x01\0\x01\0"
+        run = self.settle("--quiet")
+        self.assertEqual((run.status, run.output.decode()), (0, "".join(printed.values())))
+        self.assertEqual(self.runs(), ["check quality", "check quality_gas"])
+        self.assertEqual(self.settle("--quiet", "--gas").output.decode(), printed["gas"] + printed["gas-two"])
 
 
 class NotBuilt(Tree):
@@ -333,6 +359,6 @@ class RealTree(InFolder):
         self.assertEqual(crates[-1], "quality")
         self.assertTrue({"exact", "calls", "output", "load"} <= set(crates))
         self.assertFalse({"io", "writing", "replay"} & set(crates))
-        for name in ("quality", "rewrite", "outcomes", "sheet"):
+        for name in PROGRAMS:
             why = building.reason_to_build(ROOT, PROGRAM.with_name(name), building.needed(ROOT, name))
             self.assertIsNone(why, "tests/front.sh brings it up to date")

@@ -4,7 +4,8 @@ import os
 import subprocess
 import sys
 
-from front.tests.common import ROOT, InFolder, program_on, settle
+from front.kinds import kind_of_example
+from front.tests.common import PROGRAM, ROOT, InFolder, program_on, settle
 
 CASE_M = (ROOT / "examples" / "case-m" / "filing.q").read_bytes()
 SETTLED = program_on(CASE_M)
@@ -70,7 +71,8 @@ class Output(InFolder):
         expected = b""
         for example in sorted((ROOT / "examples").iterdir()):
             lines = (example / "calls.txt").read_bytes().splitlines(True)
-            expected += b"".join(line for line in lines if line.startswith(b"#")) + program_on((example / "filing.q").read_bytes())
+            program = PROGRAM.with_name(kind_of_example(example.name).settling)
+            expected += b"".join(line for line in lines if line.startswith(b"#")) + program_on((example / "filing.q").read_bytes(), program)
         run = settle(cwd=self.folder)
         self.assertEqual((run.status, run.output), (0, expected))
         self.assertIn("examples/refused/filing.q: field 6 at byte 56: refused: amount 2 2017 fees file 50000", run.said)
@@ -129,7 +131,7 @@ class Asked(InFolder):
         self.assertLess(max(map(len, lines)), 80)
         for word in ["filing.q", "calls.txt", "calls.csv", "standard input", "examples", "Exit status", "docs/FILING.md"]:
             self.assertIn(word, run.output.decode())
-        options = "--show --sheet --offsets --compare --table --table=excel --encode --write --force --strict --quiet --help"
+        options = "--gas --show --sheet --offsets --compare --table --table=excel --encode --write --force --strict --quiet --help"
         for option in options.split():
             self.assertIn(f"{option} ", run.output.decode())
 

@@ -4,7 +4,8 @@ import re
 
 from front import csv_calls, words
 from front.calls import KINDS
-from front.meanings import MEANINGS, UNJOINED_SHEET
+from front.kinds import KINDS_OF_BOOK
+from front.meanings import UNJOINED_SHEET, meanings_of
 from front.sources import source_of
 from front.tests.common import ROOT, InFolder, settle
 
@@ -16,19 +17,37 @@ def page(name):
     return (ROOT / name).read_text(encoding="utf-8")
 
 
+def followed(text, kind, then):
+    """The blocks of a kind that a block of another kind follows, both."""
+    blocks = BLOCK.findall(text)
+    return [(one, other) for (first, one), (second, other) in zip(blocks, blocks[1:]) if (first, second) == (kind, then)]
+
+
 class Pages(InFolder):
     def test_the_exercises_of_the_pages_print_what_the_pages_say(self):
         for name in PAGES:
-            blocks = BLOCK.findall(page(name))
-            shown = [(calls, printed) for (kind, calls), (then, printed) in zip(blocks, blocks[1:]) if (kind, then) == ("calls", "printed")]
+            shown = followed(page(name), "calls", "printed")
             self.assertTrue(shown, name)
             for calls, printed in shown:
                 self.assertEqual(settle(self.file("exercise.txt", calls)), (0, printed.encode(), ""))
 
+    def test_the_gas_book_of_the_page(self):
+        text = page("docs/FILING.md")
+        ((calls, printed),) = followed(text, "gas", "printed")
+        path = self.file("exercise.txt", calls)
+        self.assertEqual(settle("--gas", path), (0, printed.encode(), ""))
+        # Without the option, and with cabins, in words and in bytes.
+        self.assertIn(f"\n  {settle(path).said.splitlines()[-1]}\n", text)
+        self.file("exercise.txt", calls.replace("join 1\n", "join 1\nsetting 0 cabins-2017 100\n"))
+        settle("--encode", "old.q", "exercise.txt", cwd=self.folder)
+        for name in ("exercise.txt", "old.q"):
+            run = settle("--gas", name, cwd=self.folder)
+            for line in (run.output.decode() + run.said).splitlines()[:5]:
+                self.assertIn(f"    {line}\n", text)
+
     def test_the_sheet_of_the_page(self):
         text = page("docs/FILING.md")
-        blocks = BLOCK.findall(text)
-        shown = [(calls, printed) for (kind, calls), (then, printed) in zip(blocks, blocks[1:]) if (kind, then) == ("calls", "sheet")]
+        shown = followed(text, "calls", "sheet")
         asked = re.findall(r"^`\./settle (--sheet [0-9]+ [0-9]+) exercise\.txt` prints:$", text, re.MULTILINE)
         self.assertEqual((len(shown), len(asked)), (1, 1))
         (calls, printed), words_asked = shown[0], asked[0].split()
@@ -46,8 +65,9 @@ class Pages(InFolder):
         self.assertEqual([csv_calls.read(table)[1] for table in tables], [[]])
 
     def test_every_meaning_stands_there(self):
-        for number, meaning in MEANINGS.items():
-            self.assertIn(f"| {number} | {meaning} |\n", page("docs/FILING.md"))
+        for book_kind in KINDS_OF_BOOK:
+            for number, meaning in meanings_of(book_kind).items():
+                self.assertIn(f"| {number} | {meaning} |\n", page("docs/FILING.md"))
 
     def test_every_word_stands_there_with_its_number(self):
         for kind in KINDS:

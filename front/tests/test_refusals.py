@@ -3,9 +3,11 @@
 import unittest
 
 from front.filing import fields_of
-from front.meanings import MEANINGS
+from front.kinds import ELECTRICITY
+from front.meanings import meanings_of
 from front.tests.common import ROOT, InFolder, program_on, settle, settle_here
 
+MEANINGS = meanings_of(ELECTRICITY)
 NETWORK = "join 0\nsetting 0 cabins-2017 5\nsetting 0 cabins-2018 6\nsetting 0 cabins-2019 8\nsetting 0 access-points 7\n"
 MARKED = NETWORK + "mark 0 A1 0\n" + "".join(f"mark 0 {indicator} 1\n" for indicator in ("A1", "A2", "A3", "A4", "D1", "D2"))
 
@@ -270,6 +272,7 @@ class Refusals(InFolder):
 
 
 CABINS_2017 = "  Only the cabins of 2017 are filed here, as was done before each year had its own. Add those of 2018 and 2019.\n"
+GAS_HINT = "  If this is a gas filing, give --gas: a gas book takes no cabins.\n"
 ALL_FOUR = ("cabins-2017", "cabins-2018", "cabins-2019", "access-points")
 
 
@@ -309,7 +312,7 @@ class Lacking(InFolder):
     def test_those_that_lack_the_same_stand_together(self):
         joins = "".join(f"join {operator}\n" for operator in reversed(range(16)))
         every = "cabins-2017, cabins-2018, cabins-2019 and access-points"
-        self.assertEqual(self.besides(joins), f"  Missing, or 0, of operators 0 to 15: {every}.\n")
+        self.assertEqual(self.besides(joins), f"  Missing, or 0, of operators 0 to 15: {every}.\n{GAS_HINT}")
         whole = "".join(network_of(operator, *ALL_FOUR) for operator in (2, 5, 6, 9, 13))
         cabins = network_of(7, *ALL_FOUR[:3]) + network_of(0, *ALL_FOUR[:2]) + network_of(15, *ALL_FOUR[:3])
         self.assertEqual(

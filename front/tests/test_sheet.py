@@ -4,10 +4,12 @@ import re
 from collections import Counter
 
 from front.building import ROOT, Builder
-from front.meanings import MEANINGS, UNJOINED_SHEET
+from front.kinds import ELECTRICITY
+from front.meanings import UNJOINED_SHEET, meanings_of
 from front.programs import Programs
 from front.tests.common import EXERCISE, InFolder, settle, settle_here
 
+MEANINGS = meanings_of(ELECTRICITY)
 NAMES = ("counted", "short", "planned", "coupled", "exceptional")
 COURSE = ROOT / "examples" / "course"
 NETWORK = "join 0\njoin 3\n"
