@@ -1,7 +1,5 @@
-// The book of operators, settings, marks and figures, what it holds by name, and whether it is in range.
+// The book of operators, settings, marks and figures, and what it holds by name.
 mod access;
-mod range;
-mod taken;
 
 pub use access::figure_of;
 pub use access::figure_slot;
@@ -13,7 +11,6 @@ use calls::FIGURE_PLACES;
 use calls::INDICATORS;
 use calls::INDICES;
 use calls::SETTING_PLACES;
-pub use taken::in_range;
 
 pub struct Book {
     // Sixteen bits, one an operator.

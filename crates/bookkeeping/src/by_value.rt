@@ -4,11 +4,11 @@ ghost use Rattle.ledger.specs.Filed.{FilesAs, Files};
 use crate::Answered;
 use crate::dispatch::apply;
 use book::Book;
-use book::in_range;
 use calls::Answer;
 use calls::Call;
 use calls::Kind;
 use calls::Refusal;
+use range::in_range;
 
 // A call that is at hand as a value, on a book of a kind.
 pub fn file_as(kind: Kind, b: Book, filing_call: Call) -> Answered

@@ -30,11 +30,11 @@ pub const INDICATORS: usize = 6;
 // As a number of eight bits, by which indicators are counted.
 pub const INDICATOR_COUNT: u8 = INDICATORS as u8;
 
-pub(crate) const LAST_INDICATOR: u8 = (INDICATORS - 1) as u8;
+pub const LAST_INDICATOR: u8 = (INDICATORS - 1) as u8;
 
 pub const INDICES: usize = 4;
 
-pub(crate) const LAST_INDEX: u8 = (INDICES - 1) as u8;
+pub const LAST_INDEX: u8 = (INDICES - 1) as u8;
 
 // How many of each the sixteen operators have, and the figures of one operator.
 pub const SETTING_PLACES: usize = OPERATORS * SETTINGS;
@@ -45,15 +45,15 @@ pub const OPERATOR_FIGURES: usize = YEARS * FIGURES;
 
 pub const MARK_PLACES: usize = OPERATORS * INDICATORS;
 
-pub(crate) const CABIN_LIMIT: u64 = 100000;
+pub const CABIN_LIMIT: u64 = 100000;
 
-pub(crate) const ACCESS_POINT_LIMIT: u64 = 4000000;
+pub const ACCESS_POINT_LIMIT: u64 = 4000000;
 
-pub(crate) const INCOME_LIMIT: u64 = 100000000000;
+pub const INCOME_LIMIT: u64 = 100000000000;
 
 pub const FIGURE_LIMIT: u64 = 100000000000;
 
-pub(crate) const RATE_LIMIT: u32 = 20000;
+pub const RATE_LIMIT: u32 = 20000;
 
 pub const INDEX_LEAST: u32 = 1;
 
@@ -62,12 +62,12 @@ pub const INDEX_MOST: u32 = 100000;
 pub const FRESH_INDEX: u32 = 10000;
 
 // Of an interruption: cabins, and seconds.
-pub(crate) const WEIGHT_LIMIT: u32 = 100000;
+pub const WEIGHT_LIMIT: u32 = 100000;
 
-pub(crate) const LAST_END: i64 = 94607999;
+pub const LAST_END: i64 = 94607999;
 
 // The first second of the year before the three: an interruption may have begun then.
-pub(crate) const FIRST_START: i64 = -31536000;
+pub const FIRST_START: i64 = -31536000;
 
 // The setting that has the cabins of a year.
 pub fn cabins_in(year: u8) -> u8

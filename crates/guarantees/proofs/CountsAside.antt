@@ -18,7 +18,8 @@ use Rattle.values.proofs.Tables.{each-same}
 use Rattle.apportion.specs.Share.{share}
 use Rattle.indicators.specs.Points.{points, allPoints, poolNumbered, pointsNumbered, poolsOfAll, rows, pointsOfAll}
 use Rattle.money.specs.Money.{pot, contributions, returns, limits, adjustments}
-use Rattle.settlement.specs.Settlement.{settingMissing, networkMissing, isMarkedAtAll, allMarked, settlementBy, settlingLines, settledBy, settled}
+use Rattle.readiness.specs.Readiness.{settingMissing, networkMissing, isMarkedAtAll, allMarked}
+use Rattle.settlement.specs.Settlement.{settlementBy, settlingLines, settledBy, settled}
 use Rattle.guarantees.specs.Demand3.{SameMeasures}
 
 -- what an indicator measures stands below the counts

@@ -1,6 +1,4 @@
 -- The laws that the proofs of `guarantees`, and of the crates above it, use.
-pub mod AppliedLaws
-pub mod MarkedHold
 pub mod Demand1Holds
 pub mod Demand2Holds
 pub mod CountsAside

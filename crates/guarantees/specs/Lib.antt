@@ -1,5 +1,4 @@
 -- The definitions of `guarantees`.
-pub mod Marked
 pub mod Demand1
 pub mod Demand2
 pub mod Demand3

@@ -1,14 +1,12 @@
--- A filing call on a book in range, said of the parts of a book that are lent to it, and what the check says that calls share.
+-- A filing call on a book in range, said of the parts of a book that are lent to it.
 -- Assumes nothing.
 use Prim.Native.Nat.{ℕ}
 use mathlib.Core.Path.{_≡_}
 use mathlib.Core.List.{List}
 use Rattle.calls.specs.declared.Call.{Call}
 use Rattle.calls.specs.declared.Answer.{Answer}
-use Rattle.posting.specs.declared.Admission.{Admission}
-use Rattle.posting.specs.declared.Admission.the-variants.{Admitted, Refused}
 use Rattle.calls.specs.Indicators.{Indicator}
-use Rattle.calls.specs.Answers.{Said, refused-by, accepted, numberOf, said}
+use Rattle.calls.specs.Answers.{said}
 use Rattle.book.specs.declared.Book.{Book}
 use Rattle.book.specs.Book.{withJoined, withMarks, withSettings, withFigures, withRates, withIndices}
 use Rattle.ledger.specs.Calls.{apply}
@@ -34,8 +32,3 @@ OnRates pot cap call answer pot′ cap′ = (kind : List Indicator) (b : Book) �
 
 abbrev pub OnIndices : List ℕ → Call → Answer → List ℕ → Type 0
 OnIndices old call answer new = (kind : List Indicator) (b : Book) → Leaves kind (withIndices b old) call answer (withIndices b new)
-
--- whether a call passes 4, 5 and 7
-abbrev pub admissionSaid : Admission → Said (Unit {0})
-admissionSaid Admitted = accepted tt
-admissionSaid (Refused refusal) = refused-by (numberOf refusal)

@@ -1,17 +1,17 @@
 // The seven filing calls on the parts of a book that each changes, lent and altered in place; a refused call leaves them. Each refuses in
 // the order of the table: 2, 4, 5, 6 or 7, then 8 and 9.
 ghost use mathlib.Core.Path.{_≡_};
-ghost use mathlib.Core.Bool.{cond};
-ghost use Prim.Native.Nat.{_<_, _≤_};
-ghost use lib.ListN.{length};
-ghost use Rattle.calls.specs.Limits.{operators, indicatorCount};
-ghost use Rattle.calls.specs.Masks.{including};
 ghost use Rattle.calls.specs.Indicators.{indicatorsOf};
-ghost use Rattle.calls.specs.Answers.{firstOf};
-ghost use Rattle.ledger.specs.Calls.{unattested};
-ghost use Rattle.ledger.specs.Steps.{memberLines};
-ghost use Rattle.posting.specs.Parts.{OnMarks, OnSettings, OnFigures, OnRates, OnIndices, admissionSaid};
-use crate::Admission;
+ghost use Rattle.posting.specs.Parts.{OnMarks, OnSettings, OnFigures, OnRates, OnIndices};
+use admission::Admission;
+use admission::admit;
+use admission::mark_unattested;
+use arguments::amount_in_range;
+use arguments::index_in_range;
+use arguments::interruption_in_range;
+use arguments::mark_in_range;
+use arguments::rates_in_range;
+use arguments::setting_in_range;
 use book::setting_slot;
 use calls::Answer;
 use calls::Call;
@@ -22,17 +22,10 @@ use calls::Kind;
 use calls::LAST_OPERATOR;
 use calls::Refusal;
 use calls::SETTING_PLACES;
-use calls::amount_in_range;
 use calls::has_bit;
 use calls::include_bit;
-use calls::index_in_range;
-use calls::interruption_in_range;
-use calls::mark_in_range;
-use calls::rates_in_range;
 use calls::remask;
-use calls::setting_in_range;
 use calls::takes_interruptions;
-use calls::takes_mark;
 use judging::Judged;
 use judging::count_figure;
 use judging::judge;
@@ -53,48 +46,6 @@ pub fn join(kind: Kind, joined: &mut u16, marks: &mut [u16; INDICATORS], operato
     *joined = include_bit(*joined, operator);
     mark_unattested(kind, marks, operator);
     Answer::Yes
-}
-
-// No attestation is in when an operator joins: its mark is set at every indicator of the kind.
-fn mark_unattested(kind: Kind, marks: &mut [u16], operator: u8)
-    requires { ⌜ (operator < operators) × (length (now marks) ≤ indicatorCount) ⌝ }
-    ensures { λ r. ⌜ now (marks .exit) ≡ unattested (indicatorsOf kind) (now (marks .entry)) operator ⌝ }
-{
-    let mut indicator = 0;
-    while indicator < marks.len() {
-        let mask = marks[indicator];
-        let marked = mark_newcomer(mask, operator, takes_mark(kind, indicator as u8));
-        marks[indicator] = marked;
-        indicator += 1;
-    }
-}
-
-// A mask with an operator's mark set, if the indicator is one of its kind.
-fn mark_newcomer(mask: u16, operator: u8, taken: bool) -> u16
-    requires { ⌜ operator < operators ⌝ }
-    ensures { λ r. ⌜ r ≡ cond taken (including mask operator) mask ⌝ }
-{
-    if taken {
-        return include_bit(mask, operator);
-    }
-    mask
-}
-
-// The checks that setting, interruption, amount, mark and a yearly sheet share: 4, 5 and 7, in the order of the table.
-pub fn admit(joined: u16, operator: u8, valid: bool) -> Admission
-    ensures { λ r. ⌜ admissionSaid r ≡ firstOf (memberLines joined operator valid) tt ⌝ }
-{
-    if LAST_OPERATOR < operator {
-        return Admission::Refused(Refusal::UnknownOperator);
-    }
-    let member = has_bit(joined, operator);
-    if !valid {
-        return Admission::Refused(Refusal::OutOfRange);
-    }
-    if !member {
-        return Admission::Refused(Refusal::NotJoined);
-    }
-    Admission::Admitted
 }
 
 // Which: 1 active access points, 2 income, else the cabins of a year.

@@ -1,8 +1,6 @@
 // The seven filing calls on the parts of a book that each changes, lent and altered in place.
 mod in_place;
 
-use calls::Refusal;
-pub use in_place::admit;
 pub use in_place::amount;
 pub use in_place::index;
 pub use in_place::interruption;
@@ -10,9 +8,3 @@ pub use in_place::join;
 pub use in_place::mark_indicator;
 pub use in_place::rates;
 pub use in_place::setting;
-
-// Whether a call passes the checks that it shares with others.
-pub enum Admission {
-    Admitted,
-    Refused(Refusal),
-}

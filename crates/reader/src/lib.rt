@@ -13,7 +13,6 @@ ghost use Rattle.fields.specs.Field.{fieldIn};
 ghost use Rattle.filing.specs.Reader.{reachedBy, told, readFromAs, readFrom, readFromGas, readGas};
 ghost use Rattle.reader.specs.Steps.{Ready, toldTurn, stopped, advanced, stepped};
 use book::Book;
-use book::in_range;
 use bookkeeping::apply_in;
 use calls::Answer;
 use calls::Call;
@@ -27,6 +26,7 @@ use fields::Field;
 use fields::field_in;
 use filing::Progress;
 use filing::Reading;
+use range::in_range;
 
 // A reading under way, but for the book: how far it has come, and whether it goes on with a next field.
 struct Turn {

@@ -1,5 +1,4 @@
 -- The laws that the proofs of `settlement`, and of the crates above it, use.
-pub mod MarkLaws
 pub mod UnjoinedLaws
 pub mod SettledLaws
 pub mod Opened

@@ -34,9 +34,10 @@ use Rattle.indicators.proofs.OnesLaws.{some-one}
 use Rattle.indicators.proofs.PointLaws.{points-made-up, points-length, points-reliable, reliable-joined, reliable-small, pool-above}
 use Rattle.indicators.proofs.NumberLaws.{pool-at, points-at, numbered-whole, numbered-none}
 use Rattle.money.specs.Money.{pot, contributions, returns}
-use Rattle.settlement.specs.Settlement.{settingMissing, networkMissing, allMarked, settlementBy, settlingLines, settledBy}
+use Rattle.readiness.specs.Readiness.{settingMissing, networkMissing, allMarked}
+use Rattle.settlement.specs.Settlement.{settlementBy, settlingLines, settledBy}
 use Rattle.settlement.specs.Laws.{Worth, Settles, pointsAt, Balanced, Settling}
-use Rattle.settlement.proofs.MarkLaws.{marked-none, marked-more}
+use Rattle.readiness.proofs.MarkLaws.{marked-none, marked-more}
 use Rattle.money.proofs.AdjustmentLaws.{adjustments-cancel, within-limits}
 use Rattle.settlement.proofs.UnjoinedLaws.{points-unjoined, contribution-none, return-none, limit-none, adjustment-none}
 

@@ -1,37 +1,20 @@
 -- The whole settlement of a book, or its refusal (01, "Settlement" and numbers 5, 10, 11, 12).
 -- Assumes nothing.
 use Prim.Native.Nat.{ℕ}
-use mathlib.Core.Bool.{Bool, true, not, _&&_, _||_}
+use mathlib.Core.Bool.{Bool, not}
 use mathlib.Core.List.{List, [], _∷_}
 use lib.Dec.{eqb}
 use lib.IntN.{ℤ, pos}
 use lib.ListN.{replicate}
 use Rattle.settlement.specs.declared.Settlement.{Settlement}
-use Rattle.calls.specs.Limits.{operators, settingCount, indicatorCount}
+use Rattle.calls.specs.Limits.{operators, indicatorCount}
 use Rattle.calls.specs.Answers.{Said, Acceptance, yes-said, onAnswer, firstOf}
 use Rattle.book.specs.declared.Book.{Book}
-use Rattle.book.specs.Book.{isJoined, isMarked, settingOf, inRange, every}
-use Rattle.values.specs.Operators.{any}
-use Rattle.calls.specs.Indicators.{Indicator, electricity, gas, isNetwork}
+use Rattle.book.specs.Book.{inRange}
+use Rattle.calls.specs.Indicators.{Indicator, electricity, gas}
 use Rattle.indicators.specs.Points.{poolsOfAll, pointsOfAll, pointPlaces}
+use Rattle.readiness.specs.Readiness.{networkMissing, allMarked}
 use Rattle.money.specs.Money.{pot, contributions, returns, limits, adjustments}
-
--- a joined operator has 0 of a setting
-unfoldable pub settingMissing : Book → ℕ → Bool
-settingMissing b which = any operators (λ (operator : ℕ). isJoined b operator && eqb (settingOf b operator which) 0)
-
--- 11: "a joined operator has 0 cabins or access points", and of cabins "if any of the three is 0" (02, point 3); of gas it "looks at access
--- points alone" (point 4)
-unfoldable pub networkMissing : Book → List Indicator → Bool
-networkMissing b indicators = any settingCount (λ (which : ℕ). isNetwork indicators which && settingMissing b which)
-
--- 12: "every joined operator marked at all six indicators", here at all of a list: of gas it looks "at the two gas indicators" (02, point 4)
-unfoldable pub isMarkedAtAll : Book → List Indicator → ℕ → Bool
-isMarkedAtAll b [] operator = true
-isMarkedAtAll b (indicator ∷ rest) operator = isMarked b operator (indicator .number) && isMarkedAtAll b rest operator
-
-unfoldable pub allMarked : Book → List Indicator → Bool
-allMarked b indicators = every operators (λ (operator : ℕ). not (isJoined b operator) || isMarkedAtAll b indicators operator)
 
 -- a settlement by its parts: pools, points, pot, contributions, returns, limits, adjustments
 abbrev pub settlement : List ℕ → List ℕ → ℕ → List ℕ → List ℕ → List ℕ → List ℤ → Settlement

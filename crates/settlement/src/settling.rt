@@ -1,43 +1,31 @@
 // Settling: the refusals first, then points, money and adjustments.
 ghost use mathlib.Core.Path.{_≡_};
-ghost use mathlib.Core.Bool.{true, _&&_};
+ghost use mathlib.Core.Bool.{true};
 ghost use mathlib.Core.List.{List};
-ghost use Prim.Native.Nat.{_<_};
-ghost use lib.Dec.{eqb};
 ghost use Rattle.calls.specs.Answers.{refused-by, numberOf, said};
-ghost use Rattle.calls.specs.Limits.{settingCount};
-ghost use Rattle.calls.specs.Masks.{has};
-ghost use Rattle.book.specs.Book.{withinLimits, inRange};
-ghost use Rattle.values.specs.Parts.{HasMarks};
-ghost use Rattle.calls.specs.Indicators.{Indicator, indicatorsOf, isNetwork};
+ghost use Rattle.book.specs.Book.{inRange};
+ghost use Rattle.calls.specs.Indicators.{Indicator, indicatorsOf};
 ghost use Rattle.gathering.specs.Steps.{AllGathered};
 ghost use Rattle.settlement.specs.Steps.{HasCharges, Payable};
-ghost use Rattle.settlement.specs.Settlement.{settingMissing, networkMissing, allMarked, settlementBy, nothing, settledBy, settled, settledGas};
+ghost use Rattle.settlement.specs.Settlement.{settlementBy, nothing, settledBy, settled, settledGas};
 use crate::POINT_PLACES;
 use crate::Settled;
 use crate::Settlement;
 use apportion::share;
 use book::Book;
-use book::in_range;
-use book::setting_slot;
 use calls::Answer;
-use calls::INDICATOR_COUNT;
 use calls::INDICATORS;
 use calls::Kind;
-use calls::LAST_OPERATOR;
-use calls::LAST_SETTING;
 use calls::Refusal;
-use calls::SETTING_PLACES;
-use calls::first_indicator;
-use calls::has_bit;
-use calls::is_network;
 use gathering::Gathered;
 use gathering::gather;
 use money::adjust;
 use money::limits_of;
 use money::pot_of;
 use money::return_weights;
-use values::reliable_mask;
+use range::in_range;
+use readiness::all_marked;
+use readiness::network_missing;
 use values::settings_of;
 
 // The settlement of a book of electricity, or its refusal with all numbers 0. The book is unchanged.
@@ -93,69 +81,6 @@ fn refuse(refusal: Refusal) -> Settled
         },
         answer: Answer::Refused(refusal),
     }
-}
-
-// Whether a joined operator has 0 of a setting that the kind asks for: access points, and of electricity the cabins of each year.
-fn network_missing(kind: Kind, joined: u16, settings: &[u64; SETTING_PLACES]) -> bool
-    ensures { λ r. ⌜ ((b : Book) → b .joined ≡ joined → b .settings ≡ now (settings .entry) → r ≡ networkMissing b (indicatorsOf kind)) ⌝ }
-{
-    let mut which = 0;
-    while which <= LAST_SETTING {
-        if asked_and_missing(kind, joined, settings, which) {
-            return true;
-        }
-        which += 1;
-    }
-    false
-}
-
-fn asked_and_missing(kind: Kind, joined: u16, settings: &[u64; SETTING_PLACES], which: u8) -> bool
-    requires { ⌜ which < settingCount ⌝ }
-    ensures { λ r. ⌜ ((b : Book) → b .joined ≡ joined → b .settings ≡ now (settings .entry) → r ≡ isNetwork (indicatorsOf kind) which && settingMissing b which) ⌝ }
-{
-    if !is_network(kind, which) {
-        return false;
-    }
-    setting_missing(joined, settings, which)
-}
-
-// Whether a joined operator has 0 of a setting.
-fn setting_missing(joined: u16, settings: &[u64; SETTING_PLACES], which: u8) -> bool
-    requires { ⌜ which < settingCount ⌝ }
-    ensures { λ r. ⌜ ((b : Book) → b .joined ≡ joined → b .settings ≡ now (settings .entry) → r ≡ settingMissing b which) ⌝ }
-{
-    let mut operator = 0;
-    while operator <= LAST_OPERATOR {
-        if lacks(joined, operator, settings[setting_slot(operator, which)]) {
-            return true;
-        }
-        operator += 1;
-    }
-    false
-}
-
-// Whether one has joined and its setting is 0.
-fn lacks(joined: u16, operator: u8, value: u64) -> bool
-    ensures { λ r. ⌜ r ≡ has joined operator && eqb value 0 ⌝ }
-{
-    if !has_bit(joined, operator) {
-        return false;
-    }
-    value == 0
-}
-
-// Whether nobody takes part at any indicator of the kind.
-fn all_marked(kind: Kind, joined: u16, marks: &[u16; INDICATORS]) -> bool
-    ensures { λ r. ⌜ ((b : Book) → withinLimits b ≡ true → HasMarks b joined (now (marks .entry)) → r ≡ allMarked b (indicatorsOf kind)) ⌝ }
-{
-    let mut number = first_indicator(kind);
-    while number < INDICATOR_COUNT {
-        if reliable_mask(joined, marks, number) != 0 {
-            return false;
-        }
-        number += 1;
-    }
-    true
 }
 
 // The parts of the book are taken out once, and lent.

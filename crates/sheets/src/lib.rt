@@ -6,18 +6,18 @@ ghost use Rattle.calls.specs.Answers.{said, refused-by, numberOf};
 ghost use Rattle.book.specs.declared.Book.{Book};
 ghost use Rattle.book.specs.Book.{withFigures};
 ghost use Rattle.sheets.specs.Sheet.{countsOf, noCounts, sheetOf};
+use admission::Admission;
+use admission::admit;
+use arguments::amount_in_range;
 use book::Book;
 use book::figure_slot;
-use book::in_range;
 use calls::Answer;
 use calls::FIGURE_PLACES;
 use calls::FIRST_COUNT;
 use calls::Kind;
 use calls::OUTCOMES;
 use calls::Refusal;
-use calls::amount_in_range;
-use posting::Admission;
-use posting::admit;
+use range::in_range;
 
 // Of interruptions in a year: how many counted, and how many were left out as short, planned, coupled, exceptional. All 0 on refusal.
 pub struct YearlySheet {

@@ -9,7 +9,6 @@ ghost use Rattle.writing.specs.Written.{writtenAs};
 ghost use Rattle.writer.specs.Writer.{writingAnswer, writingBuffer, writerAnswer, writerBuffer, gasWriterAnswer, gasWriterBuffer};
 ghost use Rattle.entries.specs.Entries.{entryBytes};
 use book::Book;
-use book::in_range;
 use calls::Kind;
 use calls::Refusal;
 use encoding::field_size;
@@ -17,6 +16,7 @@ use encoding::put_field;
 use entries::Entry;
 use entries::PLACES;
 use entries::entry_at;
+use range::in_range;
 use text::Filled;
 
 // The most that a written filing has, of electricity and of gas.

@@ -2,14 +2,14 @@
 -- Assumes nothing.
 use mathlib.Core.Path.{_≡_, refl, sym, ap, _∙_}
 use mathlib.Core.Bool.{Bool, true}
-use Rattle.posting.specs.declared.Admission.{Admission}
+use Rattle.admission.specs.declared.Admission.{Admission}
 use Rattle.calls.specs.Indicators.{electricity}
 use Rattle.calls.specs.Answers.{firstOf}
 use Rattle.calls.specs.Call.{factsOf}
 use Rattle.calls.proofs.Flags.{denied, granted}
 use Rattle.book.specs.Book.{inRange}
 use Rattle.ledger.specs.Steps.{memberLines}
-use Rattle.posting.specs.Parts.{admissionSaid}
+use Rattle.admission.specs.Admission.{admissionSaid}
 use Rattle.sheets.proofs.SheetLaws.{year-alone, sheet-out-of-range, Asked, asked}
 use borrow.Author.Needs.{needs}
 use Rattle.sheets.proofs.sheet.Statement.{statement}

@@ -6,7 +6,7 @@ use Rattle.calls.specs.Answers.{yes-said}
 use Rattle.calls.specs.Indicators.{indicatorsOf}
 use Rattle.calls.specs.Call.{factsOf}
 use Rattle.book.specs.Book.{withJoined, withFigures, freshBook}
-use Rattle.posting.specs.Parts.{admissionSaid}
+use Rattle.admission.specs.Admission.{admissionSaid}
 use Rattle.ledger.specs.Calls.{changed}
 use Rattle.calls.proofs.RangeLaws.{ranges}
 use Rattle.ledger.proofs.AdmissionLaws.{member-decided}

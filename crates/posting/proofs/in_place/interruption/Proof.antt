@@ -15,7 +15,7 @@ use Rattle.book.specs.declared.Book.{Book}
 use Rattle.book.specs.Book.{withJoined, withFigures, freshBook}
 use Rattle.ledger.specs.Calls.{changed, apply}
 use Rattle.ledger.specs.Steps.{entering}
-use Rattle.posting.specs.Parts.{admissionSaid}
+use Rattle.admission.specs.Admission.{admissionSaid}
 use Rattle.calls.proofs.Flags.{denied, granted, and-left, and-right}
 use Rattle.calls.proofs.Times.{back, timed, year-lt, seconds-most}
 use Rattle.calls.proofs.RangeLaws.{details}

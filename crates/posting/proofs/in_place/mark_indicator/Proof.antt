@@ -6,7 +6,7 @@ use Rattle.calls.specs.declared.Call.the-variants.{Mark}
 use Rattle.calls.specs.Indicators.{indicatorsOf}
 use Rattle.calls.specs.Call.{factsOf}
 use Rattle.book.specs.Book.{withJoined, withMarks, freshBook}
-use Rattle.posting.specs.Parts.{admissionSaid}
+use Rattle.admission.specs.Admission.{admissionSaid}
 use Rattle.ledger.specs.Calls.{changed}
 use Rattle.calls.proofs.RangeLaws.{ranges}
 use Rattle.ledger.proofs.AdmissionLaws.{member-decided}

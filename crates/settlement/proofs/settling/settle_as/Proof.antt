@@ -8,7 +8,8 @@ use Rattle.calls.proofs.Flags.{denied, granted}
 use Rattle.book.specs.Book.{inRange}
 use Rattle.calls.specs.Indicators.{indicatorsOf}
 use Rattle.book.proofs.TakenLaws.{ranged-within}
-use Rattle.settlement.specs.Settlement.{networkMissing, allMarked, settlingLines, settledBy}
+use Rattle.readiness.specs.Readiness.{networkMissing, allMarked}
+use Rattle.settlement.specs.Settlement.{settlingLines, settledBy}
 use borrow.Author.Needs.{needs}
 use Rattle.settlement.proofs.settling.settle_as.Statement.{statement}
 use Rattle.settlement.proofs.settling.settle_as.Tie as tie

@@ -1,0 +1,2 @@
+-- The definitions of `admission`.
+pub mod Admission

@@ -1,0 +1,3 @@
+-- The laws that the proofs of `marked` use.
+pub mod AppliedLaws
+pub mod MarkedHold

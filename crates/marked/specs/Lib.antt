@@ -1,0 +1,2 @@
+-- The definitions of `marked`.
+pub mod Marked

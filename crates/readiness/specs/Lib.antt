@@ -1,0 +1,2 @@
+-- The definitions of `readiness`.
+pub mod Readiness
