@@ -10,13 +10,20 @@ for asked in "" --show "--sheet 0 2017" "--gas --show"; do
 done
 ./settle --gas examples/gas >"$work/said" 2>&1 </dev/null || fail "$(cat "$work/said")"
 
-# All that is skipped is told with its reason.
-if ! python3 -B -m unittest --verbose >"$work/said" 2>&1; then
-    cat "$work/said" >&2
+# A file of tests on each core at a time. All that is skipped is told with its reason.
+tested() { # FILE
+    local name
+    name=$(basename "$1" .py)
+    python3 -B -m unittest --verbose "front.tests.$name" >"$work/$name.said" 2>&1
+}
+export -f tested
+export work
+if ! printf '%s\n' front/tests/test*.py | xargs -P "$(nproc)" -n 1 bash -c 'tested "$1"' _; then
+    cat "$work"/test*.said >&2
     exit 1
 fi
-sed -n 's/.* \.\.\. skipped /front: skipped: /p' "$work/said" | sort | uniq
-sed -n 's/^Ran /front: /p' "$work/said"
+sed -n 's/.* \.\.\. skipped /front: skipped: /p' "$work"/test*.said | sort | uniq
+awk '/^Ran / { count += $2 } END { print "front: " count " tests" }' "$work"/test*.said
 
 ./settle --quiet front/tests/exercise/bytes | cmp - <("$model" program front/tests/exercise/bytes/filing.q)
 ./settle --quiet --gas front/tests/gas/bytes | cmp - <("$model" --gas program front/tests/gas/bytes/filing.q)

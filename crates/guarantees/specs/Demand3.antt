@@ -15,8 +15,8 @@
 --   9. crates/sheets/specs/Sheet.antt: `sheetOf`, the contract of `sheet`; crates/sheets/specs/Total.antt: `SheetsAddUp`, which counts and adds
 --      from the calls and the history's answers alone
 --  10. crates/writing/specs/Written.antt: `writtenAs`; crates/writer/specs/Writer.antt: what writing answers and puts into a buffer
---  11. crates/settlement/specs/Settlement.antt: `settledBy`, the contract of `settle` and `settle_gas`; crates/settlement/specs/Laws.antt: `Settles`,
---      `Balanced`
+--  11. crates/readiness/specs/Readiness.antt: 11 and 12; crates/settlement/specs/Settlement.antt: `settledBy`, the contract of `settle` and
+--      `settle_gas`; crates/settlement/specs/Laws.antt: `Settles`, `Balanced`
 -- Assumes nothing.
 use Prim.Native.Nat.{ℕ, _≤_, _<_}
 use mathlib.Core.Path.{_≡_}
