@@ -3,6 +3,7 @@ pub mod Largest
 pub mod OnesLaws
 pub mod WeightLaws
 pub mod Weighting
+pub mod SequenceLaws
 pub mod PointLaws
 pub mod NumberLaws
 pub mod Opened

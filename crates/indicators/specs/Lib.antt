@@ -1,4 +1,5 @@
 -- The definitions of `indicators`.
 pub mod Points
+pub mod Sequence
 pub mod Laws
 pub mod Steps

@@ -16,3 +16,11 @@ pub record WeighingAsked (scores own : List ℕ) (total : ℕ) : Type 0 where
   pub scores-within : ScoresWithin scores
   pub total-is : total ≡ sum scores
   pub own-most : (place : ℕ) → getD own place 0 ≤ firstWeight
+
+-- no k passes the table's last
+abbrev pub Thousandths : List ℕ → Type 0
+Thousandths ks = (place : ℕ) → getD ks place 0 ≤ 1000
+
+pub record LevelAsked (sums own : List ℕ) : Type 0 where
+  pub sums-within : ScoresWithin sums
+  pub own-most : (place : ℕ) → getD own place 0 ≤ firstWeight

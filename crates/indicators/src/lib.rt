@@ -1,4 +1,5 @@
 // The indicators: pools, weights and points.
+mod interruptions;
 mod pools;
 mod weights;
 

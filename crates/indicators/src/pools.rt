@@ -4,11 +4,10 @@ ghost use Prim.Native.Nat.{_≤_, _<_};
 ghost use Rattle.calls.specs.Limits.{indicatorCount};
 ghost use Rattle.book.specs.declared.Book.{Book};
 ghost use Rattle.values.specs.Bounds.{pointsMost, poolMost};
-ghost use Rattle.values.specs.Indicator.{pool, numbered};
+ghost use Rattle.values.specs.Indicator.{reliableMask, scores as Indicator·scores, pool, numbered};
 ghost use Rattle.values.specs.Parts.{HasMarks, HasMeasures, Within};
-ghost use Rattle.indicators.specs.Steps.{ScoresWithin};
 ghost use Rattle.indicators.specs.Points.{weights, points};
-use crate::weights::levelled_weights;
+use crate::interruptions::interruption_weights;
 use crate::weights::linear_weights;
 use calls::FIGURE_PLACES;
 use calls::INDICATORS;
@@ -31,21 +30,29 @@ pub fn points_of(
     requires { ⌜ Within (now settings) (now figures) (now indices) × (number < indicatorCount) ⌝ }
     ensures { λ r. ⌜ ((b : Book) → HasMarks b joined (now (marks .entry)) → HasMeasures b (now (settings .entry)) (now (figures .entry)) (now (indices .entry)) → r ≡ points b (numbered number)) ⌝ }
 {
-    let mask = reliable_mask(joined, marks, number);
-    let scores = scores_of(mask, settings, figures, indices, number);
     apportion::share(
         pool_of(joined, marks, number),
-        weights_of(mask, scores, number),
+        weights_of(joined, marks, settings, figures, indices, number),
     )
 }
 
-fn weights_of(mask: u16, scores: [u64; 16], number: u8) -> [u64; 16]
-    requires { ⌜ ScoresWithin scores × (number < indicatorCount) ⌝ }
-    ensures { λ r. ⌜ r ≡ weights (numbered number .measure) mask scores ⌝ }
+// A indicators have the first four numbers, D indicators the others.
+fn weights_of(
+    joined: u16,
+    marks: &[u16; INDICATORS],
+    settings: &[u64; SETTING_PLACES],
+    figures: &[u64; FIGURE_PLACES],
+    indices: &[u32; INDICES],
+    number: u8,
+) -> [u64; 16]
+    requires { ⌜ Within (now settings) (now figures) (now indices) × (number < indicatorCount) ⌝ }
+    ensures { λ r. ⌜ ((b : Book) → HasMarks b joined (now (marks .entry)) → HasMeasures b (now (settings .entry)) (now (figures .entry)) (now (indices .entry)) → r ≡ weights (numbered number .measure) (reliableMask b (numbered number)) (Indicator·scores b (numbered number))) ⌝ }
 {
+    let mask = reliable_mask(joined, marks, number);
     if number < 4 {
-        return levelled_weights(mask, scores);
+        return interruption_weights(mask, settings, figures, indices, number);
     }
+    let scores = scores_of(mask, settings, figures, indices, number);
     linear_weights(mask, scores)
 }
 

@@ -174,4 +174,4 @@ figure-taken = ap (λ (b : Book). figureOf b 0 0 4) (book-of electricity (Join 0
 pub all-hold : All marked
 unfolding output-opened answersFrom
 all-hold =
-    (refl, (refl, (refl, (answered electricity (lasting 0 180) refl, (answered electricity (lasting 0 181) refl, (answered electricity (lasting 31535000 31535999) refl, (answered electricity (lasting 31535000 31536000) refl, (answered electricity (lasting 94607000 94608000) refl, (answered electricity (Amount 0 0 4 0 100000000000) refl, (figure-taken, (output-m, (cut-m, (filings-refused, (answered electricity (Amount 0 0 4 0 100000000001) refl, (answered electricity (Amount 0 0 4 1 1) refl, (refl, (joined-only, (marked-six, (joined-new, (cleared-one, (lost, (grown 0 ∙ grown-applied .0, (grown 1 ∙ grown-applied .1, (adjusted-grown, (join-too-long, (refl, (gas-holds, tt)))))))))))))))))))))))))))
+    (refl, (refl, (refl, (answered electricity (lasting 0 180) refl, (answered electricity (lasting 0 181) refl, (answered electricity (lasting 31535000 31535999) refl, (answered electricity (lasting 31535000 31536000) refl, (answered electricity (lasting 94607000 94608000) refl, (answered electricity (Amount 0 0 4 0 100000000000) refl, (figure-taken, (output-m, (cut-m, (filings-refused, (answered electricity (Amount 0 0 4 0 100000000001) refl, (answered electricity (Amount 0 0 4 1 1) refl, (refl, (joined-only, (marked-six, (joined-new, (cleared-one, (lost, (grown 0 ∙ grown-applied .0, (grown 1 ∙ grown-applied .1, (adjusted-grown, (join-too-long, (refl, (refl, (refl, (gas-holds, tt)))))))))))))))))))))))))))))

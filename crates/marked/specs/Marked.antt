@@ -20,6 +20,7 @@ use Rattle.history.specs.Demand.{bookOf}
 use Rattle.values.specs.Operators.{table, each}
 use Rattle.values.specs.Indicator.{yearlyValue, numbered}
 use Rattle.indicators.specs.Points.{levelled}
+use Rattle.indicators.specs.Sequence.{thousandths, exponentWeights, levelledWeights}
 use Rattle.settlement.specs.Settlement.{settled, settledGas}
 use Rattle.text.specs.Text.{bytesOf}
 use Rattle.output.specs.Output.{outputOf, gasOutputOf}
@@ -128,6 +129,10 @@ gasCases =
     -- its pool, 300 times 20 points, stands at D1's number
     ∷ (settledGas (bookOf gas (Join 0 ∷ Setting 0 1 1 ∷ Mark 0 4 0 ∷ [])) .settlement .pools ≡ 0 ∷ 0 ∷ 0 ∷ 0 ∷ 6000 ∷ 0 ∷ []) ∷ []
 
+-- the sums of operators 0 to 3, with a mean of 150,500
+abbrev aroundTheMean : List ℕ
+aroundTheMean = 101000 ∷ 200000 ∷ 150501 ∷ 150499 ∷ []
+
 abbrev pub marked : List (Type 0)
 marked =
     -- "sharing 10 by 1, 1, 1 gives 4, 3, 3"
@@ -166,5 +171,8 @@ marked =
     ∷ (writerAnswer (bookOf electricity (Join 0 ∷ [])) (0 ∷ 0 ∷ 0 ∷ []) ≡ refused-by 13)
     -- "weights 10, 8, 4 with the first two better become 18, 18, 8"
     ∷ (take 3 (each (levelled (λ (operator : ℕ). ltb operator 2) (λ (operator : ℕ). getD (10 ∷ 8 ∷ 4 ∷ []) operator 0))) ≡ 18 ∷ 18 ∷ 8 ∷ [])
+    -- levelling goes by the sums and not by k (02, point 5): two have one k, and the mean between them
+    ∷ (take 4 (thousandths aroundTheMean) ≡ 505 ∷ 1000 ∷ 752 ∷ 752 ∷ [])
+    ∷ (take 4 (levelledWeights 15 aroundTheMean (exponentWeights (thousandths aroundTheMean))) ≡ 1074598086 ∷ 735390232 ∷ 942490338 ∷ 1074598086 ∷ [])
     -- gas
     ∷ All gasCases ∷ []

@@ -1,18 +1,22 @@
--- The scores of an indicator, one for each operator, and their bounds in a book in range.
+-- The scores of an indicator, one for each operator, are the first two steps of annex 9, 4.2.1, in turn; and their bounds in a book in range.
 -- Assumes nothing.
 use Prim.Native.Nat.{ℕ, _≤_, _<_, zero-le}
 use native.Mathlib.Nat.{div-le-self, mul-le-mul, le-trans}
 use native.Mathlib.Omega.{arith}
+use mathlib.Core.Path.{_≡_, refl}
 use lib.Dec.{eqb}
 use lib.ListN.{getD}
 use Rattle.calls.specs.Limits.{operators, years, figureCount, indicatorCount}
 use Rattle.calls.specs.Masks.{has}
 use Rattle.book.specs.declared.Book.{Book}
 use Rattle.exact.specs.Division.{over}
-use Rattle.calls.specs.Indicators.{frequency, duration, fee, electricity}
+use Rattle.calls.specs.Indicators.{frequency, duration, fee, Indicator, electricity}
+use Rattle.values.specs.declared.YearlyValues.{YearlyValues}
 use Rattle.values.specs.Indicator.{numbered, yearlyValue, yearlyValues, threeYears, reliableMask, scores}
 use Rattle.values.proofs.CountLaws.{cond-le}
-use Rattle.values.proofs.Tables.{each-le}
+use Rattle.values.specs.Sequence.{valuesByYear, sumsOfYears}
+use Rattle.values.specs.Steps.{YearsWithin}
+use Rattle.values.proofs.Tables.{each-at, each-same, each-le}
 use Rattle.values.specs.Bounds.{yearlyMost, scoreMost}
 use Rattle.values.specs.Parts.{Within}
 use Rattle.values.proofs.InRange.{figure-most, index-most}
@@ -21,6 +25,19 @@ use Rattle.values.proofs.Numbered.{of-numbered}
 pub over-le : (dividend divisor : ℕ) → over dividend divisor ≤ dividend
 unfolding over
 over-le dividend divisor = cond-le (eqb divisor 0) zero-le (div-le-self dividend divisor)
+
+-- the sums of the yearly values are the scores
+pub scores-in-turn : (b : Book) (indicator : Indicator) → sumsOfYears (reliableMask b indicator) (valuesByYear b (indicator .measure)) ≡ scores b indicator
+unfolding valuesByYear sumsOfYears scores threeYears
+scores-in-turn b indicator =
+    let value : ℕ → ℕ → ℕ = λ year k. yearlyValue b (indicator .measure) k year in
+    each-same _ _ (λ k lt. rw (each-at (value 0) k lt, each-at (value 1) k lt, each-at (value 2) k lt) refl)
+
+pub sums-within : (mask : ℕ) (values : YearlyValues) → YearsWithin values → (place : ℕ) → getD (sumsOfYears mask values) place 0 ≤ scoreMost
+unfolding sumsOfYears
+sums-within mask values small =
+    each-le _ _
+    (λ operator lo. cond-le (has mask operator) (omega (arith, small .first-within operator, small .second-within operator, small .third-within operator)) zero-le)
 
 module _ (b : Book) (small : Within (b .settings) (b .figures) (b .indices)) where
   module _ (operator year : ℕ) (lo : operator < operators) (ly : year < years) where
@@ -45,22 +62,15 @@ module _ (b : Book) (small : Within (b .settings) (b .figures) (b .indices)) whe
         (frequency-le 0 _ (omega arith), (duration-le 1 0 (omega arith), (frequency-le 2 _ (omega arith), (duration-le 3 2 (omega arith), (fee-le 4 5 (omega arith), (fee-le 6 7 (omega arith), tt))))))
 
   module _ (number : ℕ) (ln : number < indicatorCount) where
-    three-years-le : (operator : ℕ) → operator < operators → threeYears b (numbered number .measure) operator ≤ scoreMost
-    unfolding threeYears
-    three-years-le operator lo =
-        omega (
-          arith,
-          yearly-le operator 0 lo (omega arith) number ln,
-          yearly-le operator 1 lo (omega arith) number ln,
-          yearly-le operator 2 lo (omega arith) number ln,
-        )
-
-    -- the same of the values by operator
+    -- of the values by operator
     pub yearlies-le : (year : ℕ) → year < years → (k : ℕ) → getD (yearlyValues b (numbered number .measure) year) k 0 ≤ yearlyMost
     yearlies-le year ly = each-le _ _ (λ k lt. yearly-le k year lt ly number ln)
 
+    pub years-within : YearsWithin (valuesByYear b (numbered number .measure))
+    unfolding valuesByYear
+    years-within =
+        record { first-within = yearlies-le 0 (omega arith); second-within = yearlies-le 1 (omega arith); third-within = yearlies-le 2 (omega arith) }
+
     -- no score passes three years of the largest yearly value
     pub scored : (place : ℕ) → getD (scores b (numbered number)) place 0 ≤ scoreMost
-    unfolding scores
-    scored =
-        each-le _ _ (λ operator lo. cond-le (has (reliableMask b (numbered number)) operator) (three-years-le operator lo) zero-le)
+    scored = rw (scores-in-turn b (numbered number)) at (sums-within (reliableMask b (numbered number)) _ years-within)

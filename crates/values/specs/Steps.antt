@@ -2,9 +2,17 @@
 -- Assumes nothing.
 use Prim.Native.Nat.{ℕ, _≤_, _<_}
 use mathlib.Core.List.{List}
+use lib.ListN.{getD}
 use Rattle.calls.specs.Limits.{years, settingCount, figureCount, indicatorCount}
 use Rattle.values.specs.Bounds.{yearlyMost}
 use Rattle.values.specs.Parts.{SettingsWithin, FiguresWithin, IndicesWithin, Within}
+use Rattle.values.specs.declared.YearlyValues.{YearlyValues}
+
+-- no value of a year passes the largest
+pub record YearsWithin (values : YearlyValues) : Type 0 where
+  pub first-within : (operator : ℕ) → getD (values .first) operator 0 ≤ yearlyMost
+  pub second-within : (operator : ℕ) → getD (values .second) operator 0 ≤ yearlyMost
+  pub third-within : (operator : ℕ) → getD (values .third) operator 0 ≤ yearlyMost
 
 pub record YearsAsked (first second third : ℕ) : Type 0 where
   pub first-most : first ≤ yearlyMost

@@ -1,5 +1,5 @@
-// Yearly values of an indicator by operator, their sums over three years, and the operators that take part. Parts of a book are lent,
-// since a book by value is copied at each call; each function speaks of every book that the parts belong to.
+// Yearly values of an indicator by operator and their sums over three years, the first two steps of annex 9, 4.2.1; and the operators that take
+// part. Parts of a book are lent, since a book by value is copied at each call; each function speaks of every book that the parts belong to.
 mod columns;
 
 ghost use mathlib.Core.Path.{_≡_};
@@ -14,7 +14,8 @@ ghost use Rattle.values.specs.Operators.{each};
 ghost use Rattle.calls.specs.Indicators.{frequency, duration, fee};
 ghost use Rattle.values.specs.Indicator.{yearlyValues, reliableMask, scores, numbered};
 ghost use Rattle.values.specs.Parts.{HasMarks, HasMeasures, Within};
-ghost use Rattle.values.specs.Steps.{YearsAsked, ValuesAsked, FrequencyAsked, DurationAsked, FeeAsked};
+ghost use Rattle.values.specs.Sequence.{valuesByYear, sumsOfYears};
+ghost use Rattle.values.specs.Steps.{YearsWithin, YearsAsked, ValuesAsked, FrequencyAsked, DurationAsked, FeeAsked};
 use calls::FIGURE_PLACES;
 use calls::INDICATORS;
 use calls::INDICES;
@@ -24,6 +25,13 @@ use calls::has_bit;
 use columns::figures_of;
 pub use columns::settings_of;
 use exact::divide;
+
+// The values of each year, by operator.
+pub struct YearlyValues {
+    pub first: [u64; 16],
+    pub second: [u64; 16],
+    pub third: [u64; 16],
+}
 
 // The scores of the operators that take part in an indicator; 0 for the others.
 pub fn scores_of(
@@ -36,9 +44,38 @@ pub fn scores_of(
     requires { ⌜ Within (now settings) (now figures) (now indices) × (number < indicatorCount) ⌝ }
     ensures { λ r. ⌜ ((b : Book) → HasMeasures b (now (settings .entry)) (now (figures .entry)) (now (indices .entry)) → mask ≡ reliableMask b (numbered number) → r ≡ scores b (numbered number)) ⌝ }
 {
-    let first = yearly_values(settings, figures, indices, number, 0);
-    let second = yearly_values(settings, figures, indices, number, 1);
-    let third = yearly_values(settings, figures, indices, number, 2);
+    let values = yearly_values(settings, figures, indices, number);
+    sums_of_years(mask, values)
+}
+
+// Step 1: the yearly values, of operators that take no part too.
+pub fn yearly_values(
+    settings: &[u64; SETTING_PLACES],
+    figures: &[u64; FIGURE_PLACES],
+    indices: &[u32; INDICES],
+    number: u8,
+) -> YearlyValues
+    requires { ⌜ Within (now settings) (now figures) (now indices) × (number < indicatorCount) ⌝ }
+    ensures { λ r. ⌜ ((b : Book) → HasMeasures b (now (settings .entry)) (now (figures .entry)) (now (indices .entry)) → r ≡ valuesByYear b (numbered number .measure)) ⌝ }
+{
+    let first = values_in(settings, figures, indices, number, 0);
+    let second = values_in(settings, figures, indices, number, 1);
+    let third = values_in(settings, figures, indices, number, 2);
+    YearlyValues {
+        first: first,
+        second: second,
+        third: third,
+    }
+}
+
+// Step 2: the sum of the three years, where the annex has their mean (01 decides). It is 0 for whoever takes no part.
+pub fn sums_of_years(mask: u16, values: YearlyValues) -> [u64; 16]
+    requires { ⌜ YearsWithin values ⌝ }
+    ensures { λ r. ⌜ r ≡ sumsOfYears mask values ⌝ }
+{
+    let first = values.first;
+    let second = values.second;
+    let third = values.third;
     let mut list = [0u64; 16];
     let mut i = 0;
     while i < 16 {
@@ -76,7 +113,7 @@ fn others(mask: u16) -> u16
 }
 
 // The values of a year, by operator.
-fn yearly_values(
+fn values_in(
     settings: &[u64; SETTING_PLACES],
     figures: &[u64; FIGURE_PLACES],
     indices: &[u32; INDICES],

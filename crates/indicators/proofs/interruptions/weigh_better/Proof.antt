@@ -1,4 +1,4 @@
--- `indicators::weights::weigh_better` meets its contract: the operators passed hold their weight if they are better.
+-- `indicators::interruptions::weigh_better` meets its contract: the operators passed hold their weight if they are better.
 -- Assumes nothing.
 use mathlib.Core.Path.{_≡_, refl, _∙_, ap}
 use Prim.Native.Nat.{ℕ, _-_, zero-le}
@@ -11,8 +11,8 @@ use Rattle.values.proofs.Tables.{Filling, filling-none, filling-more, filling-e
 use Rattle.exponent.specs.Weight.{firstWeight}
 use Rattle.values.proofs.CountLaws.{cond-le}
 use mathlib.Core.List.{List}
-use Rattle.indicators.proofs.weights.weigh_better.Statement.{statement}
-use Rattle.indicators.proofs.weights.weigh_better.Tie as tie
+use Rattle.indicators.proofs.interruptions.weigh_better.Statement.{statement}
+use Rattle.indicators.proofs.interruptions.weigh_better.Tie as tie
 
 -- an operator's weight if it is better
 abbrev counted : ℕ → List ℕ → List ℕ → ℕ → ℕ

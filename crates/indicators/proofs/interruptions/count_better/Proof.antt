@@ -1,4 +1,4 @@
--- `indicators::weights::count_better` meets its contract: g counts the better among the operators passed.
+-- `indicators::interruptions::count_better` meets its contract: g counts the better among the operators passed.
 -- Assumes nothing.
 use mathlib.Core.Path.{_≡_, refl, _∙_}
 use Prim.Native.Nat.{_-_, _≤_}
@@ -7,8 +7,8 @@ use Rattle.values.specs.Operators.{count}
 use Rattle.indicators.specs.Points.{isBetter}
 use Rattle.values.proofs.CountLaws.{count-more, count-le}
 use mathlib.Core.Logic.{⊎-elim}
-use Rattle.indicators.proofs.weights.count_better.Statement.{statement}
-use Rattle.indicators.proofs.weights.count_better.Tie as tie
+use Rattle.indicators.proofs.interruptions.count_better.Statement.{statement}
+use Rattle.indicators.proofs.interruptions.count_better.Tie as tie
 
 abbrev Inv-loop : tie.InvT-loop
 Inv-loop mask sum scores g₀ i₀ g i = (i ≤ 16) × (g ≡ count i (isBetter mask scores))
