@@ -33,7 +33,7 @@ unfoldable pub levelledWeights : ℕ → List ℕ → List ℕ → List ℕ
 levelledWeights mask sums own =
     each (λ (operator : ℕ). cond (has mask operator) (levelled (isBetter mask sums) (λ (other : ℕ). getD own other 0) operator) 0)
 
--- the five in turn
+-- the five in turn, one a line
 unfoldable pub inSequence : Book → Indicator → List ℕ
 inSequence b indicator =
     let mask : ℕ = reliableMask b indicator in
