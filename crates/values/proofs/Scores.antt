@@ -4,6 +4,7 @@ use Prim.Native.Nat.{ℕ, _≤_, _<_, zero-le}
 use native.Mathlib.Nat.{div-le-self, mul-le-mul, le-trans}
 use native.Mathlib.Omega.{arith}
 use mathlib.Core.Path.{_≡_, refl}
+use mathlib.Core.List.{List, []}
 use lib.Dec.{eqb}
 use lib.ListN.{getD}
 use Rattle.calls.specs.Limits.{operators, years, figureCount, indicatorCount}
@@ -18,8 +19,8 @@ use Rattle.values.specs.Sequence.{valuesByYear, sumsOfYears}
 use Rattle.values.specs.Steps.{YearsWithin}
 use Rattle.values.proofs.Tables.{each-at, each-same, each-le}
 use Rattle.values.specs.Bounds.{yearlyMost, scoreMost}
-use Rattle.values.specs.Parts.{Within}
-use Rattle.values.proofs.InRange.{figure-most, index-most}
+use Rattle.values.specs.Parts.{HasMeasures, Within}
+use Rattle.values.proofs.InRange.{holding, lending-measured, figure-most, index-most}
 use Rattle.values.proofs.Numbered.{of-numbered}
 
 pub over-le : (dividend divisor : ℕ) → over dividend divisor ≤ dividend
@@ -62,11 +63,11 @@ module _ (b : Book) (small : Within (b .settings) (b .figures) (b .indices)) whe
         (frequency-le 0 _ (omega arith), (duration-le 1 0 (omega arith), (frequency-le 2 _ (omega arith), (duration-le 3 2 (omega arith), (fee-le 4 5 (omega arith), (fee-le 6 7 (omega arith), tt))))))
 
   module _ (number : ℕ) (ln : number < indicatorCount) where
-    -- of the values by operator
-    pub yearlies-le : (year : ℕ) → year < years → (k : ℕ) → getD (yearlyValues b (numbered number .measure) year) k 0 ≤ yearlyMost
+    -- the same of a year's values, by operator, and of all three
+    yearlies-le : (year : ℕ) → year < years → (k : ℕ) → getD (yearlyValues b (numbered number .measure) year) k 0 ≤ yearlyMost
     yearlies-le year ly = each-le _ _ (λ k lt. yearly-le k year lt ly number ln)
 
-    pub years-within : YearsWithin (valuesByYear b (numbered number .measure))
+    years-within : YearsWithin (valuesByYear b (numbered number .measure))
     unfolding valuesByYear
     years-within =
         record { first-within = yearlies-le 0 (omega arith); second-within = yearlies-le 1 (omega arith); third-within = yearlies-le 2 (omega arith) }
@@ -74,3 +75,9 @@ module _ (b : Book) (small : Within (b .settings) (b .figures) (b .indices)) whe
     -- no score passes three years of the largest yearly value
     pub scored : (place : ℕ) → getD (scores b (numbered number)) place 0 ≤ scoreMost
     scored = rw (scores-in-turn b (numbered number)) at (sums-within (reliableMask b (numbered number)) _ years-within)
+
+-- values worked out from lent parts are within the bound, since they are those of a book that has the parts
+pub lent-within : {settings figures indices : List ℕ} {number : ℕ} {values : YearlyValues} → Within settings figures indices → number < indicatorCount
+    → ((b : Book) → HasMeasures b settings figures indices → values ≡ valuesByYear b (numbered number .measure)) → YearsWithin values
+lent-within {settings} {figures} {indices} {number} small ln known =
+    rw (known (holding settings figures indices) (lending-measured 0 [] settings figures indices)) (years-within (holding settings figures indices) small number ln)

@@ -1,12 +1,9 @@
 -- `values::scores_of` meets its contract: the first two steps in turn are the scores.
 -- Assumes nothing.
 use borrow.Author.Needs.{needs}
-use mathlib.Core.List.{[]}
 use mathlib.Core.Path.{_∙_}
-use Rattle.calls.specs.Limits.{indicatorCount}
 use Rattle.values.specs.Indicator.{numbered}
-use Rattle.values.proofs.InRange.{holding, lending-measured}
-use Rattle.values.proofs.Scores.{years-within, scores-in-turn}
+use Rattle.values.proofs.Scores.{lent-within, scores-in-turn}
 use Rattle.values.proofs.scores_of.Statement.{statement}
 use Rattle.values.proofs.scores_of.Tie as tie
 
@@ -15,10 +12,7 @@ yearly-values-requires c κs = search needs
 
 sums-of-years-requires : tie.Need-sums-of-years-requires
 sums-of-years-requires c κs =
-    let start = c .before in
-    let b = holding (start .args .settings .now) (start .args .figures .now) (start .args .indices .now) in
-    rw (c .yearly-values .ensures b (lending-measured 0 [] (b .settings) (b .figures) (b .indices)))
-    (years-within b (start .pre .0) (start .args .number) (start .pre .1))
+    lent-within (c .before .pre .0) (c .before .pre .1) (c .yearly-values .ensures)
 
 returns : tie.Need-returns
 returns c =

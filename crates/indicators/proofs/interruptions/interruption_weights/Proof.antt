@@ -1,12 +1,10 @@
 -- `indicators::interruptions::interruption_weights` meets its contract: each step's result is the defined one of the results before it.
 -- Assumes nothing.
 use borrow.Author.Needs.{needs}
-use mathlib.Core.Path.{_≡_, _∙_, ap}
-use mathlib.Core.List.{[]}
+use mathlib.Core.Path.{_∙_, ap}
 use Rattle.values.specs.Sequence.{sumsOfYears}
-use Rattle.values.proofs.InRange.{holding, lending-measured}
 use Rattle.values.specs.Steps.{YearsWithin}
-use Rattle.values.proofs.Scores.{years-within, sums-within}
+use Rattle.values.proofs.Scores.{sums-within, lent-within}
 use Rattle.indicators.specs.Steps.{ScoresWithin}
 use Rattle.indicators.specs.Sequence.{thousandths, exponentWeights, levelledWeights, inSequence}
 use Rattle.indicators.proofs.SequenceLaws.{thousandths-most, own-most}
@@ -15,11 +13,7 @@ use Rattle.indicators.proofs.interruptions.interruption_weights.Tie as 
 
 -- what the results of the first two steps are within
 years-known : (m : tie.After-yearly-values) → YearsWithin (m .yearly-values .result)
-years-known m =
-    let start = m .before in
-    let b = holding (start .args .settings .now) (start .args .figures .now) (start .args .indices .now) in
-    rw (m .yearly-values .ensures b (lending-measured 0 [] (b .settings) (b .figures) (b .indices)))
-    (years-within b (start .pre .0) (start .args .number) (start .pre .1))
+years-known m = lent-within (m .before .pre .0) (m .before .pre .1) (m .yearly-values .ensures)
 
 sums-known : (m : tie.After-sums-of-years) → ScoresWithin (m .sums-of-years .result)
 sums-known m = rw (m .sums-of-years .ensures) (sums-within _ _ (years-known (m .before)))
