@@ -14,12 +14,12 @@ use Rattle.exponent.specs.Weight.{firstWeight, weightOf}
 use Rattle.exponent.proofs.Laws.{weight-most}
 use Rattle.values.specs.Operators.{each}
 use Rattle.values.specs.Indicator.{reliableMask, scores}
-use Rattle.values.specs.Sequence.{valuesByYear, sumsOfYears}
+use Rattle.values.specs.Sequence.{sumsOfYears}
 use Rattle.values.proofs.Tables.{each-at, each-same, each-le}
 use Rattle.values.proofs.Scores.{scores-in-turn}
 use Rattle.indicators.specs.Points.{largest, normalised, exponentWeight, isBetter, levelled, isLevelled, weights, points}
 use Rattle.indicators.specs.Sequence.{thousandths, exponentWeights, levelledWeights, inSequence}
-use Rattle.indicators.specs.Laws.{InSequence}
+use Rattle.indicators.specs.Laws.{sumsIn, InSequence}
 use Rattle.indicators.proofs.WeightLaws.{over-most, normalised-most}
 use Rattle.indicators.proofs.Weighting.{together-same, levelled-same}
 
@@ -54,14 +54,14 @@ module _ (b : Book) (indicator : Indicator) where
 
   -- somebody who takes no part
   module _ (operator : ℕ) (lt : operator < 16) (outside : has (reliableMask b indicator) operator ≡ false) where
-    no-sum : getD (sumsOfYears (reliableMask b indicator) (valuesByYear b (indicator .measure))) operator 0 ≡ 0
+    no-sum : getD (sumsIn b indicator) operator 0 ≡ 0
     unfolding sumsOfYears
     no-sum = each-at _ operator lt ∙ rw outside refl
 
-    first-weight : getD (exponentWeights (thousandths (sumsOfYears (reliableMask b indicator) (valuesByYear b (indicator .measure))))) operator 0 ≡ firstWeight
+    first-weight : getD (exponentWeights (thousandths (sumsIn b indicator))) operator 0 ≡ firstWeight
     unfolding exponentWeights thousandths weightOf
     first-weight =
-        let sums = sumsOfYears (reliableMask b indicator) (valuesByYear b (indicator .measure)) in
+        let sums = sumsIn b indicator in
         let none : over (1000 * getD sums operator 0) (largest sums) ≡ 0 = omega (arith, over-most (1000 * getD sums operator 0) (largest sums) 0 (omega (arith, no-sum))) in
         each-at _ operator lt ∙ ap weightOf (each-at _ operator lt ∙ none)
 

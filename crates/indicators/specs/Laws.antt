@@ -41,6 +41,10 @@ pub record PointsMadeUp (b : Book) (indicator : Indicator) (pooled : ℕ) (given
       → isBetter (reliableMask b indicator) (scores b indicator) operator ≡ true → isBetter (reliableMask b indicator) (scores b indicator) other ≡ true
       → getD given operator 0 ≤ getD given other 0 + 1
 
+-- steps 1 and 2 in turn
+abbrev pub sumsIn : Book → Indicator → List ℕ
+sumsIn b indicator = sumsOfYears (reliableMask b indicator) (valuesByYear b (indicator .measure))
+
 -- the steps of annex 9, 4.2.1, of any book
 pub record InSequence (b : Book) (indicator : Indicator) : Type 0 where
   -- the five in turn are the weights of an A indicator, by which its pool is shared
@@ -49,7 +53,7 @@ pub record InSequence (b : Book) (indicator : Indicator) : Type 0 where
   pub points-are : isLevelled (indicator .measure) ≡ true → points b indicator ≡ share (pool b indicator) (inSequence b indicator)
   -- somebody who takes no part: step 2 gives the sum 0, step 4 so the first weight, and step 5 the weight 0
   pub no-sum : (operator : ℕ) → operator < operators → has (reliableMask b indicator) operator ≡ false
-      → getD (sumsOfYears (reliableMask b indicator) (valuesByYear b (indicator .measure))) operator 0 ≡ 0
+      → getD (sumsIn b indicator) operator 0 ≡ 0
   pub first-weight : (operator : ℕ) → operator < operators → has (reliableMask b indicator) operator ≡ false
-      → getD (exponentWeights (thousandths (sumsOfYears (reliableMask b indicator) (valuesByYear b (indicator .measure))))) operator 0 ≡ firstWeight
+      → getD (exponentWeights (thousandths (sumsIn b indicator))) operator 0 ≡ firstWeight
   pub no-weight : (operator : ℕ) → operator < operators → has (reliableMask b indicator) operator ≡ false → getD (inSequence b indicator) operator 0 ≡ 0

@@ -65,6 +65,13 @@ module _ (joined : ℕ) (marks settings figures indices : List ℕ) where
   pub lending-measured : HasMeasures lending settings figures indices
   lending-measured = record { settings-are = refl; figures-are = refl; indices-are = refl }
 
+-- a value that is the defined one of every book with the lent parts: what holds of one such book's holds of it
+pub of-lent : {A : Type 0} {joined : ℕ} {marks settings figures indices : List ℕ} {value : A} (defined : Book → A) (Holds : A → Type 0)
+    → ((b : Book) → HasMarks b joined marks → HasMeasures b settings figures indices → value ≡ defined b)
+    → Holds (defined (lending joined marks settings figures indices)) → Holds value
+of-lent {joined = joined} {marks = marks} {settings = settings} {figures = figures} {indices = indices} defined Holds known holds =
+    rw (known (lending joined marks settings figures indices) (lending-marked joined marks settings figures indices) (lending-measured joined marks settings figures indices)) holds
+
 abbrev pub holding : List ℕ → List ℕ → List ℕ → Book
 holding settings figures indices = lending 0 [] settings figures indices
 

@@ -20,7 +20,7 @@ use Rattle.values.specs.Steps.{YearsWithin}
 use Rattle.values.proofs.Tables.{each-at, each-same, each-le}
 use Rattle.values.specs.Bounds.{yearlyMost, scoreMost}
 use Rattle.values.specs.Parts.{HasMeasures, Within}
-use Rattle.values.proofs.InRange.{holding, lending-measured, figure-most, index-most}
+use Rattle.values.proofs.InRange.{of-lent, holding, figure-most, index-most}
 use Rattle.values.proofs.Numbered.{of-numbered}
 
 pub over-le : (dividend divisor : ℕ) → over dividend divisor ≤ dividend
@@ -80,4 +80,5 @@ module _ (b : Book) (small : Within (b .settings) (b .figures) (b .indices)) whe
 pub lent-within : {settings figures indices : List ℕ} {number : ℕ} {values : YearlyValues} → Within settings figures indices → number < indicatorCount
     → ((b : Book) → HasMeasures b settings figures indices → values ≡ valuesByYear b (numbered number .measure)) → YearsWithin values
 lent-within {settings} {figures} {indices} {number} small ln known =
-    rw (known (holding settings figures indices) (lending-measured 0 [] settings figures indices)) (years-within (holding settings figures indices) small number ln)
+    of-lent {joined = 0} {marks = []} (λ (b : Book). valuesByYear b (numbered number .measure)) YearsWithin (λ b marked measured. known b measured)
+    (years-within (holding settings figures indices) small number ln)

@@ -1,7 +1,14 @@
 -- `gathering::gather_one` meets its contract.
 -- Assumes nothing.
+use Prim.Native.Nat.{ℕ, _≤_}
 use mathlib.Core.Path.{refl, _∙_}
-use Rattle.values.proofs.InRange.{lending, lending-marked, lending-measured}
+use mathlib.Core.List.{List}
+use lib.ListN.{getD}
+use Rattle.calls.specs.Indicators.{indicatorsOf}
+use Rattle.book.specs.declared.Book.{Book}
+use Rattle.values.specs.Bounds.{poolMost}
+use Rattle.values.proofs.InRange.{of-lent}
+use Rattle.indicators.specs.Points.{pointsNumbered}
 use Rattle.gathering.proofs.Gathering.{numbered-le}
 use borrow.Author.Needs.{needs}
 use Rattle.gathering.proofs.gather_one.Statement.{statement}
@@ -28,16 +35,12 @@ place-requires c κs = search needs
 add-requires : tie.Need-add-requires
 add-requires c κs =
     let begun = c .before .before .before .before .before .before in
-    let joined = begun .args .joined in
-    let marks = begun .args .marks .now in
-    let settings = begun .args .settings .now in
-    let figures = begun .args .figures .now in
-    let indices = begun .args .indices .now in
-    let b = lending joined marks settings figures indices in
-    let shares =
-    c .before .before .before .before .before .points-in .ensures b (lending-marked joined marks settings figures indices) (lending-measured joined marks settings figures indices) in (
+    let kind = begun .args .kind in
+    let number = begun .args .number in (
       begun .pre .totals-most,
-      λ k. rw shares (numbered-le b (begun .args .kind) (begun .args .number) (begun .pre .number-there) k),
+      of-lent (λ (b : Book). pointsNumbered b (indicatorsOf kind) number) (λ (shares : List ℕ). (k : ℕ) → getD shares k 0 ≤ poolMost)
+          (c .before .before .before .before .before .points-in .ensures)
+          (numbered-le _ kind number (begun .pre .number-there)),
     )
 
 returns : tie.Need-returns

@@ -1,13 +1,17 @@
 -- `indicators::pools::points_of` meets its contract.
 -- Assumes nothing.
-use mathlib.Core.Path.{_≡_, refl, _∙_, ap}
+use Prim.Native.Nat.{ℕ, _*_, _≤_}
+use mathlib.Core.Path.{_∙_}
+use mathlib.Core.List.{List}
 use native.Mathlib.Omega.{arith}
 use Rattle.apportion.specs.Sum.{sum}
 use Rattle.apportion.specs.Share.{share}
+use Rattle.calls.specs.Limits.{operators}
+use Rattle.book.specs.declared.Book.{Book}
 use Rattle.values.specs.Indicator.{numbered, reliableMask, scores}
-use Rattle.values.proofs.InRange.{lending, lending-marked, lending-measured}
-use Rattle.indicators.specs.Points.{points}
-use Rattle.indicators.proofs.WeightLaws.{weights-sum-most}
+use Rattle.values.proofs.InRange.{of-lent}
+use Rattle.indicators.specs.Points.{weights, points}
+use Rattle.indicators.proofs.WeightLaws.{levelledMost, weights-sum-most}
 use borrow.Author.Needs.{needs}
 use Rattle.indicators.proofs.pools.points_of.Statement.{statement}
 use Rattle.indicators.proofs.pools.points_of.Tie as tie
@@ -20,20 +24,10 @@ weights-of-requires c κs = search needs
 
 share-requires : tie.Need-share-requires
 share-requires c κs =
-    let start = c .before .before in
-    let joined = start .args .joined in
-    let marks = start .args .marks .now in
-    let settings = start .args .settings .now in
-    let figures = start .args .figures .now in
-    let indices = start .args .indices .now in
-    let b = lending joined marks settings figures indices in
-    let indicator = numbered (start .args .number) in
-    omega (
-      arith,
-      c .before .pool-of .ensures .1,
-      ap sum (c .weights-of .ensures b (lending-marked joined marks settings figures indices) (lending-measured joined marks settings figures indices)),
-      weights-sum-most (indicator .measure) (reliableMask b indicator) (scores b indicator),
-    )
+    let indicator = numbered (c .before .before .args .number) in
+    let weighed : Book → List ℕ = λ b. weights (indicator .measure) (reliableMask b indicator) (scores b indicator) in
+    let most : sum (c .weights-of .result) ≤ operators * levelledMost = of-lent weighed (λ (list : List ℕ). sum list ≤ operators * levelledMost) (c .weights-of .ensures) (weights-sum-most _ _ _) in
+    omega (arith, c .before .pool-of .ensures .1, most)
 
 returns : tie.Need-returns
 unfolding points

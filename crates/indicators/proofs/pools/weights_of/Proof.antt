@@ -3,10 +3,12 @@
 use mathlib.Core.Path.{_∙_}
 use borrow.Author.Needs.{needs}
 use borrow.Author.Tests.{lt-ltb, le-ltb}
-use Rattle.values.specs.Indicator.{numbered}
-use Rattle.values.proofs.InRange.{lending, lending-marked, lending-measured}
+use Rattle.book.specs.declared.Book.{Book}
+use Rattle.values.specs.Indicator.{numbered, scores}
+use Rattle.values.proofs.InRange.{of-lent}
 use Rattle.values.proofs.Scores.{scored}
 use Rattle.indicators.specs.Points.{weights}
+use Rattle.indicators.specs.Steps.{ScoresWithin}
 use Rattle.indicators.proofs.Weighting.{level-of}
 use Rattle.indicators.proofs.SequenceLaws.{sequence-weights}
 use Rattle.indicators.proofs.pools.weights_of.Statement.{statement}
@@ -33,14 +35,10 @@ scores-of-requires c κs = search needs
 linear-weights-requires : tie.Need-linear-weights-requires
 linear-weights-requires c κs =
     let start = c .before .before .before in
-    let joined = start .args .joined in
-    let marks = start .args .marks .now in
-    let settings = start .args .settings .now in
-    let figures = start .args .figures .now in
-    let indices = start .args .indices .now in
-    let b = lending joined marks settings figures indices in
-    let taking = c .before .before .reliable-mask .ensures b (lending-marked joined marks settings figures indices) in
-    rw (c .scores-of .ensures b (lending-measured joined marks settings figures indices) taking) (scored b (start .pre .0) (start .args .number) (start .pre .1))
+    let number = start .args .number in
+    of-lent (λ (b : Book). scores b (numbered number)) ScoresWithin
+    (λ b marked measured. c .scores-of .ensures b measured (c .before .before .reliable-mask .ensures b marked))
+    (scored _ (start .pre .0) number (start .pre .1))
 
 -- D
 returns-2 : tie.Need-returns-2
