@@ -100,7 +100,8 @@ fn fees(points: u128, figure: usize, divisor: usize) -> Indicator {
 }
 
 /// The value of one operator in one year.
-/// Follows 01: "Yearly value, rounded down; a zero divisor gives 0".
+/// Follows 01: "Yearly value, rounded down; a zero divisor gives 0"; and 02, point 6:
+/// "The A indicators keep their zero rule."
 pub fn yearly_value(
     indicator: &Indicator,
     operator: &Operator,
@@ -115,10 +116,12 @@ pub fn yearly_value(
         Divisor::AccessPoints => operator.access_points,
         Divisor::Figure(figure) => figures[figure],
     };
-    // Follows 01: "10 × figure 4 × index 3 / (figure 5 × the year's index)".
+    // Follows 01: "10 × figure 4 × index 3 / (figure 5 × the year's index)"; and 02,
+    // point 6: "For D1 and D2 a count of 0 is now taken as 1." Only the count is
+    // replaced, so the year's index divides all the same.
     if indicator.kind == Kind::Fees {
         dividend *= indices[JUNE_2013];
-        divisor *= indices[year];
+        divisor = divisor.max(1) * indices[year];
     }
     if divisor == 0 {
         return 0;
@@ -311,15 +314,74 @@ mod tests {
     }
 
     #[test]
-    fn zero_divisors_give_zero() {
+    fn zero_divisors_give_zero_at_the_a_indicators() {
+        // Seconds without weight; the fees are divided by 1.
         let one = operator(0, 0, [0, 7, 0, 3, 11, 0, 23, 0]);
-        assert_eq!(values(&one, &FRESH), [0; 6]);
+        assert_eq!(values(&one, &FRESH), [0, 0, 0, 0, 110, 230]);
+        // The most seconds, and indices that don't matter to them.
+        let most = 100_000_000_000;
+        let one = operator(1, 1, [0, most, 0, most, 0, 0, 0, 0]);
+        assert_eq!(values(&one, &[1, 1, 1, 100_000]), [0; 6]);
         // Cabins and access points of 0 alone.
         let one = operator(0, 0, [1; 8]);
         assert_eq!(values(&one, &FRESH), [0, 1000, 0, 1000, 10, 10]);
         // A zero dividend.
         let one = operator(1, 1, [0, 0, 0, 0, 0, 1, 0, 1]);
         assert_eq!(values(&one, &FRESH), [0; 6]);
+    }
+
+    /// The values at D1 and D2 of year 0, which has the same fees and the same count
+    /// at both.
+    fn fee_values(fees: u128, count: u128, indices: &[u128]) -> Vec<u128> {
+        let one = operator(1, 1, [0, 0, 0, 0, fees, count, fees, count]);
+        values(&one, indices)[4..].to_vec()
+    }
+
+    #[test]
+    fn a_count_of_0_is_taken_as_1() {
+        // 10 × 25, undivided and by 2.
+        assert_eq!(fee_values(25, 0, &FRESH), [250; 2]);
+        assert_eq!(fee_values(25, 1, &FRESH), [250; 2]);
+        assert_eq!(fee_values(25, 2, &FRESH), [125; 2]);
+        // No fees weigh nothing.
+        for count in [0, 1, 2] {
+            assert_eq!(fee_values(0, count, &FRESH), [0; 2]);
+        }
+    }
+
+    #[test]
+    fn the_indices_stay_with_a_count_of_0() {
+        // The year's: 10 × 25 × 10000 / 30000 = 83.33, by 2 it is 41.67.
+        let dear = [30_000, 10_000, 10_000, 10_000];
+        assert_eq!(fee_values(25, 0, &dear), [83; 2]);
+        assert_eq!(fee_values(25, 1, &dear), [83; 2]);
+        assert_eq!(fee_values(25, 2, &dear), [41; 2]);
+        // That of June 2013: 10 × 25 × 3000 / 10000 = 75.
+        let cheap_before = [10_000, 10_000, 10_000, 3000];
+        assert_eq!(fee_values(25, 0, &cheap_before), [75; 2]);
+        assert_eq!(fee_values(25, 1, &cheap_before), [75; 2]);
+        assert_eq!(fee_values(25, 2, &cheap_before), [37; 2]);
+        // Both: 10 × 25 × 3000 / 7000 = 107.14.
+        let both = [7000, 10_000, 10_000, 3000];
+        assert_eq!(fee_values(25, 0, &both), [107; 2]);
+        assert_eq!(fee_values(25, 1, &both), [107; 2]);
+        assert_eq!(fee_values(25, 2, &both), [53; 2]);
+        // Rounded down to 0: 10 × 25 / 100000.
+        assert_eq!(fee_values(25, 0, &[100_000, 1, 1, 1]), [0; 2]);
+        // No fees, whatever the indices.
+        assert_eq!(fee_values(0, 0, &[1, 1, 1, 100_000]), [0; 2]);
+    }
+
+    #[test]
+    fn each_year_has_its_own_count_of_0() {
+        // D1: 10 × 12 × 100 / 200, nothing, 10 × 12 × 100 / (3 × 400). D2: nothing,
+        // 10 × 40 × 100 / 300, 10 × 40 × 100 / 400.
+        let mut one = operator(1, 1, [0, 0, 0, 0, 12, 0, 0, 0]);
+        one.figures[1] = year_of([0, 0, 0, 0, 0, 0, 40, 0]);
+        one.figures[2] = year_of([0, 0, 0, 0, 12, 3, 40, 0]);
+        let indices = [200, 300, 400, 100];
+        let sums = [4, 5].map(|number| value_sum(&indicators()[number], &one, &indices));
+        assert_eq!(sums, [60 + 10, 133 + 100]);
     }
 
     #[test]
@@ -481,18 +543,20 @@ mod tests {
                 10
             ]
         );
-        one.figures[0] = year_of([1, most, 1, most, most, 1, most, 1]);
-        assert_eq!(
-            values(&one, &[1, 1, 1, 100_000]),
-            [
-                1_000_000,
-                100_000_000_000_000,
-                1_000_000,
-                100_000_000_000_000,
-                100_000_000_000_000_000,
-                100_000_000_000_000_000
-            ]
-        );
+        for count in [0, 1] {
+            one.figures[0] = year_of([1, most, 1, most, most, count, most, count]);
+            assert_eq!(
+                values(&one, &[1, 1, 1, 100_000]),
+                [
+                    1_000_000,
+                    100_000_000_000_000,
+                    1_000_000,
+                    100_000_000_000_000,
+                    100_000_000_000_000_000,
+                    100_000_000_000_000_000
+                ]
+            );
+        }
     }
 
     #[test]

@@ -11,6 +11,8 @@ use folder::folder;
 use model::book::{Book, Operator};
 use model::calls::{self, Answer};
 use model::random::Random;
+use model::report::lines;
+use model::script;
 use model::sector::Sector;
 use model::settlement::{settle, Settlement};
 use std::fs;
@@ -23,6 +25,11 @@ const CALLS: &str = "join 0\njoin 1\nsetting 0 1 1000\nsetting 1 1 3000\n\
     setting 0 2 100000000\nsetting 1 2 200000000\n\
     amount 1 0 4 0 50000\namount 1 0 5 0 100\n\
     mark 0 4 0\nmark 0 5 0\nmark 1 4 0\nmark 1 5 0\nrates 5000 10000\n";
+/// What is printed for them.
+const PRINTED: &str = "operator points out in adjustment\n\
+    0 5036 375000 607821 232821\n\
+    1 2464 1125000 892179 -232821\n\
+    all 7500 1500000 1500000 0\n";
 
 // Settled books.
 
@@ -77,6 +84,62 @@ fn points_at_d1_and_d2_by_hand() {
     assert_eq!(money.returns[..2], [607_821, 892_179]);
     assert_eq!(money.adjustments[..2], [232_821, -232_821]);
     assert_eq!(money.limits[..2], [1_000_000, 2_000_000]);
+}
+
+/// What is printed for `CALLS` and these calls.
+fn printed_after(calls: &[&str]) -> String {
+    let mut book = Book::fresh_in(Sector::Gas);
+    for call in CALLS.lines().chain(calls.iter().copied()) {
+        assert_eq!(script::answer(&mut book, call), Ok("yes".to_string()));
+    }
+    lines(&book, &settled(&book))
+}
+
+#[test]
+fn fees_of_a_year_without_connections_by_hand() {
+    // D1: s is 10 × 250 / 1 = 2500 and 5000; the weights are 700000 and 400000.
+    // 6000 × 7 / 11 = 3818.18, and 750 at D2. Returns by 1000 × 4568 and 3000 × 2932:
+    // 1500000 × 4568 / 13364 is 512720.74.
+    let printed = printed_after(&["amount 0 1 4 0 250"]);
+    let expected = "operator points out in adjustment\n\
+        0 4568 375000 512721 137721\n\
+        1 2932 1125000 987279 -137721\n\
+        all 7500 1500000 1500000 0\n";
+    assert_eq!(printed, expected);
+    // Counted as 0 the year would change nothing.
+    assert_eq!(printed_after(&[]), PRINTED);
+    assert_ne!(printed, PRINTED);
+}
+
+#[test]
+fn the_index_of_a_year_without_connections_by_hand() {
+    // D1: s is 10 × 250 × 10000 / (1 × 20000) = 1250 and 5000; the weights are 850000
+    // and 400000. 6000 × 85 / 125 = 4080, and 750 at D2. Returns by 1000 × 4830 and
+    // 3000 × 2670: 1500000 × 4830 / 12840 is 564252.34.
+    let expected = "operator points out in adjustment\n\
+        0 4830 375000 564252 189252\n\
+        1 2670 1125000 935748 -189252\n\
+        all 7500 1500000 1500000 0\n";
+    let printed = printed_after(&["amount 0 1 4 0 250", "index 1 20000"]);
+    assert_eq!(printed, expected);
+    // Counted as 0 the year would change nothing; with an index of 10000 it gives
+    // 137721, as above.
+    assert_ne!(printed, PRINTED);
+    assert_ne!(printed, printed_after(&["amount 0 1 4 0 250"]));
+}
+
+#[test]
+fn fees_of_a_year_without_reconnections_by_hand() {
+    // D2: s is 10 × 300 / 1 = 3000 and 0; the weights are 400000 and 1000000.
+    // 1500 × 4 / 14 = 428.57, and 4286 at D1. Returns by 1000 × 4715 and 3000 × 2785:
+    // 1500000 × 4715 / 13070 is 541124.71.
+    let printed = printed_after(&["amount 0 2 6 0 300"]);
+    let expected = "operator points out in adjustment\n\
+        0 4715 375000 541125 166125\n\
+        1 2785 1125000 958875 -166125\n\
+        all 7500 1500000 1500000 0\n";
+    assert_eq!(printed, expected);
+    assert_ne!(printed, PRINTED);
 }
 
 #[test]
@@ -226,10 +289,7 @@ fn filed(name: &str, calls: &str) -> String {
 #[test]
 fn gas_filing_is_printed_and_rewritten() {
     let file = filed("gas", CALLS);
-    let printed = "operator points out in adjustment\n\
-        0 5036 375000 607821 232821\n1 2464 1125000 892179 -232821\n\
-        all 7500 1500000 1500000 0\n";
-    assert_eq!(run(&["--gas", "program", &file], b""), done(printed));
+    assert_eq!(run(&["--gas", "program", &file], b""), done(PRINTED));
     let (_, written, _) = run(&["--gas", "rewrite", &file], b"");
     // The settings by operator.
     let (_, expected, _) = run(

@@ -12,6 +12,7 @@ use model::random::Random;
 use model::report::lines;
 use model::script;
 use model::settlement::{settle, Settlement};
+use model::writer::written;
 
 const MOST: u128 = 100_000_000_000;
 /// Access points, and the cabins of each year.
@@ -171,13 +172,17 @@ fn operator(cabins: u128, access_points: u128, income: u128) -> Operator {
     operator
 }
 
-/// Case M, made by filing calls.
-fn case_m() -> Book {
-    let mut book = Book::fresh();
-    for call in case_m::calls() {
+/// The book after these calls, which it takes.
+fn after(mut book: Book, calls: &[&str]) -> Book {
+    for call in calls {
         assert_eq!(script::answer(&mut book, call), Ok("yes".to_string()));
     }
     book
+}
+
+/// Case M, made by filing calls.
+fn case_m() -> Book {
+    after(Book::fresh(), &case_m::calls())
 }
 
 // The cases printed in 01.
@@ -641,6 +646,111 @@ fn indices_at_their_ends() {
     assert_eq!(settlement.money.adjustments, [0; 16]);
     // The indices of the other years don't matter to year 0.
     assert_eq!(indexed([10_000, 1, 100_000, 10_000]), of_m);
+}
+
+// Fees of years without connections. In case M operator 1 has the largest sum at D1, so
+// that more fees of its own would show nothing: operator 0 is charged.
+
+/// What is printed for case M after these calls.
+fn printed_after(calls: &[&str]) -> String {
+    let book = after(case_m(), calls);
+    lines(&book, &settled(&book))
+}
+
+/// The lines of case M if operator 0 has these points, this return and this
+/// adjustment; operator 1 has what is left.
+fn lines_with(points: u32, back: u32, adjustment: i32) -> String {
+    let (other_points, other_back) = (127_500 - points, 1_500_000 - back);
+    format!(
+        "operator points out in adjustment\n\
+         0 {points} 375000 {back} {adjustment}\n\
+         1 {other_points} 1125000 {other_back} {}\n\
+         all 127500 1500000 1500000 0\n",
+        -adjustment
+    )
+}
+
+#[test]
+fn fees_of_a_year_without_connections_by_hand() {
+    // D1: s is 10 × 250 / 1 = 2500 and 5000; the weights are 700000 and 400000.
+    // 6000 × 7 / 11 = 3818.18, in place of 4286: 65036 - 4286 + 3818 = 64568.
+    // Returns by 1000 × 64568 and 3000 × 62932: 1500000 × 64568 / 253364 is 382264.25.
+    let printed = printed_after(&["amount 0 1 4 0 250"]);
+    assert_eq!(printed, lines_with(64_568, 382_264, 7264));
+    // Counted as 0, such a year would leave the lines of M.
+    assert_eq!(case_m::PRINTED, lines_with(65_036, 386_463, 11_463));
+    assert_ne!(printed, case_m::PRINTED);
+    // A count of 1 settles alike, one of 2 does not.
+    let with_count = |call: &str| printed_after(&["amount 0 1 4 0 250", call]);
+    assert_eq!(with_count("amount 0 1 5 0 1"), printed);
+    assert_ne!(with_count("amount 0 1 5 0 2"), printed);
+    // Withdrawn again it is 0.
+    let withdrawn = ["amount 0 1 5 0 2", "amount 0 1 4 0 250", "amount 0 1 5 1 2"];
+    assert_eq!(printed_after(&withdrawn), printed);
+}
+
+#[test]
+fn the_index_of_a_year_without_connections_by_hand() {
+    // D1: s is 10 × 250 × 10000 / (1 × 20000) = 1250 and 5000; the weights are 850000
+    // and 400000. 6000 × 85 / 125 = 4080: 65036 - 4286 + 4080 = 64830.
+    // Returns by 1000 × 64830 and 3000 × 62670: 1500000 × 64830 / 252840 is 384610.82.
+    let printed = printed_after(&["amount 0 1 4 0 250", "index 1 20000"]);
+    assert_eq!(printed, lines_with(64_830, 384_611, 9611));
+    // Counted as 0 the year would leave the lines of M; with an index of 10000 it gives
+    // 7264, as above.
+    assert_ne!(printed, case_m::PRINTED);
+    assert_ne!(printed, printed_after(&["amount 0 1 4 0 250"]));
+    // Divided by 1 alone s would be 10 × 250 × 10000, which 20000 times the fees give:
+    // the weights 400000 and 999880, 1714 points at D1.
+    let undivided = printed_after(&["amount 0 1 4 0 5000000", "index 1 20000"]);
+    assert_eq!(undivided, lines_with(62_464, 363_766, -11_234));
+    // Year 2 has no fees, and June 2013 doubles both sums.
+    for call in ["index 2 1", "index 3 20000"] {
+        let calls = ["amount 0 1 4 0 250", "index 1 20000", call];
+        assert_eq!(printed_after(&calls), printed);
+    }
+}
+
+#[test]
+fn fees_of_a_year_without_reconnections_by_hand() {
+    // D2: s is 10 × 300 / 1 = 3000 and 0; the weights are 400000 and 1000000.
+    // 1500 × 4 / 14 = 428.57, in place of 750: 65036 - 750 + 429 = 64715.
+    // Returns by 1000 × 64715 and 3000 × 62785: 1500000 × 64715 / 253070 is 383579.64.
+    let printed = printed_after(&["amount 0 2 6 0 300"]);
+    assert_eq!(printed, lines_with(64_715, 383_580, 8580));
+    assert_ne!(printed, case_m::PRINTED);
+    // Connections are not reconnections.
+    let calls = ["amount 0 2 6 0 300", "amount 0 2 5 0 7"];
+    assert_eq!(printed_after(&calls), printed);
+    // At D2 nobody else has fees: any fees and any index give the same weights.
+    let calls = ["amount 0 2 6 0 1", "index 2 20000"];
+    assert_eq!(printed_after(&calls), printed);
+}
+
+#[test]
+fn the_book_keeps_its_count_of_0() {
+    let mut book = after(case_m(), &["amount 0 1 4 0 250"]);
+    let with_one = after(book.clone(), &["amount 0 1 5 0 1"]);
+    assert_eq!(settled(&with_one), settled(&book));
+    assert_eq!(book.operators[0].figures[1][5], 0);
+    assert_ne!(written(&with_one), written(&book));
+    // There is nothing to withdraw.
+    assert_eq!(calls::amount(&mut book, 0, 1, 5, 1, 1), Answer::Refused(9));
+}
+
+#[test]
+fn seconds_without_weight_move_nothing() {
+    // A2 and A4: taken as 1, a weight of 0 would give s of 1000 × 5000000.
+    for call in ["amount 0 0 1 0 5000000", "amount 0 2 3 0 5000000"] {
+        assert_eq!(printed_after(&[call]), case_m::PRINTED);
+        assert_eq!(
+            printed_after(&[call, "index 0 20000", "index 3 20000"]),
+            case_m::PRINTED
+        );
+    }
+    // With a weight of 1 at LV, which A3 weighs too.
+    let calls = ["amount 0 2 3 0 5000000", "amount 0 2 2 0 1"];
+    assert_ne!(printed_after(&calls), case_m::PRINTED);
 }
 
 // Money.
