@@ -6,6 +6,7 @@ mod cabins;
 mod counts;
 mod damage;
 mod draft;
+mod fees;
 mod gas;
 mod plan;
 mod refused;

@@ -16,6 +16,8 @@ pub struct Plan {
     filled: u64,
     /// Whether the MV weights are suited to the cabins.
     suited_weights: bool,
+    /// Whether the fees are suited to the connections, of which some years have none.
+    suited_fees: bool,
     /// How many of a hundred operators have cabins of year 0 alone, as all had before
     /// there was a setting for each year.
     pub later_cabins_missing: u64,
@@ -29,6 +31,8 @@ pub struct Plan {
     set_again: u64,
     interruptions: u64,
     withdrawals: u64,
+    /// How many times the connections of a year with fees are withdrawn.
+    connections_withdrawn: u64,
     /// How many steps move a count.
     counts: u64,
     pub corrections: u64,
@@ -80,7 +84,11 @@ fn sets_later_cabins(field: &Field) -> bool {
 impl Draft {
     /// A filing of a kind that settles; now and then one that just doesn't.
     pub fn sound(&mut self, kind: Kind) {
-        let plan = self.plan(kind);
+        let mut plan = self.plan(kind);
+        // Drawn here, because the fees show only where a book settles. Wide values and
+        // those at the ends stay what they are.
+        plan.suited_fees = !matches!(kind, Kind::Wide | Kind::Ends) && self.random.one_in(3);
+        plan.connections_withdrawn = self.random.pick(&[0, 0, 2]);
         self.make(&plan);
         // With all of them kept nothing would settle.
         if kind == Kind::NearlyAllMarked {
@@ -111,6 +119,7 @@ impl Draft {
             figures: Style::Digits,
             filled: self.random.pick(&[10, 50, 80, 100]),
             suited_weights: self.random.one_in(3),
+            suited_fees: false,
             later_cabins_missing: 0,
             patterns: 0,
             marked: 0,
@@ -118,6 +127,7 @@ impl Draft {
             set_again: self.random.pick(&[0, 0, 0, 2]),
             interruptions: 0,
             withdrawals: self.random.pick(&[0, 0, 2]),
+            connections_withdrawn: 0,
             counts: self.random.pick(&[0, 0, 2]),
             corrections: self.random.pick(&[0, 0, 3]),
         };
@@ -221,6 +231,7 @@ impl Draft {
         self.repeat(plan.interruptions, Draft::file_any_interruption);
         self.repeat(plan.counts, Draft::move_count);
         self.repeat(plan.withdrawals, Draft::withdrawal);
+        self.repeat(plan.connections_withdrawn, Draft::withdraw_connections);
         self.repeat(plan.corrections, Draft::file_correction);
         self.repeat(plan.set_again, Draft::set_mark_again);
         if plan.figures == Style::Ends && self.random.one_in(3) {
@@ -287,6 +298,9 @@ impl Draft {
         }
         if plan.suited_weights {
             self.suit_weights(&mut values);
+        }
+        if plan.suited_fees {
+            self.suit_fees(&mut values);
         }
         values
     }

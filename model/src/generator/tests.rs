@@ -3,6 +3,7 @@
 mod asked;
 mod cabins;
 mod counts;
+mod fees;
 mod gas;
 mod marks;
 
@@ -10,12 +11,51 @@ use super::draft::MOST;
 use super::*;
 use crate::book::Book;
 use crate::calls::{Answer, Interruption, Reason, YEAR_SECONDS};
-use crate::filing::{apply, encode, field_at, read, Field};
+use crate::filing::{after_field, apply, encode, field_at, read, Field};
 use crate::indicators::{better, indicators, unmarked, value_sums, Kind as IndicatorKind};
 use crate::money::{cut, Money};
 use crate::program::printed_in;
 use crate::settlement::{settle, Settlement};
 use std::collections::{BTreeMap, BTreeSet};
+
+/// How often something is shown.
+type Counts = BTreeMap<String, u32>;
+
+/// How often each of these occurs.
+fn counted(shown: impl Iterator<Item = String>) -> Counts {
+    let mut counts = Counts::new();
+    for what in shown {
+        *counts.entry(what).or_default() += 1;
+    }
+    counts
+}
+
+/// Each of these is shown at least so often.
+fn are_shown(counts: &Counts, expected: &[(&str, u32)]) {
+    let rare: Vec<_> = expected
+        .iter()
+        .filter(|(what, least)| counts.get(*what).is_none_or(|count| count < least))
+        .collect();
+    assert!(rare.is_empty(), "{rare:?} in {counts:#?}");
+}
+
+/// The book of a filing, if it is read whole.
+fn book_of(sector: Sector, filing: &[u8]) -> Option<Book> {
+    let mut book = Book::fresh_in(sector);
+    let reading = read(&mut book, filing);
+    reading.refusal.is_none().then_some(book)
+}
+
+/// The fields of a filing that is read whole.
+fn fields_of(sector: Sector, filing: &[u8]) -> Vec<Field> {
+    let mut fields = Vec::new();
+    let mut offset = 0;
+    while offset < filing.len() {
+        fields.push(field_at(sector, filing, offset).unwrap());
+        offset = after_field(filing, offset);
+    }
+    fields
+}
 
 /// The text once for each number, which stands for `#`.
 fn numbered(text: &str, numbers: impl IntoIterator<Item = u32>) -> Vec<String> {

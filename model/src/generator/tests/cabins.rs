@@ -1,23 +1,14 @@
 //! The cabins of the generated filings: networks of every sort, each setting missing
 //! alone, settings at their limits; and that mistakes about the cabins would show.
 
+use super::{are_shown, book_of, counted, fields_of};
 use crate::book::{Book, Operator};
 use crate::calls::Answer;
-use crate::filing::{after_field, apply, field_at, read, Field};
+use crate::filing::{after_field, apply, field_at, Field};
 use crate::generator::{filing, kind, Kind};
 use crate::sector::Sector;
 use crate::settlement::{refusal, settle};
-use std::collections::{BTreeMap, BTreeSet};
-
-/// In how many filings something is shown.
-type Counts = BTreeMap<String, u32>;
-
-/// The book of a filing, if it is read whole.
-fn book_of(filing: &[u8]) -> Option<Book> {
-    let mut book = Book::fresh();
-    let reading = read(&mut book, filing);
-    reading.refusal.is_none().then_some(book)
-}
+use std::collections::BTreeSet;
 
 /// The first filings of one kind.
 fn filings_of(wanted: Kind, count: usize) -> Vec<Vec<u8>> {
@@ -26,24 +17,6 @@ fn filings_of(wanted: Kind, count: usize) -> Vec<Vec<u8>> {
         .map(|number| filing(1, number))
         .take(count)
         .collect()
-}
-
-/// Counts what each filing shows.
-fn counted(shown: impl Iterator<Item = BTreeSet<String>>) -> Counts {
-    let mut counts = Counts::new();
-    for what in shown.flatten() {
-        *counts.entry(what).or_default() += 1;
-    }
-    counts
-}
-
-/// Each of these is shown at least so often.
-fn are_shown(counts: &Counts, expected: &[(&str, u32)]) {
-    let rare: Vec<_> = expected
-        .iter()
-        .filter(|(what, least)| counts.get(*what).is_none_or(|count| count < least))
-        .collect();
-    assert!(rare.is_empty(), "{rare:?} in {counts:#?}");
 }
 
 fn joined(book: &Book) -> impl Iterator<Item = &Operator> {
@@ -140,7 +113,7 @@ fn mistakes_in_a1(book: &Book) -> Vec<&'static str> {
 
 /// What a filing shows that settles.
 fn settled_shown(filing: &[u8]) -> BTreeSet<String> {
-    let settled = book_of(filing).filter(|book| refusal(book).is_none());
+    let settled = book_of(Sector::Electricity, filing).filter(|book| refusal(book).is_none());
     let Some(book) = settled else {
         return BTreeSet::new();
     };
@@ -153,7 +126,7 @@ fn settled_shown(filing: &[u8]) -> BTreeSet<String> {
 
 #[test]
 fn networks_occur_and_mistakes_in_a1_show() {
-    let counts = counted((0..600).map(|number| settled_shown(&filing(1, number))));
+    let counts = counted((0..600).flat_map(|number| settled_shown(&filing(1, number))));
     let expected = [
         ("equal", 200),
         ("growing", 200),
@@ -186,22 +159,15 @@ fn missing(operator: &Operator) -> Vec<usize> {
 
 /// Whether a filing never sets the cabins of year 1 or 2.
 fn is_of_the_old_kind(filing: &[u8]) -> bool {
-    let mut offset = 0;
-    while offset < filing.len() {
-        if let Ok(Field::Setting { which: 3 | 4, .. }) =
-            field_at(Sector::Electricity, filing, offset)
-        {
-            return false;
-        }
-        offset = after_field(filing, offset);
-    }
-    true
+    let sets_later_cabins = |field: &Field| matches!(field, Field::Setting { which: 3 | 4, .. });
+    let fields = fields_of(Sector::Electricity, filing);
+    !fields.iter().any(sets_later_cabins)
 }
 
 /// What a filing shows that is refused by 11, among it the mistakes that would
 /// settle it or refuse it by another number.
 fn refused_by_11_shown(filing: &[u8]) -> BTreeSet<String> {
-    let refused = book_of(filing).filter(|book| refusal(book) == Some(11));
+    let refused = book_of(Sector::Electricity, filing).filter(|book| refusal(book) == Some(11));
     let Some(book) = refused else {
         return BTreeSet::new();
     };
@@ -243,7 +209,10 @@ fn missing_alone_shown(operator: &Operator) -> Vec<String> {
 #[test]
 fn each_setting_is_missing_alone_and_mistakes_in_11_show() {
     let filings = filings_of(Kind::WithoutSize, 160);
-    let counts = counted(filings.iter().map(|filing| refused_by_11_shown(filing)));
+    let shown = filings
+        .iter()
+        .flat_map(|filing| refused_by_11_shown(filing));
+    let counts = counted(shown);
     let expected = [
         ("0 missing alone", 10),
         ("1 missing alone", 10),
@@ -290,7 +259,7 @@ fn settings_shown(filing: &[u8]) -> BTreeSet<String> {
 #[test]
 fn settings_at_their_limits() {
     let filings = filings_of(Kind::RefusedSetting, 160);
-    let counts = counted(filings.iter().map(|filing| settings_shown(filing)));
+    let counts = counted(filings.iter().flat_map(|filing| settings_shown(filing)));
     let cabins = |which: u8| {
         [
             "is 100000 taken",

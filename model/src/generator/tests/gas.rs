@@ -1,13 +1,12 @@
 //! The gas filings: all that gas has, each thing refused that only electricity has,
 //! and what the programs of both make of the filings of the other.
 
-use super::{numbered, outcome, Notes};
+use super::{counted, numbered, outcome, Counts, Notes};
 use crate::book::{Book, SETTINGS};
 use crate::calls::Answer;
 use crate::filing::{after_field, apply, field_at, read, Field};
 use crate::generator::{filing, filing_in, kind, kind_in, Kind};
 use crate::sector::Sector;
-use std::collections::BTreeMap;
 
 /// The filings of a kind among the first ones made for gas, with their numbers.
 fn filings_of(wanted: Kind, most: u64) -> impl Iterator<Item = (u64, Vec<u8>)> {
@@ -16,17 +15,8 @@ fn filings_of(wanted: Kind, most: u64) -> impl Iterator<Item = (u64, Vec<u8>)> {
         .map(|number| (number, filing_in(Sector::Gas, 1, number)))
 }
 
-/// How often each of these occurs.
-fn counted(shown: impl Iterator<Item = String>) -> BTreeMap<String, u32> {
-    let mut counts = BTreeMap::new();
-    for what in shown {
-        *counts.entry(what).or_default() += 1;
-    }
-    counts
-}
-
 /// Each of these occurs at least so often.
-fn occur(counts: &BTreeMap<String, u32>, expected: &[String], least: u32) {
+fn occur(counts: &Counts, expected: &[String], least: u32) {
     let rare: Vec<&String> = expected
         .iter()
         .filter(|what| counts.get(*what).is_none_or(|&count| count < least))

@@ -1,8 +1,9 @@
 //! The marks of the generated filings: cleared, kept and set again, by one
 //! operator or by all.
 
+use super::{book_of, fields_of};
 use crate::book::{Book, Operator};
-use crate::filing::{after_field, field_at, read, Field};
+use crate::filing::{read, Field};
 use crate::generator::{filing, kind, Kind};
 use crate::sector::Sector;
 use crate::settlement::refusal;
@@ -13,20 +14,16 @@ type MarkPlace = (u8, u8);
 
 /// The marks in a filing that is read whole, with their places.
 fn marks_filed(filing: &[u8]) -> Vec<(MarkPlace, u8)> {
-    let mut marks = Vec::new();
-    let mut offset = 0;
-    while offset < filing.len() {
-        if let Ok(Field::Mark {
+    let mark_of = |field: Field| match field {
+        Field::Mark {
             operator,
             indicator,
             mark,
-        }) = field_at(Sector::Electricity, filing, offset)
-        {
-            marks.push(((operator, indicator), mark));
-        }
-        offset = after_field(filing, offset);
-    }
-    marks
+        } => Some(((operator, indicator), mark)),
+        _ => None,
+    };
+    let fields = fields_of(Sector::Electricity, filing);
+    fields.into_iter().filter_map(mark_of).collect()
 }
 
 /// The places of the marks that are set after they were cleared.
@@ -46,10 +43,9 @@ fn places_set_again(filed: &[(MarkPlace, u8)]) -> BTreeSet<MarkPlace> {
 /// What the marks of a filing come to, if it is read whole and settles or is
 /// refused by 12.
 fn marks_shown(filing: &[u8]) -> Vec<&'static str> {
-    let mut book = Book::fresh();
-    if read(&mut book, filing).refusal.is_some() {
+    let Some(book) = book_of(Sector::Electricity, filing) else {
         return Vec::new();
-    }
+    };
     let filed = marks_filed(filing);
     let cases = match refusal(&book) {
         None => settled_cases(&book, &filed),
