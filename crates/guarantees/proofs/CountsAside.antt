@@ -13,7 +13,7 @@ use Rattle.calls.specs.Answers.{onAnswer, firstOf}
 use Rattle.book.specs.declared.Book.{Book}
 use Rattle.book.specs.Book.{withFigures, isJoined, isMarked, settingOf, figureOf, indexOf, inRange}
 use Rattle.calls.specs.Indicators.{Measure, frequency, duration, fee, Indicator, electricity, takesMark}
-use Rattle.values.specs.Indicator.{numberedIn, yearlyValue, threeYears, reliableMask, scores, pool}
+use Rattle.values.specs.Indicator.{numberedIn, feeDivisor, yearlyValue, threeYears, reliableMask, scores, pool}
 use Rattle.values.proofs.Tables.{each-same}
 use Rattle.apportion.specs.Share.{share}
 use Rattle.indicators.specs.Points.{points, allPoints, poolNumbered, pointsNumbered, poolsOfAll, rows, pointsOfAll}
@@ -42,7 +42,7 @@ module _ (b : Book) (figures : List ℕ) (same : SameMeasures b (withFigures b f
 
   value-same : (measure : Measure) → Measured measure → (operator year : ℕ) → operator < operators → year < years
       → yearlyValue c measure operator year ≡ yearlyValue b measure operator year
-  unfolding yearlyValue settingOf indexOf
+  unfolding yearlyValue feeDivisor settingOf indexOf
   value-same (frequency figure which) below operator year lo ly = rw (same operator year figure lo ly below) refl
   value-same (duration seconds weight) below operator year lo ly = rw (same operator year seconds lo ly (below .0), same operator year weight lo ly (below .1)) refl
   value-same (fee fees connections) below operator year lo ly = rw (same operator year fees lo ly (below .0), same operator year connections lo ly (below .1)) refl

@@ -28,9 +28,10 @@ use Rattle.indicators.specs.Points.{exponentWeight, isBetter, isLevelled
 use Rattle.indicators.specs.Laws.{PointsMadeUp}
 use Rattle.values.proofs.InRange.{mark-set-small}
 use Rattle.values.proofs.Tables.{sum-none}
+use Rattle.values.proofs.Scores.{over-some}
 use Rattle.values.proofs.CountLaws.{count-positive, count-mono, some-passes}
 use Rattle.indicators.proofs.OnesLaws.{ones-counted, complement}
-use Rattle.indicators.proofs.WeightLaws.{together, over-most, over-some, one-better, better-reliable, weights-length, weight-reliable, weight-none, weight-better}
+use Rattle.indicators.proofs.WeightLaws.{together, over-most, one-better, better-reliable, weights-length, weight-reliable, weight-none, weight-better}
 
 module _ (b : Book) (indicator : Indicator) where
   -- who takes part has joined

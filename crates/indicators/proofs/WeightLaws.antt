@@ -1,6 +1,6 @@
 -- The weights of an indicator: above 0 for whoever takes part, and small enough to add up in 64 bits.
 -- Assumes nothing.
-use Prim.Native.Nat.{ℕ, _-_, _*_, _/_, _≤_, _<_, zero-le}
+use Prim.Native.Nat.{ℕ, _-_, _*_, _≤_, _<_, zero-le}
 use mathlib.Core.Path.{_≡_, refl, _∙_}
 use mathlib.Core.Bool.{Bool, true, false, cond}
 use mathlib.Core.List.{List}
@@ -35,10 +35,6 @@ linearWeight scores operator = 1000000 - 6 * normalised 100000 scores operator
 pub over-most : (dividend divisor most : ℕ) → dividend ≤ divisor * most → over dividend divisor ≤ most
 unfolding over
 over-most dividend divisor most le = cond-le (eqb divisor 0) (omega arith) (div-le-of-le-mul divisor le)
-
-pub over-some : (dividend divisor : ℕ) → 0 < divisor → over dividend divisor ≡ dividend / divisor
-unfolding over
-over-some dividend divisor pos = rw (ne-eqb divisor 0 (λ e. omega (arith, e, pos))) refl
 
 module _ (list : List ℕ) (operator : ℕ) where
   pub normalised-most : (parts : ℕ) → normalised parts list operator ≤ parts

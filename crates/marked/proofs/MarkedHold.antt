@@ -7,9 +7,9 @@ use native.Mathlib.Omega.{arith}
 use lib.IntN.{ℤ, pos, negℤ}
 use lib.ListN.{length, take, getD}
 use Rattle.calls.specs.Limits.{years}
-use Rattle.calls.specs.Indicators.{Indicator, electricity, gas}
+use Rattle.calls.specs.Indicators.{Measure, Indicator, electricity, gas}
 use Rattle.values.specs.Operators.{table}
-use Rattle.values.specs.Indicator.{yearlyValue, numbered}
+use Rattle.values.specs.Indicator.{yearlyValue, numbered, numberedIn}
 use Rattle.calls.specs.Answers.{Said, refused-by, accepted, Acceptance, yes-said, onAnswer}
 use Rattle.book.specs.declared.Book.{Book}
 use Rattle.book.specs.Book.{freshBook, figureOf}
@@ -27,7 +27,7 @@ use Rattle.calls.specs.declared.Call.{Call}
 use Rattle.calls.specs.declared.Call.the-variants.{Join, Setting, Amount, Mark}
 use Rattle.writer.specs.Writer.{writerAnswer}
 use Rattle.writer.proofs.Opened.{writer-opened}
-use Rattle.marked.specs.Marked.{lasting, gasSaidTo, gasCases, gasSettled, caseM, filingM, linesM, newcomer, sixMarks, losing, growing, frequenciesOf, refusedFilings, marked, All}
+use Rattle.marked.specs.Marked.{lasting, gasSaidTo, gasCases, gasSettled, caseM, filingM, linesM, newcomer, sixMarks, losing, growing, frequenciesOf, feesAlone, feesOf, twoAdjusted, refusedFilings, marked, All}
 use Rattle.marked.proofs.AppliedLaws.{appliedFrom, answersFrom, book-of, answers-of}
 
 -- what a call is answered after operator 0 has joined
@@ -80,20 +80,28 @@ output-m : outputOf filingM ≡ linesM
 unfolding outputAs printedAs readingText settlementTextAs onAnswer
 output-m = rw (read-m, settles-m) printed-m
 
--- M with cap rate 50, and the two networks: what two operators are adjusted by
+-- M with cap rate 50, the two networks, and fees in a year without connections: what two operators are adjusted by
 abbrev adjusted : Book → List ℤ
 adjusted b = take 2 (settled b .settlement .adjustments)
 
-adjusted-after : {amounts : List ℤ} (calls : List Call) → adjusted (appliedFrom electricity freshBook calls) ≡ amounts → adjusted (bookOf electricity calls) ≡ amounts
+adjusted-after : {amounts : List ℤ} (calls : List Call) → adjusted (appliedFrom electricity freshBook calls) ≡ amounts → twoAdjusted calls ≡ amounts
 adjusted-after calls same = ap adjusted (book-of electricity calls) ∙ same
 
-cut-m : adjusted (bookOf electricity (caseM 50)) ≡ pos 5000 ∷ negℤ (pos 5000) ∷ []
+cut-m : twoAdjusted (caseM 50) ≡ pos 5000 ∷ negℤ (pos 5000) ∷ []
 unfolding output-opened appliedFrom
 cut-m = adjusted-after (caseM 50) refl
 
-adjusted-grown : adjusted (bookOf electricity growing) ≡ negℤ (pos 70762) ∷ pos 70762 ∷ []
+adjusted-grown : twoAdjusted growing ≡ negℤ (pos 70762) ∷ pos 70762 ∷ []
 unfolding output-opened appliedFrom
 adjusted-grown = adjusted-after growing refl
+
+adjusted-fees : twoAdjusted (feesAlone 10000) ≡ pos 10015 ∷ negℤ (pos 10015) ∷ []
+unfolding output-opened appliedFrom
+adjusted-fees = adjusted-after (feesAlone 10000) refl
+
+adjusted-fees-indexed : twoAdjusted (feesAlone 12500) ≡ pos 10329 ∷ negℤ (pos 10329) ∷ []
+unfolding output-opened appliedFrom
+adjusted-fees-indexed = adjusted-after (feesAlone 12500) refl
 
 -- what settling says of the book that calls leave
 said-after : {answer : Said Acceptance} (calls : List Call) → settled (appliedFrom electricity freshBook calls) .said ≡ answer → settled (bookOf electricity calls) .said ≡ answer
@@ -128,6 +136,27 @@ grown-applied = (refl, refl)
 
 grown : (operator : ℕ) → frequenciesOf operator ≡ table years (yearlyValue (appliedFrom electricity freshBook growing) (numbered 0 .measure) operator)
 grown operator = ap (λ (b : Book). table years (yearlyValue b (numbered 0 .measure) operator)) (book-of electricity growing)
+
+-- D1 in a year without connections, with two indices
+fees-applied : (table years (yearlyValue (appliedFrom electricity freshBook (feesAlone 10000)) (numbered 4 .measure) 0) ≡ 0 ∷ 1000 ∷ 0 ∷ [])
+    × (table years (yearlyValue (appliedFrom electricity freshBook (feesAlone 12500)) (numbered 4 .measure) 0) ≡ 0 ∷ 800 ∷ 0 ∷ [])
+unfolding output-opened appliedFrom
+fees-applied = (refl, refl)
+
+fees-by-year : (index : ℕ) → feesOf index ≡ table years (yearlyValue (appliedFrom electricity freshBook (feesAlone index)) (numbered 4 .measure) 0)
+fees-by-year index = ap (λ (b : Book). table years (yearlyValue b (numbered 4 .measure) 0)) (book-of electricity (feesAlone index))
+
+-- the value of year 0 after operator 0 has joined and filed one amount
+value-after : {value : ℕ} (kind : List Indicator) (measure : Measure) (figure amount : ℕ)
+    → yearlyValue (appliedFrom kind freshBook (Join 0 ∷ Amount 0 0 figure 0 amount ∷ [])) measure 0 0 ≡ value
+    → yearlyValue (bookOf kind (Join 0 ∷ Amount 0 0 figure 0 amount ∷ [])) measure 0 0 ≡ value
+value-after kind measure figure amount same = ap (λ (b : Book). yearlyValue b measure 0 0) (book-of kind (Join 0 ∷ Amount 0 0 figure 0 amount ∷ [])) ∙ same
+
+-- seconds without weight
+undivided : (yearlyValue (bookOf electricity (Join 0 ∷ Amount 0 0 1 0 5000 ∷ [])) (numbered 1 .measure) 0 0 ≡ 0)
+    × (yearlyValue (bookOf electricity (Join 0 ∷ Amount 0 0 3 0 5000 ∷ [])) (numbered 3 .measure) 0 0 ≡ 0)
+unfolding output-opened appliedFrom
+undivided = (value-after electricity (numbered 1 .measure) 1 5000 refl, value-after electricity (numbered 3 .measure) 3 5000 refl)
 
 -- a join needs four bytes
 join-too-long : writerAnswer (bookOf electricity (Join 0 ∷ [])) (0 ∷ 0 ∷ 0 ∷ []) ≡ refused-by 13
@@ -164,7 +193,7 @@ gas-barred = (
 gas-holds : All gasCases
 unfolding output-opened appliedFrom answersFrom
 gas-holds =
-    (refused-example gas (3 ∷ 0 ∷ 0 ∷ []) 2 _ (omega arith) refl refl, (answered gas (lasting 0 181) refl, (gas-barred .0, (gas-barred .1 .0, (gas-barred .1 .1, (answered gas (Amount 16 0 0 0 0) refl, (answered gas (Amount 1 0 0 0 0) refl, (answered gas (Amount 1 0 4 0 0) refl, (refl, (gas-said [] refl, (gas-said (Setting 0 1 1 ∷ []) refl, (gas-said (Setting 0 1 1 ∷ Mark 0 4 0 ∷ []) refl, (gas-pools, tt)))))))))))))
+    (refused-example gas (3 ∷ 0 ∷ 0 ∷ []) 2 _ (omega arith) refl refl, (answered gas (lasting 0 181) refl, (gas-barred .0, (gas-barred .1 .0, (gas-barred .1 .1, (answered gas (Amount 16 0 0 0 0) refl, (answered gas (Amount 1 0 0 0 0) refl, (answered gas (Amount 1 0 4 0 0) refl, (refl, (gas-said [] refl, (gas-said (Setting 0 1 1 ∷ []) refl, (gas-said (Setting 0 1 1 ∷ Mark 0 4 0 ∷ []) refl, (value-after gas (numberedIn gas 5 .measure) 6 5 refl, (gas-pools, tt))))))))))))))
 
 -- a figure of exactly 10^11
 figure-taken : figureOf (bookOf electricity (Join 0 ∷ Amount 0 0 4 0 100000000000 ∷ [])) 0 0 4 ≡ 100000000000
@@ -174,4 +203,4 @@ figure-taken = ap (λ (b : Book). figureOf b 0 0 4) (book-of electricity (Join 0
 pub all-hold : All marked
 unfolding output-opened answersFrom
 all-hold =
-    (refl, (refl, (refl, (answered electricity (lasting 0 180) refl, (answered electricity (lasting 0 181) refl, (answered electricity (lasting 31535000 31535999) refl, (answered electricity (lasting 31535000 31536000) refl, (answered electricity (lasting 94607000 94608000) refl, (answered electricity (Amount 0 0 4 0 100000000000) refl, (figure-taken, (output-m, (cut-m, (filings-refused, (answered electricity (Amount 0 0 4 0 100000000001) refl, (answered electricity (Amount 0 0 4 1 1) refl, (refl, (joined-only, (marked-six, (joined-new, (cleared-one, (lost, (grown 0 ∙ grown-applied .0, (grown 1 ∙ grown-applied .1, (adjusted-grown, (join-too-long, (refl, (refl, (refl, (gas-holds, tt)))))))))))))))))))))))))))))
+    (refl, (refl, (refl, (answered electricity (lasting 0 180) refl, (answered electricity (lasting 0 181) refl, (answered electricity (lasting 31535000 31535999) refl, (answered electricity (lasting 31535000 31536000) refl, (answered electricity (lasting 94607000 94608000) refl, (answered electricity (Amount 0 0 4 0 100000000000) refl, (figure-taken, (output-m, (cut-m, (filings-refused, (answered electricity (Amount 0 0 4 0 100000000001) refl, (answered electricity (Amount 0 0 4 1 1) refl, (refl, (joined-only, (marked-six, (joined-new, (cleared-one, (lost, (grown 0 ∙ grown-applied .0, (grown 1 ∙ grown-applied .1, (adjusted-grown, (fees-by-year 10000 ∙ fees-applied .0, (fees-by-year 12500 ∙ fees-applied .1, (adjusted-fees, (adjusted-fees-indexed, (undivided .0, (undivided .1, (join-too-long, (refl, (refl, (refl, (gas-holds, tt)))))))))))))))))))))))))))))))))))

@@ -2,15 +2,15 @@
 -- covers the list: `all-hold` of proofs/MarkedHold.antt.
 -- Assumes nothing.
 use mathlib.Core.Path.{_≡_}
-use mathlib.Core.List.{List, [], _∷_, map}
+use mathlib.Core.List.{List, [], _∷_, _++_, map}
 use Prim.Native.Nat.{ℕ}
 use lib.Dec.{ltb}
-use lib.IntN.{pos, negℤ}
+use lib.IntN.{ℤ, pos, negℤ}
 use lib.ListN.{getD, take}
 use Rattle.apportion.specs.Share.{share}
 use Rattle.exponent.specs.Weight.{weightOf}
 use Rattle.calls.specs.declared.Call.{Call}
-use Rattle.calls.specs.declared.Call.the-variants.{Join, Setting, Interruption, Amount, Mark, Rates}
+use Rattle.calls.specs.declared.Call.the-variants.{Join, Setting, Interruption, Amount, Mark, Rates, Index}
 use Rattle.calls.specs.Limits.{years}
 use Rattle.calls.specs.Indicators.{electricity, gas}
 use Rattle.calls.specs.Answers.{Said, refused-by, accepted, Acceptance, yes-said, counted-in, left-out-as-short}
@@ -18,7 +18,7 @@ use Rattle.book.specs.Book.{freshBook, figureOf}
 use Rattle.ledger.specs.Calls.{filedAnswers, fileGas}
 use Rattle.history.specs.Demand.{bookOf}
 use Rattle.values.specs.Operators.{table, each}
-use Rattle.values.specs.Indicator.{yearlyValue, numbered}
+use Rattle.values.specs.Indicator.{yearlyValue, numbered, numberedIn}
 use Rattle.indicators.specs.Points.{levelled}
 use Rattle.indicators.specs.Sequence.{thousandths, exponentWeights, levelledWeights}
 use Rattle.settlement.specs.Settlement.{settled, settledGas}
@@ -88,6 +88,18 @@ growing =
 abbrev pub frequenciesOf : ℕ → List ℕ
 frequenciesOf operator = table years (yearlyValue (bookOf electricity growing) (numbered 0 .measure) operator)
 
+-- M, and operator 0 pays fees in year 1, in which it makes no connection; with an index of that year
+abbrev pub feesAlone : ℕ → List Call
+feesAlone index = caseM 10000 ++ (Amount 0 1 4 0 100 ∷ Index 1 index ∷ [])
+
+-- D1 of operator 0, by year
+abbrev pub feesOf : ℕ → List ℕ
+feesOf index = table years (yearlyValue (bookOf electricity (feesAlone index)) (numbered 4 .measure) 0)
+
+-- what the first two operators are adjusted by
+abbrev pub twoAdjusted : List Call → List ℤ
+twoAdjusted calls = take 2 (settled (bookOf electricity calls) .settlement .adjustments)
+
 -- what a gas call is answered after operator 0 has joined a fresh book of gas
 abbrev pub gasSaidTo : Call → Said Acceptance
 gasSaidTo call = getD (filedAnswers gas freshBook (Join 0 ∷ call ∷ [])) 1 (refused-by 0)
@@ -126,6 +138,8 @@ gasCases =
     -- points, with D1 cleared
     ∷ (gasSettled [] ≡ refused-by 11) ∷ (gasSettled (Setting 0 1 1 ∷ []) ≡ refused-by 12)
     ∷ (gasSettled (Setting 0 1 1 ∷ Mark 0 4 0 ∷ []) ≡ accepted yes-said)
+    -- D2 in a year without reconnections (02, point 6)
+    ∷ (yearlyValue (bookOf gas (Join 0 ∷ Amount 0 0 6 0 5 ∷ [])) (numberedIn gas 5 .measure) 0 0 ≡ 50)
     -- its pool, 300 times 20 points, stands at D1's number
     ∷ (settledGas (bookOf gas (Join 0 ∷ Setting 0 1 1 ∷ Mark 0 4 0 ∷ [])) .settlement .pools ≡ 0 ∷ 0 ∷ 0 ∷ 0 ∷ 6000 ∷ 0 ∷ []) ∷ []
 
@@ -151,7 +165,7 @@ marked =
     -- "The program .. prints this for marked case M"
     ∷ (outputOf filingM ≡ linesM)
     -- "M with cap rate 50 adjusts by 5000 and -5000"
-    ∷ (take 2 (settled (bookOf electricity (caseM 50)) .settlement .adjustments) ≡ pos 5000 ∷ negℤ (pos 5000) ∷ [])
+    ∷ (twoAdjusted (caseM 50) ≡ pos 5000 ∷ negℤ (pos 5000) ∷ [])
     -- filings that are refused at a field
     ∷ All refusedFilings
     -- "amount 10^11 + 1", "withdraw 1 from 0"
@@ -166,7 +180,13 @@ marked =
     ∷ All (map (λ (which : ℕ). settled (bookOf electricity (losing which)) .said ≡ refused-by 11) (0 ∷ 3 ∷ 4 ∷ 1 ∷ []))
     -- "A1 divides by the year's own" (02, point 3): a million times 5 / 100, 9 / 200, 40 / 400, and 17 / 400, 8 / 200, 6 / 100
     ∷ (frequenciesOf 0 ≡ 50000 ∷ 45000 ∷ 100000 ∷ []) ∷ (frequenciesOf 1 ≡ 42500 ∷ 40000 ∷ 60000 ∷ [])
-    ∷ (take 2 (settled (bookOf electricity growing) .settlement .adjustments) ≡ negℤ (pos 70762) ∷ pos 70762 ∷ [])
+    ∷ (twoAdjusted growing ≡ negℤ (pos 70762) ∷ pos 70762 ∷ [])
+    -- "fees paid in a year with no connection made do weigh" (02, point 6): 10 × 100 × 10,000 by 1 × 10,000, and by 1 × 12,500
+    ∷ (feesOf 10000 ≡ 0 ∷ 1000 ∷ 0 ∷ []) ∷ (feesOf 12500 ≡ 0 ∷ 800 ∷ 0 ∷ [])
+    ∷ (twoAdjusted (feesAlone 10000) ≡ pos 10015 ∷ negℤ (pos 10015) ∷ []) ∷ (twoAdjusted (feesAlone 12500) ≡ pos 10329 ∷ negℤ (pos 10329) ∷ [])
+    -- "The A indicators keep their zero rule": seconds without weight, of A2 and A4
+    ∷ (yearlyValue (bookOf electricity (Join 0 ∷ Amount 0 0 1 0 5000 ∷ [])) (numbered 1 .measure) 0 0 ≡ 0)
+    ∷ (yearlyValue (bookOf electricity (Join 0 ∷ Amount 0 0 3 0 5000 ∷ [])) (numbered 3 .measure) 0 0 ≡ 0)
     -- "writer, 3 bytes, one join"
     ∷ (writerAnswer (bookOf electricity (Join 0 ∷ [])) (0 ∷ 0 ∷ 0 ∷ []) ≡ refused-by 13)
     -- "weights 10, 8, 4 with the first two better become 18, 18, 8"

@@ -4,5 +4,6 @@ pub mod CountLaws
 pub mod InRange
 pub mod Numbered
 pub mod Scores
+pub mod FeeLaws
 pub mod AnyLaws
 pub mod Opened

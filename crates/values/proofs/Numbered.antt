@@ -1,9 +1,10 @@
 -- An indicator by its number: what holds of every indicator of the list holds of the numbered one; and yearly values as quotients.
 -- Assumes nothing.
 use Prim.Native.Nat.{ℕ, zero, suc, _*_, _<_}
-use mathlib.Core.Path.{_≡_, refl, ap₂}
+use mathlib.Core.Path.{_≡_, refl, ap, ap₂, _∙_}
 use mathlib.Core.Bool.{true, false, false≢true}
 use mathlib.Core.List.{List, [], _∷_}
+use native.Mathlib.Nat.{mul-comm}
 use native.Mathlib.Omega.{arith}
 use lib.ListN.{length, getD}
 use Rattle.calls.specs.Limits.{indicatorCount}
@@ -14,7 +15,7 @@ use Rattle.exact.specs.Division.{over}
 use Rattle.calls.specs.declared.Kind.{Kind}
 use Rattle.calls.specs.declared.Kind.the-variants.{Electricity, Gas}
 use Rattle.calls.specs.Indicators.{Indicator, frequency, duration, fee, electricity, gas, indicatorsOf, takesMark}
-use Rattle.values.specs.Indicator.{numbered, numberedIn, yearlyValue, yearlyValues}
+use Rattle.values.specs.Indicator.{numbered, numberedIn, countOrOne, feeDivisor, yearlyValue, yearlyValues}
 use Rattle.calls.proofs.KindLaws.{kinds-opened}
 use Rattle.values.proofs.Tables.{each-at, each-same}
 
@@ -58,6 +59,10 @@ number-of = of-numbered (λ number indicator. indicator .number ≡ number) (ref
 abbrev pub quotientsBy : ℕ → List ℕ → ℕ → List ℕ → List ℕ
 quotientsBy factor dividends scale divisors = each (λ (k : ℕ). over (factor * getD dividends k 0) (scale * getD divisors k 0))
 
+-- counts operator by operator, each 0 taken as 1
+abbrev pub countsOrOne : List ℕ → List ℕ
+countsOrOne counts = each (λ (k : ℕ). countOrOne (getD counts k 0))
+
 module _ (b : Book) (year : ℕ) where
   pub frequencies-same : (figure : ℕ) (which : ℕ → ℕ) → quotientsBy 1000000 (figuresOf b year figure) 1 (settingsOf b (which year)) ≡ yearlyValues b (frequency figure which) year
   unfolding yearlyValue
@@ -70,7 +75,10 @@ module _ (b : Book) (year : ℕ) where
       each-same _ _ (λ k lt. ap₂ over (omega (arith, each-at (λ (o : ℕ). figureOf b o year seconds) k lt)) (omega (arith, each-at (λ (o : ℕ). figureOf b o year weight) k lt)))
 
   pub fees-same : (fees connections : ℕ)
-      → quotientsBy (10 * indexOf b 3) (figuresOf b year fees) (indexOf b year) (figuresOf b year connections) ≡ yearlyValues b (fee fees connections) year
-  unfolding yearlyValue
+      → quotientsBy (10 * indexOf b 3) (figuresOf b year fees) (indexOf b year) (countsOrOne (figuresOf b year connections)) ≡ yearlyValues b (fee fees connections) year
+  unfolding yearlyValue feeDivisor
   fees-same fees connections =
-      each-same _ _ (λ k lt. rw (each-at (λ (o : ℕ). figureOf b o year fees) k lt, each-at (λ (o : ℕ). figureOf b o year connections) k lt) (ap₂ over (omega arith) (omega arith)))
+      each-same _ _
+      (λ k lt.
+      let counted = each-at (λ (o : ℕ). countOrOne (getD (figuresOf b year connections) o 0)) k lt ∙ ap countOrOne (each-at (λ (o : ℕ). figureOf b o year connections) k lt) in
+      rw (each-at (λ (o : ℕ). figureOf b o year fees) k lt, counted) (ap₂ over (omega arith) (mul-comm (indexOf b year) (countOrOne (figureOf b k year connections)))))

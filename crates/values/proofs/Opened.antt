@@ -2,7 +2,7 @@
 -- Assumes nothing.
 use Rattle.exact.specs.Division.{over}
 use Rattle.calls.specs.Indicators.{electricity}
-use Rattle.values.specs.Indicator.{yearlyValue, threeYears, reliableMask, scores, pool, numbered, numberedIn}
+use Rattle.values.specs.Indicator.{countOrOne, feeDivisor, yearlyValue, threeYears, reliableMask, scores, pool, numbered, numberedIn}
 use Rattle.values.specs.Sequence.{valuesByYear, sumsOfYears}
 use Rattle.values.specs.Operators.{table, each, count, any}
 use Rattle.calls.proofs.Opened.{calls-opened}
@@ -11,5 +11,5 @@ use Rattle.apportion.proofs.Opened.{apportion-opened}
 use lib.Count.{ones, onesIn}
 
 unfoldable pub values-opened : Unit {0}
-unfolding over yearlyValue threeYears reliableMask scores valuesByYear sumsOfYears pool numbered numberedIn table each count any calls-opened book-opened apportion-opened ones onesIn
+unfolding over countOrOne feeDivisor yearlyValue threeYears reliableMask scores valuesByYear sumsOfYears pool numbered numberedIn table each count any calls-opened book-opened apportion-opened ones onesIn
 values-opened = tt

@@ -1,11 +1,12 @@
 -- The scores of an indicator, one for each operator, are the first two steps of annex 9, 4.2.1, in turn; and their bounds in a book in range.
 -- Assumes nothing.
-use Prim.Native.Nat.{ℕ, _≤_, _<_, zero-le}
+use Prim.Native.Nat.{ℕ, _/_, _≤_, _<_, zero-le}
 use native.Mathlib.Nat.{div-le-self, mul-le-mul, le-trans}
 use native.Mathlib.Omega.{arith}
 use mathlib.Core.Path.{_≡_, refl}
 use mathlib.Core.List.{List, []}
 use lib.Dec.{eqb}
+use borrow.Author.Tests.{ne-eqb}
 use lib.ListN.{getD}
 use Rattle.calls.specs.Limits.{operators, years, figureCount, indicatorCount}
 use Rattle.calls.specs.Masks.{has}
@@ -26,6 +27,10 @@ use Rattle.values.proofs.Numbered.{of-numbered}
 pub over-le : (dividend divisor : ℕ) → over dividend divisor ≤ dividend
 unfolding over
 over-le dividend divisor = cond-le (eqb divisor 0) zero-le (div-le-self dividend divisor)
+
+pub over-some : (dividend divisor : ℕ) → 0 < divisor → over dividend divisor ≡ dividend / divisor
+unfolding over
+over-some dividend divisor pos = rw (ne-eqb divisor 0 (λ e. omega (arith, e, pos))) refl
 
 -- the sums of the yearly values are the scores
 pub scores-in-turn : (b : Book) (indicator : Indicator) → sumsOfYears (reliableMask b indicator) (valuesByYear b (indicator .measure)) ≡ scores b indicator

@@ -14,12 +14,20 @@ use Rattle.calls.specs.Indicators.{Measure, frequency, duration, fee, Indicator
 use Rattle.calls.specs.Masks.{has}
 use Rattle.values.specs.Operators.{each}
 
--- the yearly value of an operator, "rounded down; a zero divisor gives 0"
+-- "For D1 and D2 a count of 0 is now taken as 1" (02, point 6)
+unfoldable pub countOrOne : ℕ → ℕ
+countOrOne count = cond (eqb count 0) 1 count
+
+-- what the fees of a year are divided by: the count of connections, so taken, times the year's index
+unfoldable pub feeDivisor : Book → ℕ → ℕ → ℕ → ℕ
+feeDivisor b connections operator year = countOrOne (figureOf b operator year connections) * indexOf b year
+
+-- the yearly value of an operator, "rounded down; a zero divisor gives 0"; "The A indicators keep their zero rule" (02, point 6)
 unfoldable pub yearlyValue : Book → Measure → ℕ → ℕ → ℕ
 yearlyValue b (frequency figure which) operator year = over (1000000 * figureOf b operator year figure) (settingOf b operator (which year))
 yearlyValue b (duration seconds weight) operator year = over (1000 * figureOf b operator year seconds) (figureOf b operator year weight)
 yearlyValue b (fee fees connections) operator year =
-    over (10 * figureOf b operator year fees * indexOf b 3) (figureOf b operator year connections * indexOf b year)
+    over (10 * figureOf b operator year fees * indexOf b 3) (feeDivisor b connections operator year)
 
 -- the yearly values of a measure, by operator
 abbrev pub yearlyValues : Book → Measure → ℕ → List ℕ

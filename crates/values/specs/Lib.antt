@@ -5,3 +5,4 @@ pub mod Sequence
 pub mod Parts
 pub mod Bounds
 pub mod Steps
+pub mod Laws

@@ -12,7 +12,7 @@ ghost use Rattle.exact.specs.Division.{over};
 ghost use Rattle.book.specs.declared.Book.{Book};
 ghost use Rattle.values.specs.Operators.{each};
 ghost use Rattle.calls.specs.Indicators.{frequency, duration, fee};
-ghost use Rattle.values.specs.Indicator.{yearlyValues, reliableMask, scores, numbered};
+ghost use Rattle.values.specs.Indicator.{countOrOne, yearlyValues, reliableMask, scores, numbered};
 ghost use Rattle.values.specs.Parts.{HasMarks, HasMeasures, Within};
 ghost use Rattle.values.specs.Sequence.{valuesByYear, sumsOfYears};
 ghost use Rattle.values.specs.Steps.{YearsWithin, YearsAsked, ValuesAsked, FrequencyAsked, DurationAsked, FeeAsked};
@@ -181,8 +181,30 @@ fn fees(
         10 * base,
         figures_of(figures, year, paid),
         index,
-        figures_of(figures, year, connections),
+        counts_or_one(figures_of(figures, year, connections)),
     )
+}
+
+// What fees are divided by: the counts of connections, by operator, a count of 0 taken as 1.
+fn counts_or_one(counts: [u64; 16]) -> [u64; 16]
+    ensures { λ r. ⌜ r ≡ each (λ (k : ℕ). countOrOne (getD counts k 0)) ⌝ }
+{
+    let mut list = [0u64; 16];
+    let mut i = 0;
+    while i < 16 {
+        list[i] = count_or_one(counts[i]);
+        i += 1;
+    }
+    list
+}
+
+fn count_or_one(count: u64) -> u64
+    ensures { λ r. ⌜ r ≡ countOrOne count ⌝ }
+{
+    if count == 0 {
+        return 1;
+    }
+    count
 }
 
 fn quotients(factor: u64, dividends: [u64; 16], scale: u64, divisors: [u64; 16]) -> [u64; 16]
