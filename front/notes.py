@@ -12,8 +12,11 @@ from front.words import is_number, word_of
 LONGEST = 30 * 86_400
 # Cabins that grow or shrink by more than this from one year to the next may be mistyped.
 MOST_GROWTH = 2
-# A figure that counts by another one, which must not be 0 then.
-DIVIDED = ((1, 0, "A2"), (3, 2, "A4"), (4, 5, "D1"), (6, 7, "D2"))
+# What a year comes to whose figure is there, and the one that divides it is 0: at A2 and A4, and at D1 and D2.
+AS_NOTHING = "so that year counts as 0 at {}; file its {}, or correct the year"
+IN_FULL = "so they weigh in full at {}, as with a count of 1; file its {} if there were any, or correct the year"
+# The figure, the one that divides it, the indicator.
+DIVIDED = ((1, 0, "A2", AS_NOTHING), (3, 2, "A4", AS_NOTHING), (4, 5, "D1", IN_FULL), (6, 7, "D2", IN_FULL))
 SIGN_PLACE = {"interruption": 1, "amount": 3}
 # So many notes are told.
 MOST_TOLD = 40
@@ -105,14 +108,14 @@ def _rates(fields, book):
 
 
 def _undivided(fields, book):
-    """Years with fees and no connections, or seconds and no weight: they count as 0."""
+    """Years with fees and no connections, which weigh in full, or seconds and no weight, which count as 0."""
     _, years, figures, *_ = BY_NAME["amount"].places
-    for operator, year, (figure, divisor, indicator) in product(book.joined(), range(len(years.words)), DIVIDED):
+    for operator, year, (figure, divisor, indicator, outcome) in product(book.joined(), range(len(years.words)), DIVIDED):
         if book.value("amount", operator, year, figure) and not book.value("amount", operator, year, divisor):
             field = _last(fields, "amount", operator, year, figure) or _last(fields, "amount", operator, year, divisor)
             missing = figures.words[divisor]
             what = f"operator {operator} has {figures.words[figure]} in {years.words[year]} and no {missing}"
-            yield Note(field, f"{what}, so that year counts as 0 at {indicator}; file its {missing}, or correct the year")
+            yield Note(field, f"{what}, {outcome.format(indicator, missing)}")
 
 
 def _unsigned(call):

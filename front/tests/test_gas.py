@@ -429,8 +429,8 @@ class Notes(InFolder):
             ),
             (
                 "amount 0 2019 reconnection-fees file 7",
-                "operator 0 has reconnection-fees in 2019 and no reconnections, so that year counts as 0 at D2; "
-                "file its reconnections, or correct the year",
+                "operator 0 has reconnection-fees in 2019 and no reconnections, so they weigh in full at D2, as with a count of 1; "
+                "file its reconnections if there were any, or correct the year",
             ),
             ("amount 1 2017 connections file 100", "the same call stands in line 8; take one out if it is meant once"),
         ]:

@@ -21,8 +21,8 @@ NOTES = """\
 :5: note: operator 2 has an income of 0, so its limit is 0 and it has no adjustment; file it in cents: setting 2 income ..
 :12: note: operator 1 has 260 cabins in 2018, less than half the 2,600 of 2017; see whether a digit or a year is wrong
 :13: note: operator 1 has 2,540 cabins in 2019, more than twice the 260 of 2018; see whether a digit or a year is wrong
-:44: note: operator 0 has reconnection-fees in 2019 and no reconnections, so that year counts as 0 at D2; \
-file its reconnections, or correct the year
+:44: note: operator 0 has reconnection-fees in 2019 and no reconnections, so they weigh in full at D2, as with a count of 1; \
+file its reconnections if there were any, or correct the year
 :50: note: operator 2 has lv-seconds in 2019 and no lv-weight, so that year counts as 0 at A4; file its lv-weight, or correct the year
 :29: note: the same call stands in line 28; take one out if it is meant once
 :30: note: its weight, 330, is more than the operator's cabins in 2018, 260; correct one of them
@@ -100,6 +100,11 @@ JUMP = "operator {} has {} cabins in {}, {} of {}; see whether a digit or a year
 NO_RATES = "so nobody pays or gets anything; file them, as in: rates 5000 10000"
 
 
+def longer(*lines):
+    """The good exercise with these lines after it."""
+    return GOOD + "".join(f"{line}\n" for line in lines)
+
+
 def without(text, line):
     assert line in text, line
     return text.replace(line, "")
@@ -116,8 +121,12 @@ class Notes(InFolder):
 
     def added(self, *lines):
         """The notes on the good exercise with these lines after it, by the line from the end of it: 1 for the first."""
-        found = [note.partition(": note: ") for note in self.notes(GOOD + "".join(f"{line}\n" for line in lines))]
+        found = [note.partition(": note: ") for note in self.notes(longer(*lines))]
         return [(int(line) - LINES, text) for line, _, text in found]
+
+    def settled(self, *lines):
+        """What the same prints."""
+        return settle_here(self.file("calls.txt", longer(*lines))).output
 
     def test_nothing_to_note(self):
         self.assertEqual(self.notes(GOOD), [])
@@ -144,17 +153,20 @@ class Notes(InFolder):
         self.assertEqual(self.added("rates 0 7"), [])
 
     def test_figures_without_the_one_that_divides_them(self):
-        for figure, divisor, indicator in [
-            ("fees", "connections", "D1"),
-            ("reconnection-fees", "reconnections", "D2"),
-            ("mv-seconds", "mv-weight", "A2"),
-            ("lv-seconds", "lv-weight", "A4"),
+        for figure, divisor, outcome in [
+            ("fees", "connections", "they weigh in full at D1, as with a count of 1; file its connections if there were any"),
+            ("reconnection-fees", "reconnections", "they weigh in full at D2, as with a count of 1; file its reconnections if there were any"),
+            ("mv-seconds", "mv-weight", "that year counts as 0 at A2; file its mv-weight"),
+            ("lv-seconds", "lv-weight", "that year counts as 0 at A4; file its lv-weight"),
         ]:
             call, other = f"amount 0 2019 {figure} file 7", f"amount 0 2019 {divisor} file 1"
-            said = f"operator 0 has {figure} in 2019 and no {divisor}, so that year counts as 0 at {indicator}"
-            said += f"; file its {divisor}, or correct the year"
+            said = f"operator 0 has {figure} in 2019 and no {divisor}, so {outcome}, or correct the year"
             self.assertEqual(self.added(call), [(1, said)])
             self.assertEqual(self.added(other, call), [])
+            # The settlement is the one with a count of 1, or the one without the figure, as the note says.
+            alone, counted, without_it = (self.settled(*lines) for lines in ([call], [call, other], []))
+            weighs = "weigh in full" in outcome
+            self.assertEqual((alone == counted, alone == without_it), (weighs, not weighs), figure)
         gone = self.added("interruption 0 file LV own 0 300 1", "amount 0 2017 lv-weight withdraw 1")
         said = "operator 0 has lv-seconds in 2017 and no lv-weight, so that year counts as 0 at A4; file its lv-weight, or correct the year"
         self.assertEqual(gone, [(2, said)])

@@ -119,6 +119,22 @@ class Pages(InFolder):
         self.assertIn("operator 0 has {}, {} and {} cabins, and an `mv-weight` of {}, {} and {}. ".format(*cabins, *weights), text)
         self.assertIn("Its values at A1 are {:,}, {:,} and {:,}, so *s* = {:,}.".format(*yearly, sum(yearly)), text)
 
+    def test_case_m_with_other_calls(self):
+        text = page("docs/FILING.md")
+        calls = next(block for kind, block in BLOCK.findall(text) if kind == "calls")
+        by_hand = " ".join(text.partition("## Case M by hand\n")[2].partition("\n## ")[0].split())
+        fees = "amount 0 2018 fees file 100"
+        for more, told in [
+            (["rates 5000 50"], "the adjustments are {2:,} and {3:,}."),
+            ([fees], "All points are {0:,} and {1:,}, and the adjustments are {2:,} and {3:,}."),
+            ([fees, "index june-2017 12500"], "All points are {0:,} and {1:,}, and the adjustments are {2:,} and {3:,}."),
+        ]:
+            run = settle("--quiet", self.file("exercise.txt", calls + "\n".join(more)))
+            rows = [row.split() for row in run.output.decode().splitlines()[1:3]]
+            numbers = [int(row[column]) for column in (1, -1) for row in rows]
+            variation = by_hand.partition(f" With `{more[-1]}` ")[2].partition(" With `")[0]
+            self.assertIn(told.format(*numbers), variation)
+
     def test_the_mistakes_that_the_page_shows(self):
         text = page("docs/FILING.md")
         calls = next(block for kind, block in BLOCK.findall(text) if kind == "calls")
