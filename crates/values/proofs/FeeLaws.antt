@@ -21,37 +21,36 @@ use Rattle.values.proofs.Numbered.{countsOrOne}
 use Rattle.values.proofs.Tables.{each-le}
 use Rattle.values.proofs.Scores.{over-some}
 
-pub count-none : countOrOne 0 ≡ 1
+pub none-as-one : countOrOne 0 ≡ 1
 unfolding countOrOne
-count-none = refl
+none-as-one = refl
 
-pub count-some : (count : ℕ) → (count ≡ 0 → ⊥) → countOrOne count ≡ count
+pub some-as-counted : (count : ℕ) → (count ≡ 0 → ⊥) → countOrOne count ≡ count
 unfolding countOrOne
-count-some count some = ap (λ (none : Bool). cond none 1 count) (ne-eqb count 0 some)
+some-as-counted count some = ap (λ (none : Bool). cond none 1 count) (ne-eqb count 0 some)
 
 -- what holds of 1, and of a count that is not 0, holds of either
-of-count : (Holds : ℕ → Type 0) (count : ℕ) → Holds 1 → ((count ≡ 0 → ⊥) → Holds count) → Holds (countOrOne count)
-of-count Holds count one other = go (ℕ-discrete count 0)
+of-either : (Holds : ℕ → Type 0) (count : ℕ) → Holds 1 → ((count ≡ 0 → ⊥) → Holds count) → Holds (countOrOne count)
+of-either Holds count one other = go (ℕ-discrete count 0)
   where
     go : Dec (count ≡ 0) → Holds (countOrOne count)
-    go (yes none) = rw (none, count-none) one
-    go (no some) = rw (count-some count some) (other some)
+    go (yes none) = rw (none, none-as-one) one
+    go (no some) = rw (some-as-counted count some) (other some)
 
 -- counts of a year, so taken, keep to the limit of a figure
 pub counts-most : (b : Book) → FiguresWithin (b .figures) → (year figure : ℕ) → year < years → figure < figureCount
     → (k : ℕ) → getD (countsOrOne (figuresOf b year figure)) k 0 ≤ figureLimit
 counts-most b small year figure ly lf =
-    each-le _ _ (λ k lt. of-count (λ (n : ℕ). n ≤ figureLimit) _ (omega arith) (λ some. figures-most b small year figure ly lf k))
+    each-le _ _ (λ k lt. of-either (λ (n : ℕ). n ≤ figureLimit) _ (omega arith) (λ some. figures-most b small year figure ly lf k))
 
-module _ (b : Book) (ranged : withinLimits b ≡ true) (year : ℕ) (ly : year < years) where
-  index-above : 0 < indexOf b year
-  unfolding indexOf
-  index-above = omega (arith, bounded b ranged .indices .within year (omega arith) .0)
+index-above : (b : Book) → withinLimits b ≡ true → (year : ℕ) → year < years → 0 < indexOf b year
+unfolding indexOf
+index-above b ranged year ly = omega (arith, bounded b ranged .indices .within year (omega arith) .0)
 
-  pub fees-weigh : (fees connections operator : ℕ) → FeesWeigh b fees connections operator year
-  unfolding yearlyValue feeDivisor
-  fees-weigh fees connections operator =
-      let counted = of-count (λ (n : ℕ). 0 < n) (figureOf b operator year connections) (omega arith) (λ some. omega (arith, some)) in
-      let above = mul-pos counted index-above in
-      let whole = over-some (10 * figureOf b operator year fees * indexOf b 3) _ above in
-      record { divisor-positive = above; divided = whole; none-made = λ none. whole ∙ rw (none, count-none, one-mul) refl }
+pub fees-weigh : FeesWeigh
+unfolding yearlyValue feeDivisor
+fees-weigh b ranged fees connections operator year ly =
+    let counted = of-either (λ (n : ℕ). 0 < n) (figureOf b operator year connections) (omega arith) (λ some. omega (arith, some)) in
+    let above = mul-pos counted (index-above b ranged year ly) in
+    let whole = over-some (10 * figureOf b operator year fees * indexOf b 3) _ above in
+    record { divisor-positive = above; divided = whole; none-made = λ none. whole ∙ rw (none, none-as-one, one-mul) refl }
