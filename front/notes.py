@@ -15,7 +15,7 @@ MOST_GROWTH = 2
 # What a year comes to whose figure is there, and the one that divides it is 0: at A2 and A4, and at D1 and D2.
 AS_NOTHING = "so that year counts as 0 at {}; file its {}, or correct the year"
 IN_FULL = "so they weigh in full at {}, as with a count of 1; file its {} if there were any, or correct the year"
-# The figure, the one that divides it, the indicator.
+# The figure, the one that divides it, the indicator, and which of the two.
 DIVIDED = ((1, 0, "A2", AS_NOTHING), (3, 2, "A4", AS_NOTHING), (4, 5, "D1", IN_FULL), (6, 7, "D2", IN_FULL))
 SIGN_PLACE = {"interruption": 1, "amount": 3}
 # So many notes are told.

@@ -185,7 +185,7 @@ fn fees(
     )
 }
 
-// What fees are divided by: the counts of connections, by operator, a count of 0 taken as 1.
+// The counts of connections that fees are divided by, by operator: a count of 0 is taken as 1.
 fn counts_or_one(counts: [u64; 16]) -> [u64; 16]
     ensures { λ r. ⌜ r ≡ each (λ (k : ℕ). countOrOne (getD counts k 0)) ⌝ }
 {
