@@ -4,7 +4,7 @@ use Prim.Native.Nat.{ℕ, zero, suc, _*_, _<_}
 use mathlib.Core.Path.{_≡_, refl, ap, ap₂, _∙_}
 use mathlib.Core.Bool.{true, false, false≢true}
 use mathlib.Core.List.{List, [], _∷_}
-use native.Mathlib.Nat.{mul-comm}
+use native.Mathlib.Nat.{one-mul, mul-comm, mul-right-comm}
 use native.Mathlib.Omega.{arith}
 use lib.ListN.{length, getD}
 use Rattle.calls.specs.Limits.{indicatorCount}
@@ -72,7 +72,7 @@ module _ (b : Book) (year : ℕ) where
   pub durations-same : (seconds weight : ℕ) → quotientsBy 1000 (figuresOf b year seconds) 1 (figuresOf b year weight) ≡ yearlyValues b (duration seconds weight) year
   unfolding yearlyValue
   durations-same seconds weight =
-      each-same _ _ (λ k lt. ap₂ over (omega (arith, each-at (λ (o : ℕ). figureOf b o year seconds) k lt)) (omega (arith, each-at (λ (o : ℕ). figureOf b o year weight) k lt)))
+      each-same _ _ (λ k lt. ap₂ over (omega (arith, each-at (λ (o : ℕ). figureOf b o year seconds) k lt)) (one-mul _ ∙ each-at (λ (o : ℕ). figureOf b o year weight) k lt))
 
   pub fees-same : (fees connections : ℕ)
       → quotientsBy (10 * indexOf b 3) (figuresOf b year fees) (indexOf b year) (countsOrOne (figuresOf b year connections)) ≡ yearlyValues b (fee fees connections) year
@@ -81,4 +81,4 @@ module _ (b : Book) (year : ℕ) where
       each-same _ _
       (λ k lt.
       let counted = each-at (λ (o : ℕ). countOrOne (getD (figuresOf b year connections) o 0)) k lt ∙ ap countOrOne (each-at (λ (o : ℕ). figureOf b o year connections) k lt) in
-      rw (each-at (λ (o : ℕ). figureOf b o year fees) k lt, counted) (ap₂ over (omega arith) (mul-comm (indexOf b year) (countOrOne (figureOf b k year connections)))))
+      rw (each-at (λ (o : ℕ). figureOf b o year fees) k lt, counted) (ap₂ over (mul-right-comm 10 (indexOf b 3) (figureOf b k year fees)) (mul-comm (indexOf b year) (countOrOne (figureOf b k year connections)))))
