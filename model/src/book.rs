@@ -149,6 +149,16 @@ pub fn joined(operators: &[Operator]) -> Vec<usize> {
         .collect()
 }
 
+/// The access points of these operators: what decides between equal remainders in
+/// every sharing, whatever is shared by.
+/// Follows 02, point 7: "the operator with more access points".
+pub fn sizes(operators: &[Operator], numbers: &[usize]) -> Vec<u128> {
+    numbers
+        .iter()
+        .map(|&k| operators[k].access_points)
+        .collect()
+}
+
 /// One number of so many bits: bit k is the one at place k.
 fn mask(bits: impl Iterator<Item = bool>) -> u128 {
     bits.enumerate().map(|(k, bit)| u128::from(bit) << k).sum()

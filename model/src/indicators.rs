@@ -1,7 +1,7 @@
 //! The indicators: yearly values, pools and the points of every operator.
 //! Nothing here knows of money, so one set of points can be settled at many rates.
 
-use crate::book::{joined, Book, Operator, OPERATORS, YEARS};
+use crate::book::{joined, sizes, Book, Operator, OPERATORS, YEARS};
 use crate::exponent;
 use crate::sharing::share_wide;
 
@@ -202,6 +202,14 @@ pub fn fee_weights(sums: &[u128]) -> Vec<u128> {
         .collect()
 }
 
+/// The weights of an indicator from the sums of the unmarked operators.
+pub fn weights(indicator: &Indicator, sums: &[u128]) -> Vec<u128> {
+    match indicator.kind {
+        Kind::Interruptions => interruption_weights(sums),
+        Kind::Fees => fee_weights(sums),
+    }
+}
+
 /// The joined operators without a mark at an indicator, rising.
 pub fn unmarked(book: &Book, number: usize) -> Vec<usize> {
     let mut operators = joined(&book.operators);
@@ -234,14 +242,11 @@ pub fn points(book: &Book, indicators: &[Indicator]) -> Points {
 fn put_points(answer: &mut Points, book: &Book, number: usize, indicator: &Indicator) {
     let joined = joined(&book.operators);
     let unmarked = unmarked(book, number);
-    let sums = value_sums(book, indicator, &unmarked);
-    let weights = match indicator.kind {
-        Kind::Interruptions => interruption_weights(&sums),
-        Kind::Fees => fee_weights(&sums),
-    };
+    let weights = weights(indicator, &value_sums(book, indicator, &unmarked));
     let pool = pool(indicator, joined.len() as u128, unmarked.len() as u128);
+    let shares = share_wide(pool, &weights, &sizes(&book.operators, &unmarked));
     answer.pools[number] = pool;
-    for (k, share) in unmarked.into_iter().zip(share_wide(pool, &weights)) {
+    for (k, share) in unmarked.into_iter().zip(shares) {
         answer.points[k][number] = share;
     }
 }
@@ -648,26 +653,43 @@ mod tests {
         assert_eq!(alone.pools[0], 46_200);
         assert_eq!(
             [alone.points[1][0], alone.points[2][0]],
-            share_wide(46_200, &[table[250], table[1000]])[..]
+            share_wide(46_200, &[table[250], table[1000]], &[1, 1])[..]
         );
         book.operators[0] = operator(1, 1, [1000; 8]);
         book.operators[0].marks[0] = true;
         let with_marked = points(&book, &list);
         assert_eq!(with_marked.pools[0], 30_800);
+        let shares = share_wide(30_800, &[table[250], table[1000]], &[1, 1]);
         assert_eq!(
             [
                 with_marked.points[0][0],
                 with_marked.points[1][0],
                 with_marked.points[2][0]
             ],
-            [
-                0,
-                share_wide(30_800, &[table[250], table[1000]])[0],
-                share_wide(30_800, &[table[250], table[1000]])[1]
-            ]
+            [0, shares[0], shares[1]]
         );
         // A mark at one indicator leaves the others.
         assert!(with_marked.points[0][1] > 0);
+    }
+
+    #[test]
+    fn sizes_decide_between_equal_hundredths() {
+        let mut book = Book::fresh();
+        for (k, size) in [2, 7, 7, 5, 7, 1, 1].into_iter().enumerate() {
+            book.operators[k] = operator(1, size, [0; 8]);
+        }
+        let points = points(&book, &indicators());
+        let of = |number: usize| [0, 1, 2, 3, 4, 5, 6].map(|k| points.points[k][number]);
+        // 46200 / 7 and 37800 / 7 are whole.
+        assert_eq!((of(0), of(1)), ([6600; 7], [5400; 7]));
+        // 19800 = 7 × 2828 + 4: the three of 7, then that of 5.
+        assert_eq!(of(2), [2828, 2829, 2829, 2829, 2829, 2828, 2828]);
+        // 16200 = 7 × 2314 + 2: the lower two of the three of 7.
+        assert_eq!(of(3), [2314, 2315, 2315, 2314, 2314, 2314, 2314]);
+        // 6000 = 7 × 857 + 1.
+        assert_eq!(of(4), [857, 858, 857, 857, 857, 857, 857]);
+        // 1500 = 7 × 214 + 2.
+        assert_eq!(of(5), [214, 215, 215, 214, 214, 214, 214]);
     }
 
     #[test]

@@ -1,5 +1,5 @@
 //! The independent reference model, written from the requirement alone: 01, and
-//! points 1 to 6 of 02 where they speak. This file only declares the modules.
+//! points 1 to 7 of 02 where they speak. This file only declares the modules.
 
 pub mod book;
 pub mod calls;

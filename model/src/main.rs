@@ -286,8 +286,11 @@ mod tests {
 
     #[test]
     fn lines_are_answered_in_order() {
-        let (output, result) = run("# amount, weights\n10 1 1 1\n\n5 0 0\n", sharing::answer);
-        assert_eq!(output, "4 3 3\n0 0\n");
+        let (output, result) = run(
+            "# amount, weights, sizes\n10 1 1 1 7 7 7\n\n5 0 0 1 2\n10 1 1 1 1 1 2\n",
+            sharing::answer,
+        );
+        assert_eq!(output, "4 3 3\n0 0\n3 3 4\n");
         assert_eq!(result, Ok(DONE));
         let (output, result) = run("10 1 3\n18446744073709551615 2 3", product::answer);
         assert_eq!(output, "3 1\n12297829382473034410 0\n");
@@ -296,8 +299,9 @@ mod tests {
 
     #[test]
     fn answers_before_a_malformed_line_are_kept() {
-        let (output, result) = run("10 1 1 1\n10\n10 1\n", sharing::answer);
+        let (output, result) = run("10 1 1 1 7 7 7\n10 1 1 1\n10 1 1\n", sharing::answer);
         assert_eq!(output, "4 3 3\n");
+        // A weight without a size.
         assert!(result.unwrap_err().starts_with("line 2:"));
     }
 

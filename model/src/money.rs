@@ -1,7 +1,7 @@
 //! The money of a settlement: pot, contributions, returns, limits and
 //! adjustments, for points already given and at any rates.
 
-use crate::book::{joined, Operator, OPERATORS};
+use crate::book::{joined, sizes, Operator, OPERATORS};
 use crate::sharing::share_wide;
 
 const MILLIONTHS: u128 = 1_000_000;
@@ -33,21 +33,22 @@ impl Money {
 /// Follows 01: "Pot = pot rate × (sum of incomes) / 1,000,000, rounded down.
 /// Contributions share the pot by access points. Returns share it by access
 /// points × points. Difference = return - contribution. Limit = cap rate ×
-/// income / 1,000,000, rounded down."
+/// income / 1,000,000, rounded down." All of it is shared with the same sizes.
 pub fn money(operators: &[Operator], points: &[u128], pot_rate: u128, cap_rate: u128) -> Money {
     // The lists are those of the joined operators, rising.
     let joined = joined(operators);
     let listed =
         |value: &dyn Fn(usize) -> u128| -> Vec<u128> { joined.iter().map(|&k| value(k)).collect() };
     let incomes = listed(&|k| operators[k].income);
-    let access_points = listed(&|k| operators[k].access_points);
+    let sizes = sizes(operators, &joined);
     let return_weights = listed(&|k| operators[k].access_points * points[k]);
     let limits = listed(&|k| cap_rate * operators[k].income / MILLIONTHS);
 
     let pot = pot_rate * incomes.iter().sum::<u128>() / MILLIONTHS;
-    let contributions = share_wide(pot, &access_points);
-    let returns = share_wide(pot, &return_weights);
-    let adjustments = adjustments(&less(&returns, &contributions), &limits);
+    // Contributions are shared by the sizes themselves.
+    let contributions = share_wide(pot, &sizes, &sizes);
+    let returns = share_wide(pot, &return_weights, &sizes);
+    let adjustments = adjustments(&less(&returns, &contributions), &limits, &sizes);
     Money {
         pot,
         contributions: spread(&joined, &contributions),
@@ -75,12 +76,13 @@ fn less(first: &[u128], second: &[u128]) -> Vec<i128> {
         .collect()
 }
 
-/// The adjustments that follow from the differences and their limits.
+/// The adjustments that follow from the differences and their limits; the sizes are
+/// those of the same operators.
 /// Follows 01: "Each difference is cut to its limit on either side. Of the sum
 /// of bonuses and the sum of maluses, the larger side is shared again to the
 /// smaller sum, by its cut amounts." The sums are those of the cut amounts;
 /// with equal sums both sides stay.
-pub fn adjustments(differences: &[i128], limits: &[u128]) -> Vec<i128> {
+pub fn adjustments(differences: &[i128], limits: &[u128], sizes: &[u128]) -> Vec<i128> {
     let cuts: Vec<i128> = differences
         .iter()
         .zip(limits)
@@ -92,10 +94,10 @@ pub fn adjustments(differences: &[i128], limits: &[u128]) -> Vec<i128> {
     let bonus_sum: u128 = bonuses.iter().sum();
     let malus_sum: u128 = maluses.iter().sum();
     if bonus_sum > malus_sum {
-        bonuses = share_wide(malus_sum, &bonuses);
+        bonuses = share_wide(malus_sum, &bonuses, sizes);
     }
     if malus_sum > bonus_sum {
-        maluses = share_wide(bonus_sum, &maluses);
+        maluses = share_wide(bonus_sum, &maluses, sizes);
     }
     less(&bonuses, &maluses)
 }
@@ -131,6 +133,11 @@ mod tests {
         totals
     }
 
+    /// The adjustments of operators of equal size.
+    fn adjusted(differences: &[i128], limits: &[u128]) -> Vec<i128> {
+        adjustments(differences, limits, &vec![1; limits.len()])
+    }
+
     #[test]
     fn cuts() {
         assert_eq!(cut(5, 5), 5);
@@ -146,63 +153,79 @@ mod tests {
 
     #[test]
     fn within_the_limits_the_differences_stand() {
-        assert_eq!(adjustments(&[3, -2, 0, -1], &[9; 4]), [3, -2, 0, -1]);
-        assert_eq!(adjustments(&[0, 0], &[9, 9]), [0, 0]);
-        assert_eq!(adjustments(&[], &[]), Vec::<i128>::new());
+        assert_eq!(adjusted(&[3, -2, 0, -1], &[9; 4]), [3, -2, 0, -1]);
+        assert_eq!(adjusted(&[0, 0], &[9, 9]), [0, 0]);
+        assert_eq!(adjusted(&[], &[]), Vec::<i128>::new());
     }
 
     #[test]
     fn bonus_side_larger() {
         // Cut: 30, 20, -10, -25; 35 is shared by 30 and 20.
         assert_eq!(
-            adjustments(&[30, 20, -10, -40], &[100, 100, 100, 25]),
+            adjusted(&[30, 20, -10, -40], &[100, 100, 100, 25]),
             [21, 14, -10, -25]
         );
         // Cut: 10, 10, 10, -10; the unit left over goes to the lowest.
-        assert_eq!(adjustments(&[10, 10, 10, -30], &[10; 4]), [4, 3, 3, -10]);
+        assert_eq!(adjusted(&[10, 10, 10, -30], &[10; 4]), [4, 3, 3, -10]);
         // The place of the malus does not matter to the bonuses.
-        assert_eq!(adjustments(&[-30, 10, 10, 10], &[10; 4]), [-10, 4, 3, 3]);
+        assert_eq!(adjusted(&[-30, 10, 10, 10], &[10; 4]), [-10, 4, 3, 3]);
     }
 
     #[test]
     fn malus_side_larger() {
         assert_eq!(
-            adjustments(&[-30, -20, 10, 40], &[100, 100, 100, 25]),
+            adjusted(&[-30, -20, 10, 40], &[100, 100, 100, 25]),
             [-21, -14, 10, 25]
         );
         // Ties to the lower operator among the maluses too.
-        assert_eq!(
-            adjustments(&[-10, -10, 30, -10], &[10; 4]),
-            [-4, -3, 10, -3]
-        );
+        assert_eq!(adjusted(&[-10, -10, 30, -10], &[10; 4]), [-4, -3, 10, -3]);
+    }
+
+    #[test]
+    fn sizes_decide_between_equal_remainders() {
+        // Cut: 10, 10, 10, -10; the unit left over goes to the largest of the three,
+        // whatever the size of the fourth.
+        let limits = [10; 4];
+        let bonuses = |sizes: [u128; 4]| adjustments(&[10, 10, 10, -30], &limits, &sizes);
+        assert_eq!(bonuses([1, 2, 3, 9]), [3, 3, 4, -10]);
+        assert_eq!(bonuses([1, 3, 3, 9]), [3, 4, 3, -10]);
+        assert_eq!(bonuses([3, 2, 3, 9]), [4, 3, 3, -10]);
+        let maluses = |sizes: [u128; 4]| adjustments(&[-10, -10, 30, -10], &limits, &sizes);
+        assert_eq!(maluses([1, 2, 9, 3]), [-3, -3, 10, -4]);
+        assert_eq!(maluses([1, 3, 9, 3]), [-3, -4, 10, -3]);
+        // Cut: 1, 3, -2; remainders 2 and 2 of 4, the larger amount is of the smaller.
+        assert_eq!(adjustments(&[1, 3, -9], &[9, 9, 2], &[5, 4, 9]), [1, 1, -2]);
+        assert_eq!(adjustments(&[1, 3, -9], &[9, 9, 2], &[4, 5, 9]), [0, 2, -2]);
+        // Cut: 1, 2, -2; remainders 2 and 1 of 3.
+        assert_eq!(adjustments(&[1, 2, -9], &[9, 9, 2], &[4, 5, 9]), [1, 1, -2]);
     }
 
     #[test]
     fn the_cut_amounts_are_the_weights() {
         // Cut: 10, 10, -8; by the differences 90 and 10 it would be 7 and 1.
-        assert_eq!(adjustments(&[90, 10, -100], &[10, 10, 8]), [4, 4, -8]);
+        assert_eq!(adjusted(&[90, 10, -100], &[10, 10, 8]), [4, 4, -8]);
     }
 
     #[test]
     fn equal_sides_stand() {
         // Cut: 7, 5, -6, -6.
-        assert_eq!(adjustments(&[7, 5, -6, -6], &[7, 5, 6, 6]), [7, 5, -6, -6]);
-        assert_eq!(adjustments(&[8, 6, -7, -7], &[7, 5, 6, 6]), [7, 5, -6, -6]);
+        assert_eq!(adjusted(&[7, 5, -6, -6], &[7, 5, 6, 6]), [7, 5, -6, -6]);
+        assert_eq!(adjusted(&[8, 6, -7, -7], &[7, 5, 6, 6]), [7, 5, -6, -6]);
     }
 
     #[test]
     fn zero_limits() {
-        assert_eq!(adjustments(&[30, -20, -10], &[0; 3]), [0; 3]);
+        assert_eq!(adjusted(&[30, -20, -10], &[0; 3]), [0; 3]);
         // One side without any room leaves nothing for the other.
-        assert_eq!(adjustments(&[30, -20, -10], &[0, 50, 50]), [0; 3]);
-        assert_eq!(adjustments(&[30, -20, -10], &[50, 0, 0]), [0; 3]);
-        assert_eq!(adjustments(&[30, -20, -10], &[50, 0, 50]), [10, 0, -10]);
+        assert_eq!(adjusted(&[30, -20, -10], &[0, 50, 50]), [0; 3]);
+        assert_eq!(adjusted(&[30, -20, -10], &[50, 0, 0]), [0; 3]);
+        assert_eq!(adjusted(&[30, -20, -10], &[50, 0, 50]), [10, 0, -10]);
     }
 
     /// The adjustments sum to 0, and each is between 0 and its cut amount, so
     /// that it doesn't pass its limit.
     fn within_the_cut_amounts(differences: &[i128], limits: &[u128]) {
-        let answers = adjustments(differences, limits);
+        let answers = adjusted(differences, limits);
         assert_eq!(answers.iter().sum::<i128>(), 0);
         let between = |place: usize| {
             let cut = cut(differences[place], limits[place]);
@@ -251,10 +274,32 @@ mod tests {
     }
 
     #[test]
+    fn sizes_decide_between_equal_cents() {
+        // Pot 20000 × 100 / 1000000 = 2. Contributions: 2/4 and 6/4. Returns by 1 × 6
+        // and 3 × 2: 2 × 6 / 12 is 1 each.
+        let operators = operators(&[(1, 50), (3, 50)]);
+        let answer = money(&operators, &totals(&[6, 2]), 20_000, 20_000);
+        assert_eq!(answer.contributions[..2], [0, 2]);
+        assert_eq!(answer.returns[..2], [1, 1]);
+        assert_eq!(answer.adjustments[..2], [1, -1]);
+    }
+
+    #[test]
+    fn sizes_decide_between_equal_return_weights() {
+        // Pot 20000 × 150 / 1000000 = 3. Contributions: 3/4 and 9/4. Returns by 1 × 6
+        // and 3 × 2: 3/2 each.
+        let operators = operators(&[(1, 75), (3, 75)]);
+        let answer = money(&operators, &totals(&[6, 2]), 20_000, 20_000);
+        assert_eq!(answer.contributions[..2], [1, 2]);
+        assert_eq!(answer.returns[..2], [1, 2]);
+        assert_eq!(answer.adjustments, [0; 16]);
+    }
+
+    #[test]
     fn one_set_of_points_at_many_rates() {
         let operators = operators(&[(1000, 100_000_000), (3000, 200_000_000)]);
         let points = totals(&[65_036, 62_464]);
-        let adjusted = |pot_rate: u128, cap_rate: u128| {
+        let at_rates = |pot_rate: u128, cap_rate: u128| {
             let money = money(&operators, &points, pot_rate, cap_rate);
             money.adjustments[..2].to_vec()
         };
@@ -264,7 +309,7 @@ mod tests {
             (5000, 0, 0),
             (0, 10_000, 0),
         ] {
-            assert_eq!(adjusted(pot_rate, cap_rate), [first, -first]);
+            assert_eq!(at_rates(pot_rate, cap_rate), [first, -first]);
         }
     }
 }

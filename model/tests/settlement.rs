@@ -68,6 +68,7 @@ fn amounts(settlement: &Settlement, k: usize) -> [u128; 4] {
 /// An unmarked operator at one indicator.
 struct Place {
     operator: usize,
+    size: u128,
     s: u128,
     points: u128,
 }
@@ -88,6 +89,7 @@ fn check_indicator(book: &Book, all: &Points, number: usize) {
         .filter(unmarked)
         .map(|k| Place {
             operator: k,
+            size: book.operators[k].access_points,
             s: value_sum(indicator, &book.operators[k], &book.indices),
             points: points[k],
         })
@@ -110,8 +112,9 @@ fn check_places(places: &[Place], kind: Kind) {
 fn check_pair(a: &Place, b: &Place, both_better: bool) {
     // A smaller s never has fewer points, but for one unit left over.
     assert!(a.s > b.s || a.points + 1 >= b.points);
-    // Equal ones have it by the lower operator.
-    assert!(a.s != b.s || a.operator > b.operator || a.points >= b.points);
+    // Of equal ones the larger has it, of equal sizes the lower operator.
+    let is_first = a.size > b.size || (a.size == b.size && a.operator < b.operator);
+    assert!(a.s != b.s || !is_first || a.points >= b.points);
     // Follows 01: "Within the group points differ by at most a hundredth."
     assert!(!both_better || a.points.abs_diff(b.points) <= 1);
 }

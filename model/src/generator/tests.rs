@@ -434,8 +434,8 @@ impl Notes {
         self.note_if(wide, format!("sums past 64 bits at {number}"));
         // Equal values, more of them than units left over.
         let points = |place: usize| settlement.points.points[unmarked[place]][number];
-        let tie = (1..sums.len())
-            .any(|place| sums[place] == sums[place - 1] && points(place) + 1 == points(place - 1));
+        let one_apart = |place: usize| points(place).abs_diff(points(place - 1)) == 1;
+        let tie = (1..sums.len()).any(|place| sums[place] == sums[place - 1] && one_apart(place));
         self.note_if(tie, format!("tie at {number}"));
     }
 }
