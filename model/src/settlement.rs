@@ -1,5 +1,10 @@
 //! Settling a book: the refusals, then points, then money.
 
+#[cfg(test)]
+pub mod served;
+#[cfg(test)]
+mod ties;
+
 use crate::book::{Book, Operator, Setting, INDICATORS, NUMBERED_SETTINGS};
 use crate::calls::{lowest, Answer};
 use crate::indicators::{indicators, points, Points};
