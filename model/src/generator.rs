@@ -10,6 +10,7 @@ mod fees;
 mod gas;
 mod plan;
 mod refused;
+mod sizes;
 #[cfg(test)]
 mod tests;
 
@@ -32,6 +33,8 @@ pub enum Kind {
     Ends,
     /// Operators with equal values.
     Ties,
+    /// Operators of different sizes with equal remainders.
+    Sizes,
     /// Operators alike but for one figure that rises evenly, so that the middle
     /// one is at the mean.
     Mean,
@@ -81,7 +84,7 @@ const TURNS: [Kind; 25] = [
     Kind::Small,
     Kind::Mean,
     Kind::Ends,
-    Kind::Ties,
+    Kind::Sizes,
     Kind::Interruptions,
     Kind::NearlyAllMarked,
     Kind::Damaged,
@@ -136,6 +139,7 @@ pub fn filing_in(sector: Sector, seed: u64, number: u64) -> Vec<u8> {
     let mut draft = Draft::new(sector, Random::new(seed, number));
     match kind {
         Kind::Mean => draft.mean(),
+        Kind::Sizes => draft.sizes(),
         Kind::Incomplete => draft.incomplete(),
         Kind::WithoutSize => draft.without_size(),
         Kind::Damaged => return draft.damaged(),

@@ -25,7 +25,7 @@ pub const TURNS: [Kind; 24] = [
     Kind::Incomplete,
     Kind::Ends,
     Kind::Refused,
-    Kind::Ties,
+    Kind::Sizes,
     Kind::NearlyAllMarked,
     Kind::Incomplete,
     Kind::Foreign,

@@ -256,7 +256,7 @@ impl Draft {
     }
 
     /// So many operators, in any order.
-    fn some_operators(&mut self, count: usize) -> Vec<u8> {
+    pub fn some_operators(&mut self, count: usize) -> Vec<u8> {
         let mut numbers: Vec<u8> = (0..OPERATORS as u8).collect();
         self.random.shuffle(&mut numbers);
         numbers.truncate(count);

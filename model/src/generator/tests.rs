@@ -6,6 +6,7 @@ mod counts;
 mod fees;
 mod gas;
 mod marks;
+mod ties;
 
 use super::draft::MOST;
 use super::*;
@@ -44,6 +45,12 @@ fn book_of(sector: Sector, filing: &[u8]) -> Option<Book> {
     let mut book = Book::fresh_in(sector);
     let reading = read(&mut book, filing);
     reading.refusal.is_none().then_some(book)
+}
+
+/// The book of a filing for which a settlement is printed.
+fn settled_book(sector: Sector, filing: &[u8]) -> Option<Book> {
+    let settles = outcome(sector, filing).starts_with("operator ");
+    book_of(sector, filing).filter(|_| settles)
 }
 
 /// The fields of a filing that is read whole.
@@ -193,6 +200,7 @@ fn kinds_by_turns() {
         Kind::Digits,
         Kind::Ends,
         Kind::Ties,
+        Kind::Sizes,
         Kind::Mean,
         Kind::Interruptions,
         Kind::Withdrawals,

@@ -1,7 +1,7 @@
 //! The fees of years without connections, and seconds without weight: the generated
 //! filings have them, and mistakes about them would show in what is printed.
 
-use super::{are_shown, book_of, counted, fields_of, outcome};
+use super::{are_shown, counted, fields_of, settled_book};
 use crate::book::{Book, FRESH_INDEX, OPERATORS, YEARS};
 use crate::filing::Field;
 use crate::generator::filing_in;
@@ -192,8 +192,7 @@ fn figures_shown(book: &Book, fields: &[Field], ratio: &Ratio) -> BTreeSet<Strin
 
 /// What a filing shows that settles.
 fn settled_shown(sector: Sector, filing: &[u8]) -> Vec<String> {
-    let settles = outcome(sector, filing).starts_with("operator ");
-    let Some(book) = book_of(sector, filing).filter(|_| settles) else {
+    let Some(book) = settled_book(sector, filing) else {
         return Vec::new();
     };
     let fields = fields_of(sector, filing);
