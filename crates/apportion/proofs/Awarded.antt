@@ -16,30 +16,30 @@ use Rattle.apportion.proofs.Sums.{sum-set, sum-bound}
 use Rattle.apportion.proofs.Order.{Precedes, no-less, foremost-lt, foremost-first}
 
 -- who is served next
-abbrev pub next : List ℕ → ℕ
-next remaining = foremost remaining (length remaining)
+abbrev pub next : List ℕ → List ℕ → ℕ
+next sizes remaining = foremost sizes remaining (length remaining)
 
-next-lt : (remaining : List ℕ) → 0 < sum remaining → next remaining < length remaining
+next-lt : (sizes remaining : List ℕ) → 0 < sum remaining → next sizes remaining < length remaining
 unfolding sum
-next-lt [] pos = absurd (omega arith)
-next-lt (x ∷ remaining) pos = foremost-lt (x ∷ remaining) (suc (length remaining)) (omega arith)
+next-lt sizes [] pos = absurd (omega arith)
+next-lt sizes (x ∷ remaining) pos = foremost-lt sizes (x ∷ remaining) (suc (length remaining)) (omega arith)
 
 -- nobody has a larger remainder
-next-largest : (remaining : List ℕ) (j : ℕ) → j < length remaining → getD remaining j 0 ≤ getD remaining (next remaining) 0
-next-largest remaining j lt = go (ℕ-discrete j (next remaining))
+next-largest : (sizes remaining : List ℕ) (j : ℕ) → j < length remaining → getD remaining j 0 ≤ getD remaining (next sizes remaining) 0
+next-largest sizes remaining j lt = go (ℕ-discrete j (next sizes remaining))
   where
-    go : Dec (j ≡ next remaining) → getD remaining j 0 ≤ getD remaining (next remaining) 0
+    go : Dec (j ≡ next sizes remaining) → getD remaining j 0 ≤ getD remaining (next sizes remaining) 0
     go (yes same) = rw same (omega arith)
-    go (no other) = no-less _ _ _ _ (foremost-first remaining (length remaining) j lt other)
+    go (no other) = no-less _ _ _ _ _ _ (foremost-first sizes remaining (length remaining) j lt other)
 
 -- while something remains, the next to be served has some of it
-next-positive : (remaining : List ℕ) → 0 < sum remaining → 0 < getD remaining (next remaining) 0
-next-positive remaining pos = go (decLt 0 (getD remaining (next remaining) 0))
+next-positive : (sizes remaining : List ℕ) → 0 < sum remaining → 0 < getD remaining (next sizes remaining) 0
+next-positive sizes remaining pos = go (decLt 0 (getD remaining (next sizes remaining) 0))
   where
-    go : Dec (0 < getD remaining (next remaining) 0) → 0 < getD remaining (next remaining) 0
+    go : Dec (0 < getD remaining (next sizes remaining) 0) → 0 < getD remaining (next sizes remaining) 0
     go (yes h) = h
     go (no h) =
-        let all = sum-bound remaining 0 (λ j lt. omega (arith, next-largest remaining j lt, h)) in
+        let all = sum-bound remaining 0 (λ j lt. omega (arith, next-largest sizes remaining j lt, h)) in
         absurd (omega (arith, all, mul-zero (length remaining)))
 
 -- a list with one unit more at a place
@@ -59,7 +59,7 @@ pub sum-incremented : (shares : List ℕ) (i : ℕ) → i < length shares → su
 sum-incremented shares i lt = omega (arith, sum-set shares i (getD shares i 0 + 1) lt)
 
 -- remainders below s and the floors at the start; what remains and the shares now, with units still to hand out
-module _ (s : ℕ) (start base : List ℕ) where
+module _ (sizes : List ℕ) (s : ℕ) (start base : List ℕ) where
   -- place i has what it had at the start,
   abbrev pub Waits : List ℕ → List ℕ → ℕ → Type 0
   Waits remaining shares i = (getD shares i 0 ≡ getD base i 0) × (getD remaining i 0 ≡ getD start i 0)
@@ -75,102 +75,102 @@ module _ (s : ℕ) (start base : List ℕ) where
     pub enough : units * s ≤ sum remaining
     pub each : (i : ℕ) → i < length start → Waits remaining shares i ⊎ Served remaining shares i
     pub order : (i j : ℕ) → i < length start → j < length start → getD shares i 0 ≡ getD base i 0 + 1 → getD shares j 0 ≡ getD base j 0
-        → Precedes (getD start i 0) i (getD start j 0) j
+        → Precedes (getD start i 0) (getD sizes i 0) i (getD start j 0) (getD sizes j 0) j
 
   -- one unit is handed out
   module _ (units : ℕ) (remaining shares : List ℕ) (pos : 0 < s) (now : Serving (suc units) remaining shares) where
     left : 0 < sum remaining
     left = omega (arith, now .enough)
 
-    p-lt : next remaining < length start
-    p-lt = rw (← now .long) (next-lt remaining left)
+    p-lt : next sizes remaining < length start
+    p-lt = rw (← now .long) (next-lt sizes remaining left)
 
-    p-waits : Waits remaining shares (next remaining)
-    p-waits = go (now .each (next remaining) p-lt)
+    p-waits : Waits remaining shares (next sizes remaining)
+    p-waits = go (now .each (next sizes remaining) p-lt)
       where
-        go : Waits remaining shares (next remaining) ⊎ Served remaining shares (next remaining) → Waits remaining shares (next remaining)
+        go : Waits remaining shares (next sizes remaining) ⊎ Served remaining shares (next sizes remaining) → Waits remaining shares (next sizes remaining)
         go (inl w) = w
-        go (inr v) = absurd (omega (arith, next-positive remaining left, v .1))
+        go (inr v) = absurd (omega (arith, next-positive sizes remaining left, v .1))
 
-    pub place-lt : next remaining < length shares
+    pub place-lt : next sizes remaining < length shares
     place-lt = rw (now .as-long) p-lt
 
     abbrev rest : List ℕ
-    rest = set remaining (next remaining) 0
+    rest = set remaining (next sizes remaining) 0
 
     abbrev more : List ℕ
-    more = incremented shares (next remaining)
+    more = incremented shares (next sizes remaining)
 
-    each-next : (i : ℕ) → i < length start → Dec (i ≡ next remaining) → Waits rest more i ⊎ Served rest more i
+    each-next : (i : ℕ) → i < length start → Dec (i ≡ next sizes remaining) → Waits rest more i ⊎ Served rest more i
     each-next i lt (yes same) =
         rw same
         (inr (
-          incremented-same shares (next remaining) place-lt ∙ ap (λ (n : ℕ). n + 1) (p-waits .0),
-          getD-set-same remaining (next remaining) 0 0 (next-lt remaining left),
-          omega (arith, next-positive remaining left, p-waits .1),
+          incremented-same shares (next sizes remaining) place-lt ∙ ap (λ (n : ℕ). n + 1) (p-waits .0),
+          getD-set-same remaining (next sizes remaining) 0 0 (next-lt sizes remaining left),
+          omega (arith, next-positive sizes remaining left, p-waits .1),
         ))
-    each-next i lt (no other) = rw (incremented-other shares (next remaining) i other, getD-set-other remaining (next remaining) i 0 0 other) (now .each i lt)
+    each-next i lt (no other) = rw (incremented-other shares (next sizes remaining) i other, getD-set-other remaining (next sizes remaining) i 0 0 other) (now .each i lt)
 
-    small-next : (i : ℕ) → i < length start → Dec (i ≡ next remaining) → getD rest i 0 < s
-    small-next i lt (yes same) = rw (same, getD-set-same remaining (next remaining) 0 0 (next-lt remaining left)) pos
-    small-next i lt (no other) = rw (getD-set-other remaining (next remaining) i 0 0 other) (now .small i lt)
+    small-next : (i : ℕ) → i < length start → Dec (i ≡ next sizes remaining) → getD rest i 0 < s
+    small-next i lt (yes same) = rw (same, getD-set-same remaining (next sizes remaining) 0 0 (next-lt sizes remaining left)) pos
+    small-next i lt (no other) = rw (getD-set-other remaining (next sizes remaining) i 0 0 other) (now .small i lt)
 
-    order-next : (i j : ℕ) → i < length start → j < length start → Dec (i ≡ next remaining) → Dec (j ≡ next remaining)
-        → getD more i 0 ≡ getD base i 0 + 1 → getD more j 0 ≡ getD base j 0 → Precedes (getD start i 0) i (getD start j 0) j
+    order-next : (i j : ℕ) → i < length start → j < length start → Dec (i ≡ next sizes remaining) → Dec (j ≡ next sizes remaining)
+        → getD more i 0 ≡ getD base i 0 + 1 → getD more j 0 ≡ getD base j 0 → Precedes (getD start i 0) (getD sizes i 0) i (getD start j 0) (getD sizes j 0) j
     order-next i j li lj di (yes same) ei ej =
-        let one-more = incremented-same shares (next remaining) place-lt in
+        let one-more = incremented-same shares (next sizes remaining) place-lt in
         absurd (omega (arith, one-more, p-waits .0, rw same at ej))
     order-next i j li lj (yes same) (no other) ei ej =
-        rw (same, ← p-waits .1, ← unserved (now .each j lj)) (foremost-first remaining (length remaining) j (rw (now .long) lj) other)
+        rw (same, ← p-waits .1, ← unserved (now .each j lj)) (foremost-first sizes remaining (length remaining) j (rw (now .long) lj) other)
       where
         unserved : Waits remaining shares j ⊎ Served remaining shares j → getD remaining j 0 ≡ getD start j 0
         unserved (inl w) = w .1
-        unserved (inr v) = absurd (omega (arith, v .0, ej, incremented-other shares (next remaining) j other))
+        unserved (inr v) = absurd (omega (arith, v .0, ej, incremented-other shares (next sizes remaining) j other))
     order-next i j li lj (no before) (no other) ei ej =
         now .order i j li lj
-        (sym (incremented-other shares (next remaining) i before) ∙ ei)
-        (sym (incremented-other shares (next remaining) j other) ∙ ej)
+        (sym (incremented-other shares (next sizes remaining) i before) ∙ ei)
+        (sym (incremented-other shares (next sizes remaining) j other) ∙ ej)
 
     pub serve : Serving units rest more
     serve =
         record {
-          long = length-set remaining (next remaining) 0 ∙ now .long;
-          as-long = length-incremented shares (next remaining) ∙ now .as-long;
-          small = λ i lt. small-next i lt (ℕ-discrete i (next remaining));
+          long = length-set remaining (next sizes remaining) 0 ∙ now .long;
+          as-long = length-incremented shares (next sizes remaining) ∙ now .as-long;
+          small = λ i lt. small-next i lt (ℕ-discrete i (next sizes remaining));
           enough =
-              omega (arith, now .enough, now .small (next remaining) p-lt, sum-set remaining (next remaining) 0 (next-lt remaining left));
-          each = λ i lt. each-next i lt (ℕ-discrete i (next remaining));
-          order = λ i j li lj. order-next i j li lj (ℕ-discrete i (next remaining)) (ℕ-discrete j (next remaining));
+              omega (arith, now .enough, now .small (next sizes remaining) p-lt, sum-set remaining (next sizes remaining) 0 (next-lt sizes remaining left));
+          each = λ i lt. each-next i lt (ℕ-discrete i (next sizes remaining));
+          order = λ i j li lj. order-next i j li lj (ℕ-discrete i (next sizes remaining)) (ℕ-discrete j (next sizes remaining));
         }
 
   -- all units are handed out
   pub awarded : (units : ℕ) (remaining shares : List ℕ) → 0 < s → Serving units remaining shares
-      → (rest : List ℕ) × Serving 0 rest (award units remaining shares)
+      → (rest : List ℕ) × Serving 0 rest (award sizes units remaining shares)
   unfolding award
   awarded zero remaining shares pos now = (remaining, now)
   awarded (suc units) remaining shares pos now = awarded units _ _ pos (serve units remaining shares pos now)
 
   pub award-sum : (units : ℕ) (remaining shares : List ℕ) → 0 < s → Serving units remaining shares
-      → sum (award units remaining shares) ≡ sum shares + units
+      → sum (award sizes units remaining shares) ≡ sum shares + units
   unfolding award
   award-sum zero remaining shares pos now = omega arith
   award-sum (suc units) remaining shares pos now =
       omega (
         arith,
         award-sum units _ _ pos (serve units remaining shares pos now),
-        sum-incremented shares (next remaining) (place-lt units remaining shares pos now),
+        sum-incremented shares (next sizes remaining) (place-lt units remaining shares pos now),
       )
 
 -- one unit handed out, as the loop does it
-pub award-step : (units n place : ℕ) (remaining shares : List ℕ) → 0 < units → length remaining ≡ n → place ≡ foremost remaining n
-    → award (units - 1) (set remaining place 0) (set shares place (getD shares place 0 + 1)) ≡ award units remaining shares
+pub award-step : (units n place : ℕ) (sizes remaining shares : List ℕ) → 0 < units → length remaining ≡ n → place ≡ foremost sizes remaining n
+    → award sizes (units - 1) (set remaining place 0) (set shares place (getD shares place 0 + 1)) ≡ award sizes units remaining shares
 unfolding award
-award-step zero n place remaining shares pos long e = absurd (omega arith)
-award-step (suc units) n place remaining shares pos long e = rw (sub-one (suc units), e, ← long) refl
+award-step zero n place sizes remaining shares pos long e = absurd (omega arith)
+award-step (suc units) n place sizes remaining shares pos long e = rw (sub-one (suc units), e, ← long) refl
 
 -- handing out what is left now ends as handing out all units at the start, over n places
-pub record HandingOut (n units : ℕ) (remaining₀ shares₀ : List ℕ) (left : ℕ) (remaining shares : List ℕ) : Type 0 where
+pub record HandingOut (n units : ℕ) (sizes remaining₀ shares₀ : List ℕ) (left : ℕ) (remaining shares : List ℕ) : Type 0 where
   pub shares-long : length shares ≡ n
   pub remaining-long : length remaining ≡ n
   pub units-kept : sum shares + left ≡ sum shares₀ + units
-  pub ends-alike : award left remaining shares ≡ award units remaining₀ shares₀
+  pub ends-alike : award sizes left remaining shares ≡ award sizes units remaining₀ shares₀

@@ -33,14 +33,14 @@ module _ (T : ℕ) (weights : List ℕ) where
   leftOver = T - sum (floors T weights)
 
 -- the two cases of the definition
-pub share-none : (T : ℕ) (weights : List ℕ) → sum weights ≡ 0 → share T weights ≡ map (λ (w : ℕ). 0) weights
+pub share-none : (T : ℕ) (weights sizes : List ℕ) → sum weights ≡ 0 → share T weights sizes ≡ map (λ (w : ℕ). 0) weights
 unfolding share
-share-none T weights e = rw (eq-eqb (sum weights) 0 e) refl
+share-none T weights sizes e = rw (eq-eqb (sum weights) 0 e) refl
 
-pub share-some : (T : ℕ) (weights : List ℕ) → 0 < sum weights
-    → share T weights ≡ award (leftOver T weights) (remainders T weights) (floors T weights)
+pub share-some : (T : ℕ) (weights sizes : List ℕ) → 0 < sum weights
+    → share T weights sizes ≡ award sizes (leftOver T weights) (remainders T weights) (floors T weights)
 unfolding share
-share-some T weights pos = rw (ne-eqb (sum weights) 0 (λ e. omega arith)) refl
+share-some T weights sizes pos = rw (ne-eqb (sum weights) 0 (λ e. omega arith)) refl
 
 module _ (T : ℕ) (weights : List ℕ) where
   pub floor-at : (i : ℕ) → i < length weights → floorAt T weights i ≡ T * weightAt T weights i / sum weights
@@ -64,6 +64,11 @@ module _ (T : ℕ) (weights : List ℕ) where
   unfolding floors remainders
   made-up = divisions T (sum weights) weights
 
+  -- T × weight, divided and put together again
+  put-together : (i : ℕ) → i < length weights
+      → floorAt T weights i * sum weights + remainderAt T weights i ≡ T * weightAt T weights i
+  put-together i lt = rw (floor-at i lt, remainder-at i lt) (div-add-mod' (T * weightAt T weights i) (sum weights))
+
   module _ (pos : 0 < sum weights) where
     pub floors-le : sum (floors T weights) ≤ T
     floors-le = le-of-mul-le-mul-right {k = sum weights} (omega (arith, made-up)) pos
@@ -73,22 +78,24 @@ module _ (T : ℕ) (weights : List ℕ) where
     units-left =
         omega (arith, made-up, ap (λ (n : ℕ). n * sum weights) (add-sub-of-le floors-le))
 
-    started : Serving (sum weights) (remainders T weights) (floors T weights) (leftOver T weights) (remainders T weights) (floors T weights)
+  -- ties by sizes
+  module _ (sizes : List ℕ) (pos : 0 < sum weights) where
+    started : Serving sizes (sum weights) (remainders T weights) (floors T weights) (leftOver T weights) (remainders T weights) (floors T weights)
     started =
         record {
           long = refl;
           as-long = length-floors ∙ sym length-remainders;
           small = λ i lt. rw (remainder-at i (rw (← length-remainders) lt)) (mod-lt _ pos);
-          enough = omega (arith, units-left);
+          enough = omega (arith, units-left pos);
           each = λ i lt. inl (refl, refl);
           order = λ i j li lj ei ej. absurd (omega arith);
         }
 
     abbrev out : List ℕ
-    out = award (leftOver T weights) (remainders T weights) (floors T weights)
+    out = award sizes (leftOver T weights) (remainders T weights) (floors T weights)
 
-    ended : (rest : List ℕ) × Serving (sum weights) (remainders T weights) (floors T weights) 0 rest out
-    ended = awarded _ _ _ (leftOver T weights) _ _ pos started
+    ended : (rest : List ℕ) × Serving sizes (sum weights) (remainders T weights) (floors T weights) 0 rest out
+    ended = awarded _ _ _ _ (leftOver T weights) _ _ pos started
 
     -- each place has its floor, or one more and a remainder above 0
     served : (i : ℕ) → i < length weights
@@ -96,16 +103,11 @@ module _ (T : ℕ) (weights : List ℕ) where
     served i lt = ⊎-elim (λ w. inl (w .0)) (λ v. inr (v .0, v .2)) (ended .1 .each i (rw length-remainders lt))
 
     ahead : (i j : ℕ) → i < length weights → j < length weights → getD out i 0 ≡ floorAt T weights i + 1 → getD out j 0 ≡ floorAt T weights j
-        → Precedes (remainderAt T weights i) i (remainderAt T weights j) j
+        → Precedes (remainderAt T weights i) (getD sizes i 0) i (remainderAt T weights j) (getD sizes j 0) j
     ahead i j li lj = ended .1 .order i j (rw length-remainders li) (rw length-remainders lj)
 
-    -- T × weight, divided and put together again
-    put-together : (i : ℕ) → i < length weights
-        → floorAt T weights i * sum weights + remainderAt T weights i ≡ T * weightAt T weights i
-    put-together i lt = rw (floor-at i lt, remainder-at i lt) (div-add-mod' (T * weightAt T weights i) (sum weights))
-
     whole-some : sum out ≡ T
-    whole-some = omega (arith, award-sum _ _ _ (leftOver T weights) _ _ pos started, floors-le)
+    whole-some = omega (arith, award-sum _ _ _ _ (leftOver T weights) _ _ pos started, floors-le pos)
 
     none-some : (i : ℕ) → i < length weights → weightAt T weights i ≡ 0 → getD out i 0 ≡ 0
     none-some i lt e =
@@ -128,29 +130,29 @@ module _ (T : ℕ) (weights : List ℕ) where
         let lower : floorAt T weights j ≤ getD out j 0 = ⊎-elim (λ w. omega (arith, w)) (λ v. omega (arith, v .0)) (served j lj) in
         omega arith
 
-    some : Shared T weights
+    some : Shared T weights sizes
     some =
         record {
-          long = rw (share-some T weights pos) (ended .1 .as-long ∙ length-remainders);
-          whole = λ _. rw (share-some T weights pos) whole-some;
-          floor-or-next = λ i lt. rw (share-some T weights pos) (⊎-elim (λ w. inl w) (λ v. inr (v .0)) (served i lt));
-          order = λ i j li lj. rw (share-some T weights pos) (ahead i j li lj);
-          none = λ i lt e. rw (share-some T weights pos) (none-some i lt e);
-          within = λ le i lt. rw (share-some T weights pos) (within-some le i lt);
-          alike = λ i j li lj e. rw (share-some T weights pos) (alike-some i j li lj e);
+          long = rw (share-some T weights sizes pos) (ended .1 .as-long ∙ length-remainders);
+          whole = λ _. rw (share-some T weights sizes pos) whole-some;
+          floor-or-next = λ i lt. rw (share-some T weights sizes pos) (⊎-elim (λ w. inl w) (λ v. inr (v .0)) (served i lt));
+          order = λ i j li lj. rw (share-some T weights sizes pos) (ahead i j li lj);
+          none = λ i lt e. rw (share-some T weights sizes pos) (none-some i lt e);
+          within = λ le i lt. rw (share-some T weights sizes pos) (within-some le i lt);
+          alike = λ i j li lj e. rw (share-some T weights sizes pos) (alike-some i j li lj e);
         }
 
-  module _ (zero-sum : sum weights ≡ 0) where
-    zero-share : (i : ℕ) → i < length weights → getD (share T weights) i 0 ≡ 0
-    zero-share i lt = rw (share-none T weights zero-sum) (map-at _ weights i lt)
+  module _ (sizes : List ℕ) (zero-sum : sum weights ≡ 0) where
+    zero-share : (i : ℕ) → i < length weights → getD (share T weights sizes) i 0 ≡ 0
+    zero-share i lt = rw (share-none T weights sizes zero-sum) (map-at _ weights i lt)
 
     zero-floor : (i : ℕ) → i < length weights → floorAt T weights i ≡ 0
     zero-floor i lt = rw (floor-at i lt, zero-sum) (div-zero _)
 
-    none-shared : Shared T weights
+    none-shared : Shared T weights sizes
     none-shared =
         record {
-          long = rw (share-none T weights zero-sum) (length-map weights _);
+          long = rw (share-none T weights sizes zero-sum) (length-map weights _);
           whole = λ pos. absurd (omega (arith, pos, zero-sum));
           floor-or-next = λ i lt. inl (zero-share i lt ∙ sym (zero-floor i lt));
           order = λ i j li lj ei ej. absurd (omega (arith, zero-share i li, ei));
@@ -159,12 +161,12 @@ module _ (T : ℕ) (weights : List ℕ) where
           alike = λ i j li lj e. omega (arith, zero-share i li);
         }
 
-  pub shared : Shared T weights
-  shared = go (decLt 0 (sum weights))
+  pub shared : (sizes : List ℕ) → Shared T weights sizes
+  shared sizes = go (decLt 0 (sum weights))
     where
-      go : Dec (0 < sum weights) → Shared T weights
-      go (yes pos) = some pos
-      go (no not-pos) = none-shared (omega (arith, not-pos))
+      go : Dec (0 < sum weights) → Shared T weights sizes
+      go (yes pos) = some sizes pos
+      go (no not-pos) = none-shared sizes (omega (arith, not-pos))
 
 -- the floors that a division by the sum gives add up to at most the total
 pub floors-below : (T : ℕ) (weights divided : List ℕ) (s : ℕ) → s ≡ sum weights → (s ≡ 0 → ⊥) → divided ≡ floors T weights → sum divided ≤ T

@@ -11,10 +11,10 @@ struct Divisions {
     remainders: [u64; 16],
 }
 
-// The shares of t by weights. Sixteen weights of money or points stay far below the bounds.
-pub fn share(t: u64, weights: [u64; 16]) -> [u64; 16]
+// The shares of t by weights; of equal remainders the larger size comes first. Sixteen weights of money or points stay far below the bounds.
+pub fn share(t: u64, weights: [u64; 16], sizes: [u64; 16]) -> [u64; 16]
     requires { ⌜ (t < 2 ^ 62) × (sum weights < 2 ^ 62) ⌝ }
-    ensures { λ r. ⌜ r ≡ Share·share t weights ⌝ }
+    ensures { λ r. ⌜ r ≡ Share·share t weights sizes ⌝ }
 {
     let s = sum_of(weights);
     if s == 0 {
@@ -22,7 +22,7 @@ pub fn share(t: u64, weights: [u64; 16]) -> [u64; 16]
     }
     let d = divide_each(t, weights, s);
     let whole = d.floors;
-    award_units(t - sum_of(whole), d)
+    award_units(t - sum_of(whole), d, sizes)
 }
 
 // The sum of sixteen numbers.
@@ -60,15 +60,15 @@ fn divide_each(t: u64, weights: [u64; 16], s: u64) -> Divisions
 }
 
 // Gives one unit after the other to the foremost place, and spends its remainder.
-fn award_units(units: u64, d: Divisions) -> [u64; 16]
+fn award_units(units: u64, d: Divisions, sizes: [u64; 16]) -> [u64; 16]
     requires { ⌜ (sum (d .floors) + units < 2 ^ 62) ⌝ }
-    ensures { λ r. ⌜ r ≡ award units (d .remainders) (d .floors) ⌝ }
+    ensures { λ r. ⌜ r ≡ award sizes units (d .remainders) (d .floors) ⌝ }
 {
     let mut shares = d.floors;
     let mut remaining = d.remainders;
     let mut left = units;
     while 0 < left {
-        let place = foremost_place(&remaining);
+        let place = foremost_place(&remaining, &sizes);
         shares[place] += 1;
         remaining[place] = 0;
         left -= 1;
@@ -77,15 +77,15 @@ fn award_units(units: u64, d: Divisions) -> [u64; 16]
 }
 
 // The place that is served first. Its remainder is kept beside it.
-fn foremost_place(remaining: &[u64; 16]) -> usize
-    ensures { λ r. ⌜ (r ≡ foremost (now (remaining .entry)) 16) × (r < 16) ⌝ }
+fn foremost_place(remaining: &[u64; 16], sizes: &[u64; 16]) -> usize
+    ensures { λ r. ⌜ (r ≡ foremost (now (sizes .entry)) (now (remaining .entry)) 16) × (r < 16) ⌝ }
 {
     let mut best = 0;
     let mut top = remaining[0];
     let mut i = 1;
     while i < 16 {
         let next = remaining[i];
-        if precedes(next, i, top, best) {
+        if precedes(next, sizes[i], i, top, sizes[best], best) {
             best = i;
             top = next;
         }
@@ -94,14 +94,21 @@ fn foremost_place(remaining: &[u64; 16]) -> usize
     best
 }
 
-// Whether place i with remainder r is served before place j with remainder q: the larger remainder, at a tie the lower place.
-fn precedes(r: u64, i: usize, q: u64, j: usize) -> bool
-    ensures { λ result. ⌜ result ≡ Share·precedes r i q j ⌝ }
+// Whether place i with remainder r and size x is served before place j with remainder q and size y: the larger remainder, at a tie the larger
+// size, and only then the lower place.
+fn precedes(r: u64, x: u64, i: usize, q: u64, y: u64, j: usize) -> bool
+    ensures { λ result. ⌜ result ≡ Share·precedes r x i q y j ⌝ }
 {
     if q < r {
         return true;
     }
     if r < q {
+        return false;
+    }
+    if y < x {
+        return true;
+    }
+    if x < y {
         return false;
     }
     i < j

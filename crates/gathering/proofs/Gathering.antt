@@ -34,16 +34,16 @@ use Rattle.values.specs.Bounds.{pointsMost, poolMost}
 use Rattle.values.proofs.Tables.{length-each, each-at, each-same}
 
 -- no share passes the total
-pub share-le : (T : ℕ) (list : List ℕ) (place : ℕ) → getD (share T list) place 0 ≤ T
-share-le T list place = go (decLt 0 (sum list)) (decLt place (length list))
+pub share-le : (T : ℕ) (list sizes : List ℕ) (place : ℕ) → getD (share T list sizes) place 0 ≤ T
+share-le T list sizes place = go (decLt 0 (sum list)) (decLt place (length list))
   where
-    go : Dec (0 < sum list) → Dec (place < length list) → getD (share T list) place 0 ≤ T
-    go (yes some) inside = omega (arith, element-le (share T list) place, shared T list .whole some)
+    go : Dec (0 < sum list) → Dec (place < length list) → getD (share T list sizes) place 0 ≤ T
+    go (yes some) inside = omega (arith, element-le (share T list sizes) place, shared T list sizes .whole some)
     go (no none) (yes inside) =
-        omega (arith, shared T list .none place inside (omega (arith, element-le list place, none)))
+        omega (arith, shared T list sizes .none place inside (omega (arith, element-le list place, none)))
     go (no none) (no outside) =
-        let past : length (share T list) ≤ place = omega (arith, shared T list .long, outside) in
-        rw (List·getD-eq-default (share T list) 0 past) (omega arith)
+        let past : length (share T list sizes) ≤ place = omega (arith, shared T list sizes .long, outside) in
+        rw (List·getD-eq-default (share T list sizes) 0 past) (omega arith)
 
 points-most : (number : ℕ) → number < indicatorCount → numbered number .points ≤ pointsMost
 unfolding electricity
@@ -59,7 +59,7 @@ pool-le b number lt =
 
 pub point-le : (b : Book) (number : ℕ) → number < indicatorCount → (operator : ℕ) → getD (points b (numbered number)) operator 0 ≤ poolMost
 unfolding points
-point-le b number lt operator = le-trans (share-le _ _ operator) (pool-le b number lt)
+point-le b number lt operator = le-trans (share-le _ _ _ operator) (pool-le b number lt)
 
 -- the noughts of a number that a kind has no indicator of
 zeros : (n k : ℕ) → getD (replicate n 0) k 0 ≤ 0

@@ -14,6 +14,7 @@ use Rattle.book.specs.declared.Book.{Book}
 use Rattle.book.specs.Book.{withFigures, isJoined, isMarked, settingOf, figureOf, indexOf, inRange}
 use Rattle.calls.specs.Indicators.{Measure, frequency, duration, fee, Indicator, electricity, takesMark}
 use Rattle.values.specs.Indicator.{numberedIn, feeDivisor, yearlyValue, threeYears, reliableMask, scores, pool}
+use Rattle.values.specs.Operators.{sizesOf}
 use Rattle.values.proofs.Tables.{each-same}
 use Rattle.apportion.specs.Share.{share}
 use Rattle.indicators.specs.Points.{points, allPoints, poolNumbered, pointsNumbered, poolsOfAll, rows, pointsOfAll}
@@ -58,7 +59,7 @@ module _ (b : Book) (figures : List ℕ) (same : SameMeasures b (withFigures b f
       each-same _ _ (λ operator lo. ap (λ (n : ℕ). cond (has (reliableMask b indicator) operator) n 0) (three-same (indicator .measure) below operator lo))
 
   points-same : (indicator : Indicator) → Measured (indicator .measure) → points c indicator ≡ points b indicator
-  unfolding points pool reliableMask
+  unfolding points pool reliableMask settingOf
   points-same indicator below = rw (scores-same indicator below) refl
 
   all-same : (indicators : List Indicator) → AllMeasured indicators → (operator : ℕ) → allPoints c indicators operator ≡ allPoints b indicators operator
@@ -93,7 +94,7 @@ module _ (b : Book) (figures : List ℕ) (same : SameMeasures b (withFigures b f
   module _ (indicators : List Indicator) (below : AllMeasured indicators) where
     returns-same : returns c indicators ≡ returns b indicators
     unfolding returns pot settingOf
-    returns-same = ap (share (pot b)) (each-same _ _ (λ operator lo. ap (λ (n : ℕ). settingOf b operator 1 * n) (all-same indicators below operator)))
+    returns-same = ap (λ (weights : List ℕ). share (pot b) weights (sizesOf b)) (each-same _ _ (λ operator lo. ap (λ (n : ℕ). settingOf b operator 1 * n) (all-same indicators below operator)))
 
     settlement-same : settlementBy c indicators ≡ settlementBy b indicators
     unfolding settlementBy poolsOfAll poolNumbered pool reliableMask pot contributions limits adjustments settingOf

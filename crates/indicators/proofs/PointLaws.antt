@@ -21,7 +21,7 @@ use Rattle.apportion.specs.Share.{share}
 use Rattle.apportion.specs.Laws.{Shared}
 use Rattle.apportion.proofs.Sums.{element-le}
 use Rattle.apportion.proofs.Shared.{shared}
-use Rattle.values.specs.Operators.{count}
+use Rattle.values.specs.Operators.{count, sizesOf}
 use Rattle.calls.specs.Indicators.{Indicator}
 use Rattle.values.specs.Indicator.{reliableMask, pool, scores}
 use Rattle.indicators.specs.Points.{exponentWeight, isBetter, isLevelled, weights, points}
@@ -43,8 +43,8 @@ module _ (b : Book) (indicator : Indicator) where
   weighed = weights (indicator .measure) (reliableMask b indicator) (scores b indicator)
 
   -- the points are shares of the pool
-  points-shared : Shared (pool b indicator) weighed
-  points-shared = shared (pool b indicator) weighed
+  points-shared : Shared (pool b indicator) weighed (sizesOf b)
+  points-shared = shared (pool b indicator) weighed (sizesOf b)
 
   pub points-length : length (points b indicator) ≡ 16
   unfolding points
@@ -127,12 +127,12 @@ module _ (b : Book) (indicator : Indicator) where
     unfolding points
     whole = go (decLt 0 (sum weighed))
       where
-        go : Dec (0 < sum weighed) → sum (share (pool b indicator) weighed) ≡ pool b indicator
+        go : Dec (0 < sum weighed) → sum (share (pool b indicator) weighed (sizesOf b)) ≡ pool b indicator
         go (yes pos) = points-shared .whole pos
         go (no none) =
             let noughts : (i : ℕ) → getD weighed i 0 ≡ 0 = λ i. omega (arith, none, element-le weighed i) in
             let nobody : ones (reliableMask b indicator) ≡ 0 = nobody-weighs noughts in
-            let shares : sum (share (pool b indicator) weighed) ≡ 0 =
+            let shares : sum (share (pool b indicator) weighed (sizesOf b)) ≡ 0 =
             sum-none _ (λ i lt. points-shared .none i (rw (points-shared .long) at lt) (noughts i)) in
             shares ∙ sym (pool-none nobody)
 

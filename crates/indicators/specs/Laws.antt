@@ -15,7 +15,7 @@ use Rattle.apportion.specs.Sum.{sum}
 use Rattle.apportion.specs.Share.{share}
 use Rattle.exact.specs.Division.{over}
 use Rattle.exponent.specs.Weight.{firstWeight}
-use Rattle.values.specs.Operators.{count}
+use Rattle.values.specs.Operators.{count, sizesOf}
 use Rattle.calls.specs.Indicators.{Indicator}
 use Rattle.values.specs.Indicator.{reliableMask, pool, scores}
 use Rattle.values.specs.Sequence.{valuesByYear, sumsOfYears}
@@ -50,7 +50,7 @@ pub record InSequence (b : Book) (indicator : Indicator) : Type 0 where
   -- the five in turn are the weights of an A indicator, by which its pool is shared
   pub weights-are : isLevelled (indicator .measure) ≡ true
       → inSequence b indicator ≡ weights (indicator .measure) (reliableMask b indicator) (scores b indicator)
-  pub points-are : isLevelled (indicator .measure) ≡ true → points b indicator ≡ share (pool b indicator) (inSequence b indicator)
+  pub points-are : isLevelled (indicator .measure) ≡ true → points b indicator ≡ share (pool b indicator) (inSequence b indicator) (sizesOf b)
   -- somebody who takes no part: step 2 gives the sum 0, step 4 so the first weight, and step 5 the weight 0
   pub no-sum : (operator : ℕ) → operator < operators → has (reliableMask b indicator) operator ≡ false
       → getD (sumsIn b indicator) operator 0 ≡ 0

@@ -13,7 +13,7 @@ use Rattle.apportion.specs.Sum.{sum}
 use Rattle.apportion.specs.Share.{share}
 use Rattle.exact.specs.Division.{over}
 use Rattle.exponent.specs.Weight.{weightOf}
-use Rattle.values.specs.Operators.{table, each, count}
+use Rattle.values.specs.Operators.{table, each, count, sizesOf}
 use Rattle.calls.specs.Indicators.{Measure, frequency, duration, fee, Indicator, takesMark}
 use Rattle.values.specs.Indicator.{numberedIn, reliableMask, pool, scores}
 
@@ -58,7 +58,7 @@ weights measure mask scores = each (λ (operator : ℕ). cond (has mask operator
 
 -- the pool shared by the weights
 unfoldable pub points : Book → Indicator → List ℕ
-points b indicator = share (pool b indicator) (weights (indicator .measure) (reliableMask b indicator) (scores b indicator))
+points b indicator = share (pool b indicator) (weights (indicator .measure) (reliableMask b indicator) (scores b indicator)) (sizesOf b)
 
 -- an operator's points over a list of indicators
 unfoldable pub allPoints : Book → List Indicator → ℕ → ℕ

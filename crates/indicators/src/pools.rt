@@ -16,9 +16,10 @@ use calls::SETTING_PLACES;
 use exact::divide;
 use values::reliable_mask;
 use values::scores_of;
+use values::settings_of;
 use weighing::ones_of;
 
-// In hundredths, by operator.
+// In hundredths, by operator. Between equal remainders access points decide.
 pub fn points_of(
     joined: u16,
     marks: &[u16; INDICATORS],
@@ -33,6 +34,7 @@ pub fn points_of(
     apportion::share(
         pool_of(joined, marks, number),
         weights_of(joined, marks, settings, figures, indices, number),
+        settings_of(settings, 1),
     )
 }
 

@@ -1,11 +1,16 @@
 -- Every marked case holds: each is computed from the definitions.
 -- Assumes nothing.
-use Prim.Native.Nat.{ℕ, _≤_}
+use Prim.Native.Nat.{ℕ, _+_, _≤_}
+use mathlib.Core.Bool.{false}
 use mathlib.Core.Path.{_≡_, refl, sym, ap, _∙_}
-use mathlib.Core.List.{List, [], _∷_, map}
+use mathlib.Core.List.{List, [], _∷_, _++_, map}
 use native.Mathlib.Omega.{arith}
 use lib.IntN.{ℤ, pos, negℤ}
-use lib.ListN.{length, take, getD}
+use lib.Dec.{ltb}
+use lib.ListN.{length, take, getD, set}
+use Rattle.apportion.specs.Sum.{sum}
+use Rattle.apportion.specs.Share.{floors, remainders, precedes, foremost, award, share}
+use Rattle.apportion.proofs.Order.{tied, foremost-one, foremost-more}
 use Rattle.calls.specs.Limits.{years}
 use Rattle.calls.specs.Indicators.{Measure, Indicator, electricity, gas}
 use Rattle.values.specs.Operators.{table}
@@ -14,6 +19,7 @@ use Rattle.calls.specs.Answers.{Said, refused-by, accepted, Acceptance, yes-sai
 use Rattle.book.specs.declared.Book.{Book}
 use Rattle.book.specs.Book.{freshBook, figureOf}
 use Rattle.settlement.specs.Settlement.{settled, settledGas, settledBy}
+use Rattle.settlement.specs.Laws.{pointsAt}
 use Rattle.filing.specs.Reader.{reading, readAs, read}
 use Rattle.filing.proofs.Opened.{filing-opened}
 use Rattle.text.proofs.Opened.{text-opened}
@@ -27,7 +33,7 @@ use Rattle.calls.specs.declared.Call.{Call}
 use Rattle.calls.specs.declared.Call.the-variants.{Join, Setting, Amount, Mark}
 use Rattle.writer.specs.Writer.{writerAnswer}
 use Rattle.writer.proofs.Opened.{writer-opened}
-use Rattle.marked.specs.Marked.{lasting, gasSaidTo, gasCases, gasSettled, caseM, filingM, linesM, newcomer, sixMarks, losing, growing, frequenciesOf, feesAlone, feesOf, twoAdjusted, refusedFilings, marked, All}
+use Rattle.marked.specs.Marked.{lasting, gasSaidTo, gasCases, gasSettled, caseM, filingM, linesM, newcomer, sixMarks, losing, growing, frequenciesOf, feesAlone, feesOf, twoAdjusted, potOfTwo, cabinsOfTwo, cutThree, refusedFilings, tiedCases, marked, All}
 use Rattle.marked.proofs.AppliedLaws.{appliedFrom, answersFrom, book-of, answers-of}
 
 -- what a call is answered after operator 0 has joined
@@ -80,12 +86,17 @@ output-m : outputOf filingM ≡ linesM
 unfolding outputAs printedAs readingText settlementTextAs onAnswer
 output-m = rw (read-m, settles-m) printed-m
 
+-- what is taken of the book that calls leave
+after : {A : Type 0} {value : A} (kind : List Indicator) (taken : Book → A) (calls : List Call) → taken (appliedFrom kind freshBook calls) ≡ value
+    → taken (bookOf kind calls) ≡ value
+after kind taken calls same = ap taken (book-of kind calls) ∙ same
+
 -- M with cap rate 50, the two networks, and fees in a year without connections: what two operators are adjusted by
 abbrev adjusted : Book → List ℤ
 adjusted b = take 2 (settled b .settlement .adjustments)
 
 adjusted-after : {amounts : List ℤ} (calls : List Call) → adjusted (appliedFrom electricity freshBook calls) ≡ amounts → twoAdjusted calls ≡ amounts
-adjusted-after calls same = ap adjusted (book-of electricity calls) ∙ same
+adjusted-after calls same = after electricity adjusted calls same
 
 cut-m : twoAdjusted (caseM 50) ≡ pos 5000 ∷ negℤ (pos 5000) ∷ []
 unfolding output-opened appliedFrom
@@ -105,7 +116,7 @@ adjusted-fees-indexed = adjusted-after (feesAlone 12500) refl
 
 -- what settling says of the book that calls leave
 said-after : {answer : Said Acceptance} (calls : List Call) → settled (appliedFrom electricity freshBook calls) .said ≡ answer → settled (bookOf electricity calls) .said ≡ answer
-said-after calls same = ap (λ (b : Book). settled b .said) (book-of electricity calls) ∙ same
+said-after calls same = after electricity (λ (b : Book). settled b .said) calls same
 
 marked-six : settled (bookOf electricity sixMarks) .said ≡ refused-by 12
 unfolding output-opened appliedFrom
@@ -150,7 +161,7 @@ fees-by-year index = ap (λ (b : Book). table years (yearlyValue b (numbered 4 .
 value-after : {value : ℕ} (kind : List Indicator) (measure : Measure) (figure amount : ℕ)
     → yearlyValue (appliedFrom kind freshBook (Join 0 ∷ Amount 0 0 figure 0 amount ∷ [])) measure 0 0 ≡ value
     → yearlyValue (bookOf kind (Join 0 ∷ Amount 0 0 figure 0 amount ∷ [])) measure 0 0 ≡ value
-value-after kind measure figure amount same = ap (λ (b : Book). yearlyValue b measure 0 0) (book-of kind (Join 0 ∷ Amount 0 0 figure 0 amount ∷ [])) ∙ same
+value-after kind measure figure amount same = after kind (λ (b : Book). yearlyValue b measure 0 0) (Join 0 ∷ Amount 0 0 figure 0 amount ∷ []) same
 
 -- seconds without weight
 undivided : (yearlyValue (bookOf electricity (Join 0 ∷ Amount 0 0 1 0 5000 ∷ [])) (numbered 1 .measure) 0 0 ≡ 0)
@@ -164,15 +175,12 @@ unfolding filing-opened writer-opened
 join-too-long = refl
 
 -- the same of gas
-gas-after : {A : Type 0} {value : A} (take-of : Book → A) (calls : List Call) → take-of (appliedFrom gas freshBook calls) ≡ value → take-of (bookOf gas calls) ≡ value
-gas-after take-of calls same = ap take-of (book-of gas calls) ∙ same
-
 gas-said : {answer : Said Acceptance} (more : List Call) → settledBy (appliedFrom gas freshBook (Join 0 ∷ more)) gas .said ≡ answer → gasSettled more ≡ answer
-gas-said more same = gas-after (λ (b : Book). settledGas b .said) (Join 0 ∷ more) same
+gas-said more same = after gas (λ (b : Book). settledGas b .said) (Join 0 ∷ more) same
 
 gas-pools : settledGas (bookOf gas (Join 0 ∷ Setting 0 1 1 ∷ Mark 0 4 0 ∷ [])) .settlement .pools ≡ 0 ∷ 0 ∷ 0 ∷ 0 ∷ 6000 ∷ 0 ∷ []
 unfolding output-opened appliedFrom
-gas-pools = gas-after (λ (b : Book). settledGas b .settlement .pools) (Join 0 ∷ Setting 0 1 1 ∷ Mark 0 4 0 ∷ []) refl
+gas-pools = after gas (λ (b : Book). settledGas b .settlement .pools) (Join 0 ∷ Setting 0 1 1 ∷ Mark 0 4 0 ∷ []) refl
 
 -- answers to gas calls, in the order of the list
 gas-barred : All (map (λ (figure : ℕ). gasSaidTo (Amount 0 0 figure 0 0) ≡ refused-by 5) (0 ∷ 3 ∷ 8 ∷ 12 ∷ []))
@@ -198,9 +206,45 @@ gas-holds =
 -- a figure of exactly 10^11
 figure-taken : figureOf (bookOf electricity (Join 0 ∷ Amount 0 0 4 0 100000000000 ∷ [])) 0 0 4 ≡ 100000000000
 unfolding output-opened appliedFrom
-figure-taken = ap (λ (b : Book). figureOf b 0 0 4) (book-of electricity (Join 0 ∷ Amount 0 0 4 0 100000000000 ∷ [])) ∙ refl
+figure-taken = after electricity (λ (b : Book). figureOf b 0 0 4) (Join 0 ∷ Amount 0 0 4 0 100000000000 ∷ []) refl
+
+-- of one remainder and one size nobody is served before place 0
+module _ (size : ℕ) where
+  abbrev even : List ℕ
+  even = size ∷ size ∷ size ∷ []
+
+  abbrev ones : List ℕ
+  ones = 1 ∷ 1 ∷ 1 ∷ []
+
+  later : (i : ℕ) → precedes 1 size i 1 size 0 ≡ ltb i 0
+  unfolding precedes
+  later i = tied 1 1 _ refl ∙ tied size size _ refl
+
+  first-of-two : foremost even ones 2 ≡ 0
+  first-of-two = foremost-more even ones 0 1 false (sym (foremost-one even ones)) (later 1)
+
+  first-of-three : foremost even ones 3 ≡ 0
+  first-of-three = foremost-more even ones 0 2 false (sym first-of-two) (later 2)
+
+  even-sizes : share 10 ones even ≡ 4 ∷ 3 ∷ 3 ∷ []
+  unfolding share award floors remainders sum
+  even-sizes = ap (λ (place : ℕ). set (3 ∷ 3 ∷ 3 ∷ []) place (getD (3 ∷ 3 ∷ 3 ∷ []) place 0 + 1)) first-of-three
+
+-- ties by size
+tied-hold : All tiedCases
+unfolding output-opened appliedFrom pointsAt
+tied-hold = (
+  after electricity (λ (b : Book). take 2 (settled b .settlement .contributions)) (potOfTwo 1 3 ++ cabinsOfTwo) refl,
+  (
+    after electricity (λ (b : Book). take 2 (settled b .settlement .returns)) (potOfTwo 3 5 ++ cabinsOfTwo) refl,
+    (
+      after gas (λ (b : Book). take 3 (pointsAt (settledGas b .settlement) 5)) cutThree refl,
+      (after gas (λ (b : Book). take 3 (settledGas b .settlement .adjustments)) cutThree refl, tt),
+    ),
+  ),
+)
 
 pub all-hold : All marked
 unfolding output-opened answersFrom
 all-hold =
-    (refl, (refl, (refl, (answered electricity (lasting 0 180) refl, (answered electricity (lasting 0 181) refl, (answered electricity (lasting 31535000 31535999) refl, (answered electricity (lasting 31535000 31536000) refl, (answered electricity (lasting 94607000 94608000) refl, (answered electricity (Amount 0 0 4 0 100000000000) refl, (figure-taken, (output-m, (cut-m, (filings-refused, (answered electricity (Amount 0 0 4 0 100000000001) refl, (answered electricity (Amount 0 0 4 1 1) refl, (refl, (joined-only, (marked-six, (joined-new, (cleared-one, (lost, (grown 0 ∙ grown-applied .0, (grown 1 ∙ grown-applied .1, (adjusted-grown, (fees-by-year 10000 ∙ fees-applied .0, (fees-by-year 12500 ∙ fees-applied .1, (adjusted-fees, (adjusted-fees-indexed, (undivided .0, (undivided .1, (join-too-long, (refl, (refl, (refl, (gas-holds, tt)))))))))))))))))))))))))))))))))))
+    (even-sizes, (refl, (refl, (answered electricity (lasting 0 180) refl, (answered electricity (lasting 0 181) refl, (answered electricity (lasting 31535000 31535999) refl, (answered electricity (lasting 31535000 31536000) refl, (answered electricity (lasting 94607000 94608000) refl, (answered electricity (Amount 0 0 4 0 100000000000) refl, (figure-taken, (output-m, (cut-m, (filings-refused, (answered electricity (Amount 0 0 4 0 100000000001) refl, (answered electricity (Amount 0 0 4 1 1) refl, (refl, (joined-only, (marked-six, (joined-new, (cleared-one, (lost, (grown 0 ∙ grown-applied .0, (grown 1 ∙ grown-applied .1, (adjusted-grown, (fees-by-year 10000 ∙ fees-applied .0, (fees-by-year 12500 ∙ fees-applied .1, (adjusted-fees, (adjusted-fees-indexed, (undivided .0, (undivided .1, (join-too-long, (refl, (refl, (refl, (tied-hold, (gas-holds, tt))))))))))))))))))))))))))))))))))))

@@ -22,6 +22,7 @@ use Rattle.values.specs.Indicator.{yearlyValue, numbered, numberedIn}
 use Rattle.indicators.specs.Points.{levelled}
 use Rattle.indicators.specs.Sequence.{thousandths, exponentWeights, levelledWeights}
 use Rattle.settlement.specs.Settlement.{settled, settledGas}
+use Rattle.settlement.specs.Laws.{pointsAt}
 use Rattle.text.specs.Text.{bytesOf}
 use Rattle.output.specs.Output.{outputOf, gasOutputOf}
 use Rattle.writer.specs.Writer.{writerAnswer}
@@ -108,6 +109,22 @@ gasSaidTo call = getD (filedAnswers gas freshBook (Join 0 ∷ call ∷ [])) 1 (r
 abbrev pub gasSettled : List Call → Said Acceptance
 gasSettled more = settledGas (bookOf gas (Join 0 ∷ more)) .said
 
+-- two operators with access points, whose rates make a pot of 2; both are attested at D2, the first at D1 too
+abbrev pub potOfTwo : ℕ → ℕ → List Call
+potOfTwo access other =
+    Join 0 ∷ Join 1 ∷ Setting 0 1 access ∷ Setting 1 1 other ∷ Setting 0 2 100 ∷ Mark 0 4 0 ∷ Mark 0 5 0 ∷ Mark 1 5 0 ∷ Rates 20000 0 ∷ []
+
+-- their cabins, which electricity needs
+abbrev pub cabinsOfTwo : List Call
+cabinsOfTwo = Setting 0 0 1 ∷ Setting 0 3 1 ∷ Setting 0 4 1 ∷ Setting 1 0 1 ∷ Setting 1 3 1 ∷ Setting 1 4 1 ∷ []
+
+-- three operators with 2, 9 and 3 access points: a pot of 12, limits of 3, 1 and 1; scores of 0, 1000 and 500 at D1, of 500, 1000 and 500 at D2
+abbrev pub cutThree : List Call
+cutThree =
+    Join 0 ∷ Join 1 ∷ Join 2 ∷ Setting 0 1 2 ∷ Setting 1 1 9 ∷ Setting 2 1 3 ∷ Setting 0 2 600 ∷ Setting 1 2 300 ∷ Setting 2 2 300
+    ∷ Amount 1 0 4 0 100 ∷ Amount 2 0 4 0 50 ∷ Amount 0 0 6 0 50 ∷ Amount 1 0 6 0 100 ∷ Amount 2 0 6 0 50
+    ∷ Mark 0 4 0 ∷ Mark 0 5 0 ∷ Mark 1 4 0 ∷ Mark 1 5 0 ∷ Mark 2 4 0 ∷ Mark 2 5 0 ∷ Rates 10000 5000 ∷ []
+
 -- every statement of a list holds
 abbrev pub All : List (Type 0) → Type 0
 All [] = Unit {0}
@@ -143,14 +160,26 @@ gasCases =
     -- its pool, 300 times 20 points, stands at D1's number
     ∷ (settledGas (bookOf gas (Join 0 ∷ Setting 0 1 1 ∷ Mark 0 4 0 ∷ [])) .settlement .pools ≡ 0 ∷ 0 ∷ 0 ∷ 0 ∷ 6000 ∷ 0 ∷ []) ∷ []
 
+-- "Ties by size" (02, point 7): in each of the four sharings the operator with more access points has the spare unit
+abbrev pub tiedCases : List (Type 0)
+tiedCases =
+    -- contributions of 2 by 1 and 3: 2 × 1 and 2 × 3 leave 2 of 4
+    (take 2 (settled (bookOf electricity (potOfTwo 1 3 ++ cabinsOfTwo)) .settlement .contributions) ≡ 0 ∷ 2 ∷ [])
+    -- returns of 2 by 3 × 3,750 and 5 × 750: both leave a half, and the larger weight is not the larger operator's
+    ∷ (take 2 (settled (bookOf electricity (potOfTwo 3 5 ++ cabinsOfTwo)) .settlement .returns) ≡ 1 ∷ 1 ∷ [])
+    -- points at D2 of 1,500 by 7, 4 and 7: each leaves 6 of 18
+    ∷ (take 3 (pointsAt (settledGas (bookOf gas cutThree) .settlement) 5) ≡ 583 ∷ 334 ∷ 583 ∷ [])
+    -- differences of 1, -2 and 1, cut to 1, -1 and 1: a bonus of 1 is shared by 1 and 1
+    ∷ (take 3 (settledGas (bookOf gas cutThree) .settlement .adjustments) ≡ pos 0 ∷ negℤ (pos 1) ∷ pos 1 ∷ []) ∷ []
+
 -- the sums of operators 0 to 3, with a mean of 150,500
 abbrev aroundTheMean : List ℕ
 aroundTheMean = 101000 ∷ 200000 ∷ 150501 ∷ 150499 ∷ []
 
 abbrev pub marked : List (Type 0)
 marked =
-    -- "sharing 10 by 1, 1, 1 gives 4, 3, 3"
-    (share 10 (1 ∷ 1 ∷ 1 ∷ []) ≡ 4 ∷ 3 ∷ 3 ∷ [])
+    -- "sharing 10 by 1, 1, 1 gives 4, 3, 3", which "stands for equal access points" (02, point 7), whatever they are
+    ((size : ℕ) → share 10 (1 ∷ 1 ∷ 1 ∷ []) (size ∷ size ∷ size ∷ []) ≡ 4 ∷ 3 ∷ 3 ∷ [])
     -- "the table's weight for k = 4 is 996,005,996 (k = 0 has the first)"
     ∷ (weightOf 4 ≡ 996005996) ∷ (weightOf 0 ≡ 1000000000)
     -- "180 s is short, 181 s counts"
@@ -194,5 +223,5 @@ marked =
     -- levelling goes by the sums and not by k (02, point 5): two have one k, and the mean between them
     ∷ (take 4 (thousandths aroundTheMean) ≡ 505 ∷ 1000 ∷ 752 ∷ 752 ∷ [])
     ∷ (take 4 (levelledWeights 15 aroundTheMean (exponentWeights (thousandths aroundTheMean))) ≡ 1074598086 ∷ 735390232 ∷ 942490338 ∷ 1074598086 ∷ [])
-    -- gas
-    ∷ All gasCases ∷ []
+    -- ties by size, and gas
+    ∷ All tiedCases ∷ All gasCases ∷ []

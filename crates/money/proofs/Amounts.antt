@@ -36,8 +36,8 @@ module _ (more less limit : List ℕ) (bounded : (k : ℕ) → k < 16 → getD l
   pub cut-sum-le : sum (capped more less limit) ≤ operators * limitMost
   cut-sum-le = sixteen-le (capped more less limit) limitMost (capped-length more less limit) cut-le
 
-  pub balanced-le : (other : List ℕ) (k : ℕ) → k < 16 → getD (balanced (capped more less limit) other) k 0 ≤ limitMost
-  balanced-le other k lt = le-trans (balanced-within (capped more less limit) other k (rw (capped-length more less limit) lt)) (cut-le k lt)
+  pub balanced-le : (other sizes : List ℕ) (k : ℕ) → k < 16 → getD (balanced (capped more less limit) other sizes) k 0 ≤ limitMost
+  balanced-le other sizes k lt = le-trans (balanced-within (capped more less limit) other sizes k (rw (capped-length more less limit) lt)) (cut-le k lt)
 
 -- the pot and the limits of a book in range
 pub pot-most : (b : Book) → withinLimits b ≡ true → pot b ≤ potMost

@@ -51,14 +51,19 @@ pub fn return_weights(access: [u64; 16], totals: [u64; 16]) -> [u64; 16]
 }
 
 // What is received less what is paid, each cut to its limit, and the larger side shared again.
-pub fn adjust(received: [u64; 16], paid: [u64; 16], limits: [u64; 16]) -> [i64; 16]
+pub fn adjust(
+    received: [u64; 16],
+    paid: [u64; 16],
+    limits: [u64; 16],
+    sizes: [u64; 16],
+) -> [i64; 16]
     requires { ⌜ ((k : ℕ) → k < 16 → getD limits k 0 ≤ limitMost) ⌝ }
-    ensures { λ r. ⌜ r ≡ adjustedBy received paid limits ⌝ }
+    ensures { λ r. ⌜ r ≡ adjustedBy received paid limits sizes ⌝ }
 {
     let bonuses = capped_side(received, paid, limits);
     let maluses = capped_side(paid, received, limits);
-    let gains = balanced_side(bonuses, maluses);
-    let losses = balanced_side(maluses, bonuses);
+    let gains = balanced_side(bonuses, maluses, sizes);
+    let losses = balanced_side(maluses, bonuses, sizes);
     differences(gains, losses)
 }
 
@@ -88,13 +93,13 @@ fn cut(more: u64, less: u64, limit: u64) -> u64
 }
 
 // The larger side is shared again to the smaller sum.
-fn balanced_side(side: [u64; 16], other: [u64; 16]) -> [u64; 16]
+fn balanced_side(side: [u64; 16], other: [u64; 16], sizes: [u64; 16]) -> [u64; 16]
     requires { ⌜ (sum side < 2 ^ 62) × (sum other < 2 ^ 62) ⌝ }
-    ensures { λ r. ⌜ r ≡ balanced side other ⌝ }
+    ensures { λ r. ⌜ r ≡ balanced side other sizes ⌝ }
 {
     let smaller = sum_of(other);
     if smaller < sum_of(side) {
-        return share(smaller, side);
+        return share(smaller, side, sizes);
     }
     side
 }

@@ -125,21 +125,21 @@ module _ (b : Book) (ranged : withinLimits b ≡ true) where
           (found .0, found .1, found .2, omega (arith, found .3))
 
 -- the pot is shared whole by weights of which one is above 0
-shared-whole : (T : ℕ) (f : ℕ → ℕ) (k : ℕ) → k < 16 → 0 < f k → sum (share T (each f)) ≡ T
-shared-whole T f k lt above = shared T (each f) .whole (omega (arith, above, each-le-sum f k lt))
+shared-whole : (T : ℕ) (f : ℕ → ℕ) (sizes : List ℕ) (k : ℕ) → k < 16 → 0 < f k → sum (share T (each f) sizes) ≡ T
+shared-whole T f sizes k lt above = shared T (each f) sizes .whole (omega (arith, above, each-le-sum f k lt))
 
 contributions-whole : (b : Book) (indicators : List Indicator) → withinLimits b ≡ true → eqb (b .joined) 0 ≡ false → networkMissing b indicators ≡ false → sum (contributions b) ≡ pot b
 unfolding contributions isJoined
 contributions-whole b indicators ranged somebody network =
     let found = some-one 16 (b .joined) (bounded b ranged .joined) (omega (arith, eqb-false (b .joined) 0 somebody)) in
-    shared-whole (pot b) _ (found .0) (found .1) (joined-access b indicators network (found .0) (found .1) (found .2))
+    shared-whole (pot b) _ _ (found .0) (found .1) (joined-access b indicators network (found .0) (found .1) (found .2))
 
 returns-whole : (b : Book) (indicators : List Indicator) → withinLimits b ≡ true → Worth indicators → networkMissing b indicators ≡ false
     → allMarked b indicators ≡ false → sum (returns b indicators) ≡ pot b
 unfolding returns
 returns-whole b indicators ranged worth network reliable =
     let found = some-points b ranged indicators worth reliable in
-    shared-whole (pot b) _ (found .0) (found .1) (mul-pos (joined-access b indicators network (found .0) (found .1) (found .2)) (found .3))
+    shared-whole (pot b) _ _ (found .0) (found .1) (mul-pos (joined-access b indicators network (found .0) (found .1) (found .2)) (found .3))
 
 balanced-settlement : (b : Book) (indicators : List Indicator) → Worth indicators → Settles b indicators → Balanced b (settlementBy b indicators)
 unfolding settlementBy pointsAt

@@ -25,8 +25,8 @@ use Rattle.money.specs.Money.{pot, contributions, returns, limits, adjustments}
 use Rattle.money.proofs.AdjustmentLaws.{within-limits}
 
 -- a share by a weight of 0
-none-shared : (T : ℕ) (f : ℕ → ℕ) (k : ℕ) → k < 16 → f k ≡ 0 → getD (share T (each f)) k 0 ≡ 0
-none-shared T f k lt none = shared T (each f) .none k (rw length-each lt) (each-at f k lt ∙ none)
+none-shared : (T : ℕ) (f : ℕ → ℕ) (sizes : List ℕ) (k : ℕ) → k < 16 → f k ≡ 0 → getD (share T (each f) sizes) k 0 ≡ 0
+none-shared T f sizes k lt none = shared T (each f) sizes .none k (rw length-each lt) (each-at f k lt ∙ none)
 
 -- a number without size
 no-size : (z : ℤ) → natAbs z ≤ 0 → z ≡ pos 0
@@ -49,7 +49,7 @@ module _ (b : Book) (ranged : withinLimits b ≡ true) (operator : ℕ) (lt : op
 
   pub contribution-none : getD (contributions b) operator 0 ≡ 0
   unfolding contributions
-  contribution-none = none-shared (pot b) _ operator lt (setting-none 1 (omega arith))
+  contribution-none = none-shared (pot b) _ _ operator lt (setting-none 1 (omega arith))
 
   pub limit-none : getD (limits b) operator 0 ≡ 0
   unfolding limits
@@ -58,7 +58,7 @@ module _ (b : Book) (ranged : withinLimits b ≡ true) (operator : ℕ) (lt : op
   module _ (indicators : List Indicator) where
     pub return-none : getD (returns b indicators) operator 0 ≡ 0
     unfolding returns
-    return-none = none-shared (pot b) _ operator lt (rw (setting-none 1 (omega arith)) (zero-mul _))
+    return-none = none-shared (pot b) _ _ operator lt (rw (setting-none 1 (omega arith)) (zero-mul _))
 
     pub adjustment-none : getD (adjustments b indicators) operator (pos 0) ≡ pos 0
     adjustment-none = no-size _ (omega (arith, within-limits b indicators operator lt, limit-none))

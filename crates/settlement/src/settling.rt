@@ -111,10 +111,11 @@ fn settle_points(
 {
     let totals = g.totals;
     let pot = pot_of(pot_rate, incomes);
-    let contributions = share(pot, access);
-    let returns = share(pot, return_weights(access, totals));
+    let contributions = share(pot, access, access);
+    let weights = return_weights(access, totals);
+    let returns = share(pot, weights, access);
     let limits = limits_of(cap_rate, incomes);
-    let adjustments = adjust(returns, contributions, limits);
+    let adjustments = adjust(returns, contributions, limits, access);
     let pools = g.pools;
     let points = g.points;
     Settlement {

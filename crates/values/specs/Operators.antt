@@ -20,6 +20,10 @@ each f = table operators f
 abbrev pub settingsOf : Book → ℕ → List ℕ
 settingsOf b which = each (λ (operator : ℕ). settingOf b operator which)
 
+-- what decides between equal remainders in every sharing: "the operator with more access points" comes first (02, point 7)
+abbrev pub sizesOf : Book → List ℕ
+sizesOf b = settingsOf b 1
+
 -- one figure of a year of each operator
 abbrev pub figuresOf : Book → ℕ → ℕ → List ℕ
 figuresOf b year figure = each (λ (operator : ℕ). figureOf b operator year figure)

@@ -12,10 +12,10 @@ use Rattle.apportion.proofs.award_units.Statement.{statement}
 use Rattle.apportion.proofs.award_units.Tie as tie
 
 abbrev Inv-loop : tie.InvT-loop
-Inv-loop units shares₀ remaining₀ left₀ shares remaining left = HandingOut 16 units remaining₀ shares₀ left remaining shares
+Inv-loop units sizes shares₀ remaining₀ left₀ shares remaining left = HandingOut 16 units sizes remaining₀ shares₀ left remaining shares
 
 abbrev μ-loop : tie.MeasureT-loop
-μ-loop units shares₀ remaining₀ left₀ shares remaining left = left
+μ-loop units sizes shares₀ remaining₀ left₀ shares remaining left = left
 
 loop-holds : tie.Need-loop-holds Inv-loop μ-loop
 loop-holds c = record { shares-long = search needs; remaining-long = search needs; units-kept = refl; ends-alike = refl }
@@ -30,7 +30,7 @@ array-read-shares : tie.Need-array-read-shares Inv-loop μ-loop
 array-read-shares c = omega arith
 
 add-shares : tie.Need-add-shares Inv-loop μ-loop
-add-shares c = omega (arith, element-le (c .before .before .before .loop .shares) (c .foremost-place .result))
+add-shares c = omega (arith, element-le (c .before .before .before .before .loop .shares) (c .foremost-place .result))
 
 array-write-shares : tie.Need-array-write-shares Inv-loop μ-loop
 array-write-shares c = omega arith
@@ -49,14 +49,14 @@ loop-less c = omega arith
 
 loop-again : tie.Need-loop-again Inv-loop μ-loop
 loop-again c =
-    let here = c .before .before .before .loop in
+    let here = c .before .before .before .before .loop in
     let place = c .foremost-place .result in
     record {
       shares-long = length-set (here .shares) place _ ∙ here .inv .shares-long;
       remaining-long = length-set (here .remaining) place _ ∙ here .inv .remaining-long;
       units-kept = omega (arith, sum-set (here .shares) place (getD (here .shares) place 0 + 1) (omega arith));
       ends-alike =
-          award-step (here .left) 16 place (here .remaining) (here .shares) (omega arith) (here .inv .remaining-long) (c .foremost-place .ensures .0)
+          award-step (here .left) 16 place _ (here .remaining) (here .shares) (omega arith) (here .inv .remaining-long) (c .foremost-place .ensures .0)
           ∙ here .inv .ends-alike;
     }
 

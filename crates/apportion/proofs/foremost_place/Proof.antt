@@ -11,22 +11,34 @@ use Rattle.apportion.proofs.foremost_place.Statement.{statement}
 use Rattle.apportion.proofs.foremost_place.Tie as tie
 
 abbrev Inv-loop : tie.InvT-loop
-Inv-loop remaining best₀ top₀ i₀ best top i = ForemostOf 16 remaining i best × (top ≡ getD remaining best 0)
+Inv-loop remaining sizes best₀ top₀ i₀ best top i = ForemostOf 16 sizes remaining i best × (top ≡ getD remaining best 0)
 
 abbrev μ-loop : tie.MeasureT-loop
-μ-loop remaining best₀ top₀ i₀ best top i = 16 - i
+μ-loop remaining sizes best₀ top₀ i₀ best top i = 16 - i
 
 element-copy-out-top : tie.Need-element-copy-out-top Inv-loop μ-loop
 element-copy-out-top c = omega arith
 
 loop-holds : tie.Need-loop-holds Inv-loop μ-loop
-loop-holds c = (record { within = omega arith; passed = omega arith; foremost-is = sym (foremost-one (c .before .args .remaining .now)) }, refl)
+loop-holds c = (record { within = omega arith; passed = omega arith; foremost-is = sym (foremost-one (c .before .args .sizes .now) (c .before .args .remaining .now)) }, refl)
 
 mul-next : tie.Need-mul-next Inv-loop μ-loop
 mul-next c = omega arith
 
 element-copy-out-next : tie.Need-element-copy-out-next Inv-loop μ-loop
 element-copy-out-next c = omega arith
+
+mul-precedes : tie.Need-mul-precedes Inv-loop μ-loop
+mul-precedes c = omega arith
+
+element-copy-out-precedes : tie.Need-element-copy-out-precedes Inv-loop μ-loop
+element-copy-out-precedes c = omega arith
+
+mul-precedes-2 : tie.Need-mul-precedes-2 Inv-loop μ-loop
+mul-precedes-2 c = omega arith
+
+element-copy-out-precedes-2 : tie.Need-element-copy-out-precedes-2 Inv-loop μ-loop
+element-copy-out-precedes-2 c = omega arith
 
 precedes-requires : tie.Need-precedes-requires Inv-loop μ-loop
 precedes-requires c κs = tt
@@ -39,10 +51,11 @@ loop-less c = omega arith
 
 loop-again : tie.Need-loop-again Inv-loop μ-loop
 loop-again c =
-    let here = c .before .before .before .before .loop in
-    let remaining = c .before .before .before .before .before .before .args .remaining .now in
+    let here = c .before .before .before .before .before .before .loop in
+    let args = c .before .before .before .before .before .before .before .before .args in
+    let remaining = args .remaining .now in
     let tested = rw (here .inv .1) at (c .before .precedes .ensures) in
-    let next = foremost-more remaining (here .best) (here .i) in
+    let next = foremost-more (args .sizes .now) remaining (here .best) (here .i) in
     ⊎-elim
     (λ w. (
       record { within = omega arith; passed = omega (arith, w .1); foremost-is = w .1 ∙ sym (next true (here .inv .0 .foremost-is) (sym tested ∙ w .0 .taken)) },
@@ -69,6 +82,10 @@ foremost-place-spec =
     loop-holds
     mul-next
     element-copy-out-next
+    mul-precedes
+    element-copy-out-precedes
+    mul-precedes-2
+    element-copy-out-precedes-2
     precedes-requires
     add-i
     loop-less

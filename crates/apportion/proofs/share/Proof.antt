@@ -19,7 +19,7 @@ returns c =
     let start = c .before .before in
     let long : length (start .args .weights) ≡ 16 = search needs in
     let none : sum (start .args .weights) ≡ 0 = omega (arith, c .before .sum-of .ensures, c .if1 .taken) in
-    sym (share-none (start .args .t) (start .args .weights) none ∙ (sym (constant (start .args .weights) 0) ∙ ap (λ (n : ℕ). replicate n 0) long))
+    sym (share-none (start .args .t) (start .args .weights) (start .args .sizes) none ∙ (sym (constant (start .args .weights) 0) ∙ ap (λ (n : ℕ). replicate n 0) long))
 
 divide-each-requires : tie.Need-divide-each-requires
 divide-each-requires c κs = search needs
@@ -53,7 +53,7 @@ returns-2 c =
     let start = c .before .before .before .before .before .before in
     let some : 0 < sum (start .args .weights) = omega (arith, c .before .before .before .before .before .sum-of .ensures, c .before .before .before .before .if1 .left) in
     let divisions = c .before .before .before .divide-each .ensures in
-    rw (share-some (start .args .t) (start .args .weights) some)
+    rw (share-some (start .args .t) (start .args .weights) (start .args .sizes) some)
     (c .award-units .ensures ∙ rw (c .before .sum-of2 .ensures, divisions .0, divisions .1) refl)
 
 pub share-spec : {M : Type 1} → statement M

@@ -7,10 +7,10 @@ use Rattle.apportion_test.proofs.main.Statement.{statement}
 use Rattle.apportion_test.proofs.main.Tie as tie
 
 abbrev Inv-loop : tie.InvT-loop
-Inv-loop i₀ i = i ≤ 64
+Inv-loop i₀ i = i ≤ 272
 
 abbrev μ-loop : tie.MeasureT-loop
-μ-loop i₀ i = 64 - i
+μ-loop i₀ i = 272 - i
 
 loop-holds : tie.Need-loop-holds Inv-loop μ-loop
 loop-holds c = omega arith

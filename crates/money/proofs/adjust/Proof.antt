@@ -47,16 +47,16 @@ differences-requires c κs =
     let small = c .before .before .before .before .pre in (
       λ k lt.
           rw (c .before .balanced-side .ensures, c .before .before .before .capped-side .ensures)
-          (lt-of-le-of-lt (balanced-le (args .received) (args .paid) (args .limits) small _ k lt) (lit< tt)),
+          (lt-of-le-of-lt (balanced-le (args .received) (args .paid) (args .limits) small _ _ k lt) (lit< tt)),
       λ k lt.
           rw (c .balanced-side2 .ensures, c .before .before .capped-side2 .ensures)
-          (lt-of-le-of-lt (balanced-le (args .paid) (args .received) (args .limits) small _ k lt) (lit< tt)),
+          (lt-of-le-of-lt (balanced-le (args .paid) (args .received) (args .limits) small _ _ k lt) (lit< tt)),
     )
 
 returns : tie.Need-returns
 unfolding adjustedBy
 returns c =
-    let losses : c .before .balanced-side2 .result ≡ balanced (c .before .before .before .capped-side2 .result) (c .before .before .before .before .capped-side .result) =
+    let losses : c .before .balanced-side2 .result ≡ balanced (c .before .before .before .capped-side2 .result) (c .before .before .before .before .capped-side .result) (c .before .before .before .before .before .args .sizes) =
     c .before .balanced-side2 .ensures in
     c .differences .ensures
     ∙ rw (c .before .before .balanced-side .ensures, losses, c .before .before .before .before .capped-side .ensures, c .before .before .before .capped-side2 .ensures) refl

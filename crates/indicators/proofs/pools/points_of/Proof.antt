@@ -22,20 +22,23 @@ pool-of-requires c κs = search needs
 weights-of-requires : tie.Need-weights-of-requires
 weights-of-requires c κs = search needs
 
+settings-of-requires : tie.Need-settings-of-requires
+settings-of-requires c κs = omega arith
+
 share-requires : tie.Need-share-requires
 share-requires c κs =
-    let indicator = numbered (c .before .before .args .number) in
+    let indicator = numbered (c .before .before .before .args .number) in
     let weighed : Book → List ℕ = λ b. weights (indicator .measure) (reliableMask b indicator) (scores b indicator) in
-    let most : sum (c .weights-of .result) ≤ operators * levelledMost = of-lent weighed (λ (list : List ℕ). sum list ≤ operators * levelledMost) (c .weights-of .ensures) (weights-sum-most _ _ _) in
-    omega (arith, c .before .pool-of .ensures .1, most)
+    let most : sum (c .before .weights-of .result) ≤ operators * levelledMost = of-lent weighed (λ (list : List ℕ). sum list ≤ operators * levelledMost) (c .before .weights-of .ensures) (weights-sum-most _ _ _) in
+    omega (arith, c .before .before .pool-of .ensures .1, most)
 
 returns : tie.Need-returns
 unfolding points
 returns c =
     λ b marked measured.
     c .share .ensures
-    ∙ (λ i. share (c .before .before .pool-of .ensures .0 b marked i) (c .before .weights-of .ensures b marked measured i))
+    ∙ (λ i. share (c .before .before .before .pool-of .ensures .0 b marked i) (c .before .before .weights-of .ensures b marked measured i) (c .before .settings-of .ensures b (measured .settings-are) i))
 
 pub points-of-spec : {M : Type 1} → statement M
 points-of-spec =
-    tie.close (tie.spec pool-of-requires weights-of-requires share-requires returns)
+    tie.close (tie.spec pool-of-requires weights-of-requires settings-of-requires share-requires returns)

@@ -4,6 +4,7 @@ use mathlib.Core.Path.{_≡_, refl, _∙_}
 use native.Mathlib.Omega.{arith}
 use Prim.Native.Nat.{ℕ, _*_, _/_}
 use lib.ListN.{length, getD}
+use Rattle.apportion.specs.Share.{share}
 use Rattle.values.specs.Operators.{each}
 use Rattle.values.specs.Bounds.{accessLimit}
 use Rattle.values.proofs.Tables.{each-same}
@@ -49,13 +50,15 @@ returns c =
     let capped : c .before .before .before .limits-of .result ≡ each (λ (k : ℕ). args .cap-rate * getD (args .incomes) k 0 / 1000000) = c .before .before .before .limits-of .ensures .0 in
     λ b indicators gathered charged.
     let pot-is : c .before .before .before .before .before .before .before .pot-of .result ≡ pot b = pooled .0 ∙ rw (charged .pot-is, charged .incomes-are) refl in
-    let paid : c .before .before .before .before .before .before .share .result ≡ contributions b = shared ∙ rw (pot-is, charged .access-are) refl in
+    let paid : c .before .before .before .before .before .before .share .result ≡ contributions b =
+    shared ∙ (λ i. share (pot-is i) (charged .access-are i) (charged .access-are i)) in
     let weights = weighed ∙ weights-same b indicators _ _ (charged .access-are) (gathered .totals-are) in
-    let received : c .before .before .before .before .share2 .result ≡ Money·returns b indicators = shared-2 ∙ rw (pot-is, weights) refl in
+    let received : c .before .before .before .before .share2 .result ≡ Money·returns b indicators =
+    shared-2 ∙ (λ i. share (pot-is i) (weights i) (charged .access-are i)) in
     let limits-are : c .before .before .before .limits-of .result ≡ limits b =
     capped
     ∙ ((λ i. each (λ (k : ℕ). charged .cap-is i * getD (charged .incomes-are i) k 0 / 1000000)) ∙ each-same _ _ (λ k lt. rw (income-at b k lt) refl)) in
-    rw (gathered .pools-are, gathered .points-are, pot-is, paid, received, limits-are, c .before .before .adjust .ensures, paid, received, limits-are) refl
+    rw (gathered .pools-are, gathered .points-are, pot-is, paid, received, limits-are, c .before .before .adjust .ensures, paid, received, limits-are, charged .access-are) refl
 
 pub settle-points-spec : {M : Type 1} → statement M
 settle-points-spec =

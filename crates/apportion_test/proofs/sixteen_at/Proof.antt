@@ -1,4 +1,4 @@
--- `apportion_test::weights_at` meets its contract: each number stored adds less than 2 ^ 57 to the sum.
+-- `apportion_test::sixteen_at` meets its contract: each number stored adds less than 2 ^ 57 to the sum.
 -- Assumes nothing.
 use borrow.Author.Needs.{needs}
 use mathlib.Core.Path.{_≡_, refl, _∙_}
@@ -7,14 +7,14 @@ use native.Mathlib.Omega.{arith}
 use lib.ListN.{length, length-set}
 use Rattle.apportion.specs.Sum.{sum}
 use Rattle.apportion.proofs.Sums.{sum-set}
-use Rattle.apportion_test.proofs.weights_at.Statement.{statement}
-use Rattle.apportion_test.proofs.weights_at.Tie as tie
+use Rattle.apportion_test.proofs.sixteen_at.Statement.{statement}
+use Rattle.apportion_test.proofs.sixteen_at.Tie as tie
 
 abbrev Inv-loop : tie.InvT-loop
-Inv-loop at weights₀ i₀ weights i = (i ≤ 16) × (length weights ≡ 16) × (sum weights ≤ i * 2 ^ 57)
+Inv-loop at numbers₀ i₀ numbers i = (i ≤ 16) × (length numbers ≡ 16) × (sum numbers ≤ i * 2 ^ 57)
 
 abbrev μ-loop : tie.MeasureT-loop
-μ-loop at weights₀ i₀ weights i = 16 - i
+μ-loop at numbers₀ i₀ numbers i = 16 - i
 
 loop-holds : tie.Need-loop-holds Inv-loop μ-loop
 unfolding sum
@@ -32,11 +32,11 @@ array-read-bounded c = omega arith
 bounded-requires : tie.Need-bounded-requires Inv-loop μ-loop
 bounded-requires c κs = search needs
 
-mul-weights : tie.Need-mul-weights Inv-loop μ-loop
-mul-weights c = omega arith
+mul-numbers : tie.Need-mul-numbers Inv-loop μ-loop
+mul-numbers c = omega arith
 
-array-write-weights : tie.Need-array-write-weights Inv-loop μ-loop
-array-write-weights c = omega arith
+array-write-numbers : tie.Need-array-write-numbers Inv-loop μ-loop
+array-write-numbers c = omega arith
 
 add-i : tie.Need-add-i Inv-loop μ-loop
 add-i c = omega arith
@@ -48,15 +48,15 @@ loop-again : tie.Need-loop-again Inv-loop μ-loop
 loop-again c =
     let here = c .before .before .loop in (
       omega arith,
-      length-set (here .weights) (here .i) _ ∙ here .inv .1,
-      omega (arith, sum-set (here .weights) (here .i) (c .bounded .result) (omega arith)),
+      length-set (here .numbers) (here .i) _ ∙ here .inv .1,
+      omega (arith, sum-set (here .numbers) (here .i) (c .bounded .result) (omega arith)),
     )
 
 returns : tie.Need-returns Inv-loop μ-loop
 returns c = omega arith
 
-pub weights-at-spec : {M : Type 1} → statement M
-weights-at-spec =
+pub sixteen-at-spec : {M : Type 1} → statement M
+sixteen-at-spec =
     tie.close
     (tie.spec
     Inv-loop
@@ -66,8 +66,8 @@ weights-at-spec =
     mul-bounded
     array-read-bounded
     bounded-requires
-    mul-weights
-    array-write-weights
+    mul-numbers
+    array-write-numbers
     add-i
     loop-less
     loop-again
