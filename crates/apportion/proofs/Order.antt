@@ -8,16 +8,17 @@ use Prim.Native.Nat.{ℕ, zero, suc, _+_, _≤_, _<_}
 use native.Mathlib.Numerals.{add-one}
 use native.Mathlib.Omega.{arith}
 use native.Mathlib.Decide.{ℕ-discrete, decLt}
+use lib.Dec.{ltb}
 use lib.ListN.{getD}
 use borrow.Author.Tests.{ltb-true, ltb-false, lt-ltb, le-ltb, eq-eqb, ne-eqb}
 use Rattle.apportion.specs.Share.{largerFirst, precedes, earlier, foremost}
 
 -- the larger of two numbers comes first, at a tie what is asked next decides
-pub larger : (a b : ℕ) (next : Bool) → b < a → largerFirst a b next ≡ true
+larger : (a b : ℕ) (next : Bool) → b < a → largerFirst a b next ≡ true
 unfolding largerFirst
 larger a b next more = rw (lt-ltb b a more) refl
 
-pub smaller : (a b : ℕ) (next : Bool) → a < b → largerFirst a b next ≡ false
+smaller : (a b : ℕ) (next : Bool) → a < b → largerFirst a b next ≡ false
 unfolding largerFirst
 smaller a b next less = rw (le-ltb b a (omega arith), ne-eqb a b (λ e. omega arith)) refl
 
@@ -25,6 +26,7 @@ pub tied : (a b : ℕ) (next : Bool) → a ≡ b → largerFirst a b next ≡ ne
 unfolding largerFirst
 tied a b next e = rw (le-ltb b a (omega arith), eq-eqb a b e) refl
 
+-- the three ways in which two numbers stand to each other
 abbrev Compared : ℕ → ℕ → Type 0
 Compared a b = (b < a) ⊎ ((a ≡ b) ⊎ (a < b))
 
@@ -35,6 +37,15 @@ compared a b = go (decLt b a) (decLt a b)
     go (yes more) either = inl more
     go (no more) (yes less) = inr (inr less)
     go (no more) (no less) = inr (inl (omega arith))
+
+-- of two that differ the next is never asked
+pub apart : (a b : ℕ) (next : Bool) → (a ≡ b → ⊥) → largerFirst a b next ≡ ltb b a
+apart a b next differ = go (compared a b)
+  where
+    go : Compared a b → largerFirst a b next ≡ ltb b a
+    go (inl more) = larger a b next more ∙ sym (lt-ltb b a more)
+    go (inr (inl same)) = absurd (differ same)
+    go (inr (inr less)) = smaller a b next less ∙ sym (le-ltb b a (omega arith))
 
 -- what comes first is larger, or at a tie first by what is asked next
 first-if : (a b : ℕ) (next : Bool) → largerFirst a b next ≡ true → (b < a) ⊎ ((a ≡ b) × (next ≡ true))

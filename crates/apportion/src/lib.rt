@@ -99,17 +99,11 @@ fn foremost_place(remaining: &[u64; 16], sizes: &[u64; 16]) -> usize
 fn precedes(r: u64, x: u64, i: usize, q: u64, y: u64, j: usize) -> bool
     ensures { λ result. ⌜ result ≡ Share·precedes r x i q y j ⌝ }
 {
-    if q < r {
-        return true;
+    if r != q {
+        return q < r;
     }
-    if r < q {
-        return false;
-    }
-    if y < x {
-        return true;
-    }
-    if x < y {
-        return false;
+    if x != y {
+        return y < x;
     }
     i < j
 }

@@ -3,40 +3,28 @@
 use mathlib.Core.Path.{sym, _∙_}
 use native.Mathlib.Omega.{arith}
 use Rattle.apportion.specs.Share.{precedes}
-use Rattle.apportion.proofs.Order.{larger, smaller, tied}
+use Rattle.apportion.proofs.Order.{apart, tied}
 use Rattle.apportion.proofs.precedes.Statement.{statement}
 use Rattle.apportion.proofs.precedes.Tie as tie
 
--- the larger remainder
+-- remainders apart
 returns : tie.Need-returns
 unfolding precedes
-returns c = let args = c .before .args in sym (larger (args .r) (args .q) _ (c .if1 .taken))
+returns c = let args = c .before .args in sym (apart (args .r) (args .q) _ (c .if1 .taken))
 
--- the smaller one
+-- a tie, and sizes apart
 returns-2 : tie.Need-returns-2
 unfolding precedes
-returns-2 c = let args = c .before .before .args in sym (smaller (args .r) (args .q) _ (c .if2 .taken))
+returns-2 c =
+    let args = c .before .before .args in
+    sym (tied (args .r) (args .q) _ (omega arith) ∙ apart (args .x) (args .y) _ (c .if2 .taken))
 
--- a tie, and the larger size
+-- a tie of sizes too
 returns-3 : tie.Need-returns-3
 unfolding precedes
 returns-3 c =
-    let args = c .before .before .before .args in
-    sym (tied (args .r) (args .q) _ (omega arith) ∙ larger (args .x) (args .y) _ (c .if3 .taken))
-
--- the smaller one
-returns-4 : tie.Need-returns-4
-unfolding precedes
-returns-4 c =
-    let args = c .before .before .before .before .args in
-    sym (tied (args .r) (args .q) _ (omega arith) ∙ smaller (args .x) (args .y) _ (c .if4 .taken))
-
--- a tie of sizes too
-returns-5 : tie.Need-returns-5
-unfolding precedes
-returns-5 c =
-    let args = c .before .before .before .before .args in
+    let args = c .before .before .args in
     sym (tied (args .r) (args .q) _ (omega arith) ∙ tied (args .x) (args .y) _ (omega arith))
 
 pub precedes-spec : {M : Type 1} → statement M
-precedes-spec = tie.close (tie.spec returns returns-2 returns-3 returns-4 returns-5)
+precedes-spec = tie.close (tie.spec returns returns-2 returns-3)
