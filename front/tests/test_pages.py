@@ -126,12 +126,16 @@ class Pages(InFolder):
         fees = "amount 0 2018 fees file 100"
         for more, told in [
             (["rates 5000 50"], "the adjustments are {2:,} and {3:,}."),
+            (
+                ["setting 0 income 100000400"],
+                "the contributions are {4:,} and {5:,}. The returns are {6:,} and {7:,}, and the adjustments are {2:,} and {3:,}.",
+            ),
             ([fees], "All points are {0:,} and {1:,}, and the adjustments are {2:,} and {3:,}."),
             ([fees, "index june-2017 12500"], "All points are {0:,} and {1:,}, and the adjustments are {2:,} and {3:,}."),
         ]:
             run = settle("--quiet", self.file("exercise.txt", calls + "\n".join(more)))
             rows = [row.split() for row in run.output.decode().splitlines()[1:3]]
-            numbers = [int(row[column]) for column in (1, -1) for row in rows]
+            numbers = [int(row[column]) for column in (1, -1, 2, 3) for row in rows]
             variation = by_hand.partition(f" With `{more[-1]}` ")[2].partition(" With `")[0]
             self.assertIn(told.format(*numbers), variation)
 
