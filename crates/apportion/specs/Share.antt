@@ -16,7 +16,7 @@ floors T weights = map (λ (weight : ℕ). T * weight / sum weights) weights
 unfoldable pub remainders : ℕ → List ℕ → List ℕ
 remainders T weights = map (λ (weight : ℕ). T * weight % sum weights) weights
 
--- the larger of two numbers comes first; at a tie it is as what is asked next
+-- whether a comes before b: the larger does, and at a tie what is asked next decides
 unfoldable pub largerFirst : ℕ → ℕ → Bool → Bool
 largerFirst a b next = ltb b a || (eqb a b && next)
 

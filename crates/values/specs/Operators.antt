@@ -20,7 +20,8 @@ each f = table operators f
 abbrev pub settingsOf : Book → ℕ → List ℕ
 settingsOf b which = each (λ (operator : ℕ). settingOf b operator which)
 
--- what decides between equal remainders in every sharing: "the operator with more access points" comes first (02, point 7)
+-- what decides between equal remainders in every sharing: "the operator with more access points" comes first (02, point 7); access points are
+-- setting 1
 abbrev pub sizesOf : Book → List ℕ
 sizesOf b = settingsOf b 1
 
