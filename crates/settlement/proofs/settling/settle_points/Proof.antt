@@ -9,7 +9,7 @@ use Rattle.values.specs.Operators.{each}
 use Rattle.values.specs.Bounds.{accessLimit}
 use Rattle.values.proofs.Tables.{each-same}
 use Rattle.settlement.specs.Settlement.{settlementBy}
-use Rattle.money.specs.Money.{pot, limits, contributions, returns as Money·returns, adjustments}
+use Rattle.money.specs.Money.{pot, limits, contributions, returns as Money·returns, adjustedBy, adjustments}
 use Rattle.money.proofs.InRange.{income-at}
 use Rattle.money.proofs.Amounts.{sixteen-le, weights-same}
 use borrow.Author.Needs.{needs}
@@ -58,7 +58,9 @@ returns c =
     let limits-are : c .before .before .before .limits-of .result ≡ limits b =
     capped
     ∙ ((λ i. each (λ (k : ℕ). charged .cap-is i * getD (charged .incomes-are i) k 0 / 1000000)) ∙ each-same _ _ (λ k lt. rw (income-at b k lt) refl)) in
-    rw (gathered .pools-are, gathered .points-are, pot-is, paid, received, limits-are, c .before .before .adjust .ensures, paid, received, limits-are, charged .access-are) refl
+    let adjusted : c .before .before .adjust .result ≡ adjustments b indicators =
+    c .before .before .adjust .ensures ∙ (λ i. adjustedBy (received i) (paid i) (limits-are i) (charged .access-are i)) in
+    rw (gathered .pools-are, gathered .points-are, pot-is, paid, received, limits-are, adjusted) refl
 
 pub settle-points-spec : {M : Type 1} → statement M
 settle-points-spec =
