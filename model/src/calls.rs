@@ -5,6 +5,7 @@ use crate::book::{
     Book, FIRST_COUNT, INDICES, LEAST_INDEX, MOST_FIGURE, MOST_INDEX, MOST_RATE, NUMBERED_SETTINGS,
     OPERATORS, YEARS,
 };
+use crate::order::first_that_applies;
 
 #[cfg(test)]
 mod tests;
@@ -40,7 +41,7 @@ pub enum Answer {
         year: usize,
     },
     LeftOut(Reason),
-    /// With the number in 01's table of answers.
+    /// With the number in the table of answers.
     Refused(u8),
 }
 
@@ -91,14 +92,8 @@ pub fn setting(book: &mut Book, operator: u8, which: u8, value: u64) -> Answer {
 
 /// Files or withdraws an interruption.
 /// Follows 01: "The year is that of the end; each has 31,536,000 seconds."
-/// In gas there is no such field: by 02, point 4, it "is refused by 2", whatever its
-/// values; a book out of range gets 5 even before that.
 pub fn interruption(book: &mut Book, filed: &Interruption) -> Answer {
-    if let Some(number) = refusal(book, &[(2, !book.sector.has_interruptions())]) {
-        return Answer::Refused(number);
-    }
-    let in_range = interruption_in_range(filed);
-    if let Some(number) = operator_refusal(book, filed.operator, in_range) {
+    if let Some(number) = interruption_refusal(book, filed) {
         return Answer::Refused(number);
     }
     let year = (filed.end / YEAR_SECONDS) as usize;
@@ -111,6 +106,21 @@ pub fn interruption(book: &mut Book, filed: &Interruption) -> Answer {
         Some(number) => Answer::Refused(number),
         None => outcome,
     }
+}
+
+/// The refusal of an interruption, but for 8 and 9, which only values in range can get.
+/// In gas there is no such field: by 02, point 4, it "is refused by 2", whatever its
+/// values; a book out of range gets 5 even before that.
+fn interruption_refusal(book: &Book, filed: &Interruption) -> Option<u8> {
+    let conditions = [
+        (2, !book.sector.has_interruptions()),
+        (4, above_15(filed.operator)),
+        (5, !other_values_in_range(filed)),
+        (14, filed.start > filed.end),
+        (15, is_outside_the_period(filed)),
+        (7, !is_joined(book, filed.operator)),
+    ];
+    refusal(book, &conditions)
 }
 
 /// Why an interruption in range is left out, if it is.
@@ -215,7 +225,7 @@ fn refusal(book: &Book, conditions: &[(u8, bool)]) -> Option<u8> {
     if !book.in_range() {
         return Some(5);
     }
-    lowest(conditions)
+    first_that_applies(conditions)
 }
 
 /// The refusal of a call of a joined operator, all other values of which are in
@@ -229,16 +239,6 @@ pub fn operator_refusal(book: &Book, operator: u8, in_range: bool) -> Option<u8>
     refusal(book, &conditions)
 }
 
-/// Follows 01: "The lowest number that applies is given." Each number comes with
-/// whether it applies.
-pub fn lowest(conditions: &[(u8, bool)]) -> Option<u8> {
-    conditions
-        .iter()
-        .filter(|(_, applies)| *applies)
-        .map(|(number, _)| *number)
-        .min()
-}
-
 fn above_15(operator: u8) -> bool {
     usize::from(operator) >= OPERATORS
 }
@@ -248,22 +248,23 @@ fn is_joined(book: &Book, operator: u8) -> bool {
     !above_15(operator) && book.operators[usize::from(operator)].joined
 }
 
-/// All values but the operator.
-/// Follows 01: "End is 0 to 94,607,999, start at least -31,536,000 and at most
-/// end." and "Weight is the number of cabins, 1 to 100,000, for MV and 1 for LV."
-fn interruption_in_range(filed: &Interruption) -> bool {
-    let end_in_range = (0..=LATEST_END).contains(&filed.end);
-    let start_in_range = (EARLIEST_START..=filed.end).contains(&filed.start);
+/// All values of an interruption but its operator and its times.
+/// Follows 01: "Weight is the number of cabins, 1 to 100,000, for MV and 1 for LV."
+fn other_values_in_range(filed: &Interruption) -> bool {
     let level_and_weight_in_range = match filed.level {
         0 => (1..=MOST_WEIGHT).contains(&filed.weight),
         1 => filed.weight == 1,
         _ => false,
     };
-    end_in_range
-        && start_in_range
-        && level_and_weight_in_range
-        && filed.sign <= 1
-        && filed.cause <= 4
+    level_and_weight_in_range && filed.sign <= 1 && filed.cause <= 4
+}
+
+/// Whether the end or the start is outside the period. How late a start may be follows
+/// from the end alone.
+/// Follows 01: "End is 0 to 94,607,999, start at least -31,536,000"; and 02, point 8:
+/// "one that ends outside the three years or starts too early".
+fn is_outside_the_period(filed: &Interruption) -> bool {
+    !(0..=LATEST_END).contains(&filed.end) || filed.start < EARLIEST_START
 }
 
 /// Adds each value to the figure beside it (sign 0) or subtracts it (sign 1).
@@ -275,7 +276,7 @@ fn change(figures: &mut [u128], sign: u8, values: &[(usize, i128)]) -> Option<u8
         .map(|&(figure, value)| (figure, figures[figure] as i128 + factor * value))
         .collect();
     let any = |is_out: fn(i128) -> bool| changed.iter().any(|&(_, total)| is_out(total));
-    let refusal = lowest(&[
+    let refusal = first_that_applies(&[
         (8, any(|total| total > MOST_FIGURE as i128)),
         (9, any(|total| total < 0)),
     ]);

@@ -2,7 +2,8 @@
 //! book up to the first refusal.
 
 use crate::book::Book;
-use crate::calls::{self, lowest, Answer, Interruption};
+use crate::calls::{self, Answer, Interruption};
+use crate::order::first_that_applies;
 use crate::sector::Sector;
 
 /// The bytes of a field before its content: tag and length.
@@ -51,7 +52,7 @@ pub struct Reading {
     pub applied: usize,
     /// The offset of the refused tag, or the filing's length.
     pub offset: usize,
-    /// The number in 01's table of answers, if a field was refused.
+    /// The number in the table of answers, if a field was refused.
     pub refusal: Option<u8>,
 }
 
@@ -101,7 +102,7 @@ pub fn field_at(sector: Sector, filing: &[u8], offset: usize) -> Result<Field, u
     let tag = filing[offset];
     let length = length_at(filing, offset);
     let right = content_length(tag).filter(|_| has_tag(sector, tag));
-    let refusal = lowest(&[
+    let refusal = first_that_applies(&[
         (1, length > left - HEAD),
         (2, right.is_none()),
         (3, right.is_some_and(|right| length != right)),
@@ -380,7 +381,7 @@ mod tests {
     fn field(tag: u8, length: usize, present: usize) -> Vec<u8> {
         let [high, low] = (length as u16).to_be_bytes();
         let mut field = vec![tag, high, low];
-        // Operators above 15 and values out of range: the lower number counts.
+        // Operators above 15 and values out of range: 1, 2 and 3 come before them.
         field.resize(3 + present, 255);
         field
     }
@@ -527,11 +528,14 @@ mod tests {
         // The least and the greatest number.
         let least = [128, 0, 0, 0, 0, 0, 0, 0];
         let most = [127, 255, 255, 255, 255, 255, 255, 255];
-        refused(&field(least, zero), 5, 4, 1);
-        refused(&field(zero, most), 5, 4, 1);
-        refused(&field(zero, least), 5, 4, 1);
-        // An end of -1.
-        refused(&field(start, [255; 8]), 5, 4, 1);
+        refused(&field(least, zero), 15, 4, 1);
+        refused(&field(zero, most), 15, 4, 1);
+        refused(&field(zero, least), 14, 4, 1);
+        refused(&field(most, zero), 14, 4, 1);
+        // An end of -1, after a start of -181 and of -1, and before one of 0.
+        refused(&field(start, [255; 8]), 15, 4, 1);
+        refused(&field([255; 8], [255; 8]), 15, 4, 1);
+        refused(&field(zero, [255; 8]), 14, 4, 1);
         assert_eq!(signed(&least), i64::MIN);
         assert_eq!(signed(&most), i64::MAX);
         assert_eq!(signed(&[255; 8]), -1);

@@ -13,6 +13,7 @@ mod refused;
 mod sizes;
 #[cfg(test)]
 mod tests;
+mod times;
 
 use crate::program::MOST_READ;
 use crate::random::Random;
@@ -54,12 +55,14 @@ pub enum Kind {
     WithoutSize,
     /// Bytes cut, changed, added: 1, 2 and 3 above all.
     Damaged,
-    /// A field that gets 4 to 9.
+    /// A field that gets 4 to 9, 14 or 15.
     Refused,
     /// A field that is refused because of a count.
     RefusedByCount,
     /// A setting past its limit, or one that there is not.
     RefusedSetting,
+    /// Interruptions at the ends of the period, and mostly one that gets 14 or 15.
+    Times,
     /// For gas: a setting, figure or indicator that only electricity has.
     OnlyElectricity,
     /// For gas: an interruption.
@@ -98,6 +101,11 @@ const TURNS: [Kind; 25] = [
     Kind::RefusedSetting,
 ];
 
+/// One of electricity's filings in so many is about times. This number has no divisor in
+/// common with those of the turns of both sectors, so that each kind gives way alike, and
+/// gas is given some of these filings too.
+const TIMES_TURN: u64 = 19;
+
 /// One filing in so many is a long one.
 const LONG_TURN: u64 = 500;
 const LONG_LENGTHS: [usize; 8] = [
@@ -120,6 +128,9 @@ pub fn kind(number: u64) -> Kind {
 pub fn kind_in(sector: Sector, number: u64) -> Kind {
     if number % LONG_TURN == LONG_TURN - 1 {
         return Kind::Long;
+    }
+    if sector.has_interruptions() && number % TIMES_TURN == TIMES_TURN - 1 {
+        return Kind::Times;
     }
     let turns = match sector {
         Sector::Electricity => &TURNS[..],
@@ -146,6 +157,7 @@ pub fn filing_in(sector: Sector, seed: u64, number: u64) -> Vec<u8> {
         Kind::Refused => draft.refused(),
         Kind::RefusedByCount => draft.refused_by_count(),
         Kind::RefusedSetting => draft.refused_setting(),
+        Kind::Times => draft.times(),
         Kind::OnlyElectricity => draft.only_electricity(),
         Kind::Interrupted => draft.interrupted(),
         Kind::Foreign => return filing(seed, number),

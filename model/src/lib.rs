@@ -1,5 +1,5 @@
 //! The independent reference model, written from the requirement alone: 01, and
-//! points 1 to 7 of 02 where they speak. This file only declares the modules.
+//! points 1 to 8 of 02 where they speak. This file only declares the modules.
 
 pub mod book;
 pub mod calls;
@@ -13,6 +13,7 @@ pub mod generator;
 pub mod indicators;
 pub mod money;
 pub mod numbers;
+pub mod order;
 pub mod product;
 pub mod program;
 pub mod random;

@@ -341,7 +341,7 @@ mod tests {
         prints(&past, "refused 8 at 4\n");
         let below = encoded(&["join 0", "amount 0 0 0 1 1"]);
         prints(&below, "refused 9 at 4\n");
-        // Six marks without cabins and access points: the lower number.
+        // Six marks without cabins and access points: 11 comes before 12.
         prints(&encoded(&["join 0"]), "refused 11\n");
         prints(&encoded(&FRESHLY_JOINED), "refused 12\n");
         // All but one of the settings.
@@ -350,6 +350,30 @@ mod tests {
             calls.remove(missing);
             prints(&encoded(&calls), "refused 11\n");
         }
+    }
+
+    #[test]
+    fn which_value_of_an_interruption_was_out_of_range() {
+        for (number, call) in [
+            (14, "interruption 0 0 0 0 5001 5000 1"),
+            (15, "interruption 0 0 0 0 94607000 94608000 1"),
+            (15, "interruption 0 0 0 0 -31536001 0 1"),
+            (14, "interruption 0 0 0 0 0 -1 1"),
+            (5, "interruption 0 0 0 5 5001 5000 1"),
+            (14, "interruption 1 0 0 0 5001 5000 1"),
+        ] {
+            let filing = encoded(&["join 0", "rates 1 1", call, "join 1"]);
+            prints(&filing, &format!("refused {number} at 15\n"));
+            // What settles is kept from settling.
+            let mut filing = encoded(&case_m::calls());
+            filing.extend(encoded(&[call]));
+            let offset = filing.len() - 27;
+            prints(&filing, &format!("refused {number} at {offset}\n"));
+        }
+        // A start at its end is short and changes no lines.
+        let mut filing = encoded(&case_m::calls());
+        filing.extend(encoded(&["interruption 0 0 0 0 94607999 94607999 1"]));
+        prints(&filing, case_m::PRINTED);
     }
 
     /// A freshly joined operator settles once this mark is cleared, and not once

@@ -6,9 +6,10 @@ pub mod served;
 mod ties;
 
 use crate::book::{Book, Operator, Setting, INDICATORS, NUMBERED_SETTINGS};
-use crate::calls::{lowest, Answer};
+use crate::calls::Answer;
 use crate::indicators::{indicators, points, Points};
 use crate::money::{money, Money};
+use crate::order::first_that_applies;
 
 /// Follows 01: "The settlement holds all points, pools, pot, limits,
 /// contributions, returns and adjustments".
@@ -61,7 +62,7 @@ pub fn refusal(book: &Book) -> Option<u8> {
         |operator: &&Operator| sizes.iter().any(|&setting| operator.setting(setting) == 0);
     let all_marked =
         |operator: &&Operator| sector.indicators().all(|number| operator.marks[number]);
-    lowest(&[
+    first_that_applies(&[
         (5, !book.in_range()),
         (10, joined.is_empty()),
         (11, joined.iter().any(without_size)),

@@ -18,6 +18,17 @@ fn one_book_is_kept_over_the_commands() {
 }
 
 #[test]
+fn times_have_numbers_of_their_own() {
+    let input = "join 0\ninterruption 0 0 0 0 5001 5000 1\n\
+        interruption 0 0 0 0 94607000 94608000 1\ninterruption 0 0 0 0 -31536001 0 1\n\
+        interruption 0 0 0 0 5000 5000 1\ninterruption 1 0 0 0 5001 5000 1\n\
+        interruption 0 0 0 5 5001 5000 1\ninterruption 0 0 0 0 0 -1 1\n";
+    let output = "yes\nrefused 14\nrefused 15\nrefused 15\nleft out short\nrefused 14\n\
+        refused 5\nrefused 14\n";
+    assert_eq!(run(input), (0, output.to_string(), String::new()));
+}
+
+#[test]
 fn settling_leaves_the_book() {
     let input =
         "settle\njoin 7\nsetting 7 0 1\nsetting 7 1 1\nsetting 7 3 1\nsetting 7 4 1\nsettle\n\

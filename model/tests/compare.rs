@@ -386,6 +386,36 @@ fn what_is_told_of_a_refused_field_is_compared() {
     rewriting("refused_at_length", &longer).is_noticed_at(number, &told);
 }
 
+/// The first filing that is refused by that number, which is not rare.
+fn first_refused_by(number: u8) -> u64 {
+    let start = format!("refused {number} at ");
+    let is_refused = |&filing: &u64| printed(filing).starts_with(&start);
+    (0..500).find(is_refused).unwrap()
+}
+
+/// A program that gives another number at a filing is noticed.
+fn other_number_is_noticed(filing: u64, line: &str, other: &str) {
+    let folder = folder(&format!("number_{}", other.replace(' ', "_")));
+    let behaviour = format!("{SETTLES} | sed 's/{line}/{other}/'");
+    fs::write(folder.join("behaviour.sh"), behaviour).unwrap();
+    let first = filing.to_string();
+    let place = [folder.to_str().unwrap(), "1", &first, "1"];
+    let (status, told, _) = run(&[SETTLING, &place].concat(), "");
+    assert_eq!(status, 1, "{told}");
+    let right = printed(filing);
+    let wrong = right.replace(line, other);
+    let given = format!("by the model:\n{right}by the program:\n{wrong}");
+    assert!(told.ends_with(&given), "{told}");
+}
+
+#[test]
+fn other_numbers_for_times_are_noticed() {
+    let (by_14, by_15) = (first_refused_by(14), first_refused_by(15));
+    other_number_is_noticed(by_14, "refused 14", "refused 15");
+    other_number_is_noticed(by_15, "refused 15", "refused 14");
+    other_number_is_noticed(by_14, "refused 14", "refused 5");
+}
+
 #[test]
 fn the_status_of_a_refused_field_is_free() {
     rewriting("refused_well", &format!("{REWRITES}; true")).is_taken();

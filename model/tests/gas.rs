@@ -334,6 +334,25 @@ fn fields_of_electricity_are_refused_by_gas() {
 }
 
 #[test]
+fn gas_looks_at_no_times() {
+    for (number, call) in [
+        (14, "interruption 0 0 0 0 5001 5000 1"),
+        (15, "interruption 0 0 0 0 94607000 94608000 1"),
+        (15, "interruption 0 0 0 0 -31536001 0 1"),
+        (
+            14,
+            "interruption 0 0 0 0 9223372036854775807 -9223372036854775808 1",
+        ),
+    ] {
+        let file = filed("gas_times", &format!("join 0\n{call}\n"));
+        let by_gas = run(&["--gas", "program", &file], b"");
+        assert_eq!(by_gas, done("refused 2 at 4\n"), "{call}");
+        let line = format!("refused {number} at 4\n");
+        assert_eq!(run(&["program", &file], b""), done(line), "{call}");
+    }
+}
+
+#[test]
 fn files_that_are_not_filings() {
     let missing = folder("gas_missing").join("missing.q");
     let missing = missing.to_str().unwrap();

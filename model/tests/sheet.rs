@@ -93,15 +93,14 @@ struct History {
     /// By operator: the same over interruptions, and over amounts.
     interruptions: BTreeMap<u8, i128>,
     amounts: BTreeMap<u8, i128>,
-    /// How many calls were refused by 8 and by 9.
-    refused: [u32; 2],
+    /// How many calls were refused, by number.
+    refused: BTreeMap<u8, u32>,
 }
 
 impl History {
     fn call(&mut self, field: &Field, answer: Answer) {
         match (*field, answer) {
-            (_, Answer::Refused(number @ (8 | 9))) => self.refused[usize::from(number) - 8] += 1,
-            (_, Answer::Refused(_)) => {}
+            (_, Answer::Refused(number)) => *self.refused.entry(number).or_default() += 1,
             (Field::Interruption(filed), _) => self.interruption(&filed, answer),
             (
                 Field::Amount {
@@ -169,7 +168,8 @@ fn signed(sign: u8, value: i128) -> i128 {
     }
 }
 
-/// An interruption of one of few operators, now and then out of range.
+/// An interruption of one of few operators, now and then out of range, or with a start
+/// after its end.
 fn interruption(random: &mut Random) -> Field {
     let end = random.pick(&[-1, 0, 31_535_999, 31_536_000, 63_072_100, 94_607_999]);
     let level = random.place(2) as u8;
@@ -179,7 +179,7 @@ fn interruption(random: &mut Random) -> Field {
         sign: u8::from(random.percent(45)),
         level,
         cause: random.place(6) as u8,
-        start: end - random.pick(&[0, 180, 181, 1000, 2_000_000]),
+        start: end - random.pick(&[0, 180, 181, 1000, 2_000_000, -1]),
         end,
         weight: if level == 0 { weight } else { weight.min(2) },
     })
@@ -208,7 +208,7 @@ fn call(random: &mut Random) -> Field {
 
 /// Makes so many calls from a fresh book on, and holds the sheets to the history.
 /// Each refused call leaves the book.
-fn agrees_over_a_list(random: &mut Random, calls: u64) -> [u32; 2] {
+fn agrees_over_a_list(random: &mut Random, calls: u64) -> BTreeMap<u8, u32> {
     let mut book = Book::fresh();
     let mut history = History::default();
     for _ in 0..calls {
@@ -225,10 +225,12 @@ fn agrees_over_a_list(random: &mut Random, calls: u64) -> [u32; 2] {
 
 #[test]
 fn totals_of_the_sheets() {
-    let mut refused = [0, 0];
-    for number in 0..60 {
-        let [past, below] = agrees_over_a_list(&mut Random::new(2, number), 100);
-        refused = [refused[0] + past, refused[1] + below];
+    let lists: Vec<BTreeMap<u8, u32>> = (0..60)
+        .map(|number| agrees_over_a_list(&mut Random::new(2, number), 100))
+        .collect();
+    let refused = |number: u8| lists.iter().filter_map(|list| list.get(&number)).sum();
+    for number in [5, 7, 8, 9, 14, 15] {
+        let count: u32 = refused(number);
+        assert!(count > 50, "{number}: {count}");
     }
-    assert!(refused.iter().all(|&count| count > 50), "{refused:?}");
 }

@@ -3,6 +3,7 @@
 
 mod counts;
 mod gas;
+mod times;
 
 use super::*;
 use crate::book::{figure_places, Operator};
@@ -188,7 +189,8 @@ fn year_of_the_end() {
 #[test]
 fn end_past_the_last_year() {
     let book = with(&[0]);
-    refuses_filed(&book, 5, mv(94_607_000, 94_608_000));
+    // Follows 02, point 8: "the marked end of 94,608,000 now gets 15".
+    refuses_filed(&book, 15, mv(94_607_000, 94_608_000));
     counts(&book, 2, 0, (1, 999), mv(94_607_000, 94_607_999));
 }
 
@@ -406,29 +408,6 @@ fn weights() {
     let mut book = with(&[0]);
     assert_eq!(setting(&mut book, 0, 0, 5), Answer::Yes);
     counts(&book, 0, 0, (6, 6000), filed.weight(6));
-}
-
-#[test]
-fn bounds_of_the_times() {
-    let book = with(&[0]);
-    // Start.
-    counts(&book, 0, 0, (1, 31_536_000), mv(-31_536_000, 0));
-    counts(&book, 2, 0, (1, 126_143_999), mv(-31_536_000, 94_607_999));
-    refuses_filed(&book, 5, mv(-31_536_001, 0));
-    refuses_filed(&book, 5, mv(i64::MIN, 0));
-    leaves_out(&book, 0, Reason::Short, mv(5000, 5000));
-    refuses_filed(&book, 5, mv(5001, 5000));
-    refuses_filed(&book, 5, mv(i64::MAX, 5000));
-    // End.
-    leaves_out(&book, 0, Reason::Short, mv(0, 0));
-    leaves_out(&book, 2, Reason::Short, mv(94_607_999, 94_607_999));
-    refuses_filed(&book, 5, mv(-1000, -1));
-    refuses_filed(&book, 5, mv(-1, -1));
-    refuses_filed(&book, 5, mv(94_608_000, 94_608_000));
-    refuses_filed(&book, 5, mv(0, i64::MAX));
-    refuses_filed(&book, 5, mv(i64::MIN, i64::MAX));
-    refuses_filed(&book, 5, mv(i64::MAX, i64::MIN));
-    refuses_filed(&book, 5, mv(i64::MIN, i64::MIN));
 }
 
 #[test]
@@ -705,8 +684,12 @@ fn refused_by_every_call_of(book: &Book, operator: u8) {
     refuses_each(book, 5, 0..=1, |book, value| mark(book, operator, 0, value));
     let counted = mv(0, 1000).of(operator);
     let short = mv(0, 100).of(operator);
-    for filed in [counted, counted.withdrawn(), short, short.withdrawn()] {
+    let backwards = mv(1, 0).of(operator);
+    let late = mv(0, 94_608_000).of(operator);
+    let early = mv(-31_536_001, 0).of(operator);
+    for filed in [counted, short, backwards, late, early] {
         refuses_filed(book, 5, filed);
+        refuses_filed(book, 5, filed.withdrawn());
     }
 }
 

@@ -190,6 +190,15 @@ impl Draft {
         self.random.pick(&others) as u8
     }
 
+    /// Mostly an operator that has joined; else one that has not, or none.
+    pub fn operator_or_none(&mut self) -> u8 {
+        match self.random.up_to(7) {
+            0 => self.other_operator(),
+            1 => self.random.edge(16, 255) as u8,
+            _ => self.joined_operator(),
+        }
+    }
+
     // Rates and indices.
 
     /// Rates and indices, mostly.
@@ -278,7 +287,7 @@ impl Draft {
     }
 
     /// The end of an interruption, often at or near the end of a year.
-    fn end(&mut self) -> i64 {
+    pub fn end(&mut self) -> i64 {
         match self.random.up_to(2) {
             0 => self.random.pick(&YEAR_ENDS),
             1 => {

@@ -3,7 +3,7 @@
 
 use super::draft::{amount, mark, setting, Draft, Style, MOST};
 use super::Kind;
-use crate::book::{FIGURES, INDICATORS, OPERATORS, SETTINGS, YEARS};
+use crate::book::{FIGURES, INDICATORS, SETTINGS, YEARS};
 use crate::calls::Interruption;
 use crate::filing::{encode, Field};
 
@@ -37,30 +37,6 @@ pub const TURNS: [Kind; 24] = [
 ];
 
 impl Draft {
-    /// Now and then nothing; mostly a sound filing.
-    fn start(&mut self) {
-        if !self.random.one_in(5) {
-            let mut plan = self.small_plan();
-            plan.operators = plan.operators.min(OPERATORS - 1);
-            self.make(&plan);
-        }
-    }
-
-    /// Up to three fields that a sound filing could have.
-    fn go_on(&mut self) {
-        let others = self.random.up_to(3);
-        self.repeat(others, Draft::add_correction);
-    }
-
-    /// Mostly an operator that has joined; else one that has not, or none.
-    fn operator_or_none(&mut self) -> u8 {
-        match self.random.up_to(7) {
-            0 => self.other_operator(),
-            1 => self.random.edge(16, 255) as u8,
-            _ => self.joined_operator(),
-        }
-    }
-
     // Numbers 4 and 5.
 
     /// A setting, an amount or a mark that only electricity has, after a sound filing
@@ -129,11 +105,14 @@ impl Draft {
             operator,
             ..self.interruption()
         };
-        if self.random.one_in(3) {
-            let way = 4 + self.random.up_to(10);
-            return self.interruption_out_of_range(way, filed);
+        match self.random.up_to(3) {
+            0 => {
+                let way = 4 + self.random.up_to(10);
+                self.interruption_out_of_range(way, filed)
+            }
+            1 => self.interruption_with_wrong_times(operator),
+            _ => Field::Interruption(filed),
         }
-        Field::Interruption(filed)
     }
 
     /// Its tag with a content that is too long or too short.

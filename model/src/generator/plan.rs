@@ -223,6 +223,21 @@ impl Draft {
 
     // The making.
 
+    /// Now and then nothing; mostly a sound filing.
+    pub fn start(&mut self) {
+        if !self.random.one_in(5) {
+            let mut plan = self.small_plan();
+            plan.operators = plan.operators.min(OPERATORS - 1);
+            self.make(&plan);
+        }
+    }
+
+    /// Up to three fields that a sound filing could have.
+    pub fn go_on(&mut self) {
+        let others = self.random.up_to(3);
+        self.repeat(others, Draft::add_correction);
+    }
+
     /// Makes a filing by the plan; every field is taken.
     pub fn make(&mut self, plan: &Plan) {
         let parts = self.parts(plan);

@@ -1,4 +1,4 @@
-//! Filings with a field that gets 4 to 9.
+//! Filings with a field that gets 4 to 9, 14 or 15.
 
 use super::draft::{amount, mark, most_setting, setting, Draft, Style, MOST};
 use crate::book::{FIGURES, FIRST_COUNT, INDICES, OPERATORS, SETTINGS};
@@ -7,6 +7,8 @@ use crate::filing::Field;
 
 const MOST_U32: u64 = u32::MAX as u64;
 const MOST_I64: u64 = i64::MAX as u64;
+/// The ways in which an interruption is out of range and its times are not.
+pub const NOT_BY_TIMES: [u64; 6] = [4, 5, 6, 12, 13, 14];
 
 /// An interruption of 181 seconds and weight 1 within a year.
 fn just_counted(operator: u8, year: usize, level: u8) -> Interruption {
@@ -23,7 +25,7 @@ fn just_counted(operator: u8, year: usize, level: u8) -> Interruption {
 }
 
 impl Draft {
-    /// A sound filing, then a field that gets 4 to 9, then others.
+    /// A sound filing, then a field that gets 4 to 9, 14 or 15, then others.
     pub fn refused(&mut self) {
         let mut plan = self.small_plan();
         plan.operators = plan.operators.min(OPERATORS - 1);
@@ -53,7 +55,7 @@ impl Draft {
         self.add(field);
     }
 
-    /// Adds a field that gets that number.
+    /// Adds a field that gets that number; instead of 5 it may be 14 or 15.
     fn add_refused(&mut self, number: u64) {
         match number {
             4 => self.above_15(),
@@ -128,7 +130,7 @@ impl Draft {
         field
     }
 
-    // Number 5.
+    // Numbers 5, 14 and 15.
 
     /// A field with one value other than the operator out of its range.
     fn out_of_range(&mut self, operator: u8) -> Field {
@@ -188,6 +190,8 @@ impl Draft {
         }
     }
 
+    /// The same interruption with a value out of its range: by ways 7 to 11 a time, by the
+    /// others `NOT_BY_TIMES` another one.
     pub fn interruption_out_of_range(&mut self, way: u64, mut filed: Interruption) -> Field {
         match way {
             4 => filed.sign = self.past(2) as u8,

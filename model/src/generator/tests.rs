@@ -7,6 +7,7 @@ mod fees;
 mod gas;
 mod marks;
 mod ties;
+mod times;
 
 use super::draft::MOST;
 use super::*;
@@ -128,12 +129,19 @@ fn outcome(sector: Sector, filing: &[u8]) -> String {
 /// All outcomes occur among the filings of a sector, and so many of them settle.
 fn has_all_outcomes(sector: Sector, seed: u64, least_settled: u32) {
     let mut counts: BTreeMap<String, u32> = BTreeMap::new();
-    for number in 0..2000 {
+    for number in 0..3000 {
         let outcome = outcome(sector, &filing_in(sector, seed, number));
         *counts.entry(outcome).or_default() += 1;
     }
+    // Gas has no interruptions, whose times these are.
+    let by_times = if sector.has_interruptions() {
+        numbered("refused # at", 14..=15)
+    } else {
+        Vec::new()
+    };
     let refusals = [
         numbered("refused # at", 1..=9),
+        by_times,
         numbered("refused #", 10..=12),
     ]
     .concat();
@@ -142,14 +150,15 @@ fn has_all_outcomes(sector: Sector, seed: u64, least_settled: u32) {
     assert!(counts.contains_key("too long"), "{counts:?}");
     let settled = counts["operator points out in adjustment"];
     assert!(settled >= least_settled, "{counts:?}");
-    assert_eq!(counts.len(), 14, "{counts:?}");
+    // Besides these: too long, and settled.
+    assert_eq!(counts.len(), refusals.len() + 2, "{counts:?}");
 }
 
 #[test]
 fn all_outcomes_occur() {
     for seed in [1, 2017] {
-        has_all_outcomes(Sector::Electricity, seed, 1300);
-        has_all_outcomes(Sector::Gas, seed, 1100);
+        has_all_outcomes(Sector::Electricity, seed, 1850);
+        has_all_outcomes(Sector::Gas, seed, 1650);
     }
 }
 
@@ -213,6 +222,7 @@ fn kinds_by_turns() {
         Kind::Refused,
         Kind::RefusedByCount,
         Kind::RefusedSetting,
+        Kind::Times,
         Kind::Long,
     ] {
         assert!((0..500).any(|number| kind(number) == turn), "{turn:?}");
@@ -228,6 +238,7 @@ fn sound_kinds_are_read_whole() {
                 | Kind::Refused
                 | Kind::RefusedByCount
                 | Kind::RefusedSetting
+                | Kind::Times
                 | Kind::Long
         )
     };
@@ -497,6 +508,8 @@ fn expected_numbers() -> Vec<String> {
         numbered("tag # refused 7", 2..=5),
         numbered("tag # refused 8", [3, 4]),
         numbered("tag # refused 9", [3, 4]),
+        numbered("tag # refused 14", [3]),
+        numbered("tag # refused 15", [3]),
         numbered("all marked at #", 0..=5),
         numbered("tie at #", 0..=5),
         numbered("sums past 64 bits at #", [0, 2, 4, 5]),

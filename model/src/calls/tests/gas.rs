@@ -139,8 +139,9 @@ fn rates_and_indices_are_those_of_electricity() {
     refuses(&book, 5, |book| index(book, 4, 1));
 }
 
-/// Interruptions that electricity counts, leaves out, and refuses by 4, 5, 7 and 9.
-fn interruptions() -> [Interruption; 8] {
+/// Interruptions that electricity counts, leaves out, and refuses by 4, 5, 7, 9, 14 and
+/// 15.
+fn interruptions() -> [Interruption; 12] {
     let long = mv(0, 181);
     [
         long,
@@ -150,11 +151,15 @@ fn interruptions() -> [Interruption; 8] {
         long.cause(5),
         long.of(1),
         long.withdrawn(),
+        mv(1, 0),
+        mv(0, 94_608_000),
+        mv(-31_536_001, 0),
+        mv(i64::MAX, i64::MIN).of(1),
         mv(1, 0).of(255).sign(2).level(2).cause(5).weight(0),
     ]
 }
 
-/// In range: before 4, 5 and 7.
+/// In range: before 4, 5, 7, 14 and 15.
 #[test]
 fn interruptions_are_refused_by_2() {
     for filed in interruptions() {

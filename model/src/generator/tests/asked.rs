@@ -25,8 +25,8 @@ fn outcomes(seed: u64, number: u64) -> Vec<String> {
     }
 }
 
-/// At least how many of 2000 filings have it.
-const LEAST: [(&str, u32); 13] = [
+/// At least how many of 2200 filings have it.
+const LEAST: [(&str, u32); 15] = [
     ("sheet", 1000),
     ("counted", 500),
     ("short", 500),
@@ -39,13 +39,15 @@ const LEAST: [(&str, u32); 13] = [
     ("refused 1 at", 20),
     ("refused 8 at", 20),
     ("refused 9 at", 20),
+    ("refused 14 at", 20),
+    ("refused 15 at", 20),
     ("too long", 1),
 ];
 
 #[test]
 fn all_outcomes_of_sheets_occur() {
     let mut counts: BTreeMap<String, u32> = BTreeMap::new();
-    for what in (0..2000).flat_map(|number| outcomes(1, number)) {
+    for what in (0..2200).flat_map(|number| outcomes(1, number)) {
         *counts.entry(what).or_default() += 1;
     }
     let often = |(what, least): &(&str, u32)| counts.get(*what).is_some_and(|count| count >= least);

@@ -258,7 +258,7 @@ fn settings_shown(filing: &[u8]) -> BTreeSet<String> {
 
 #[test]
 fn settings_at_their_limits() {
-    let filings = filings_of(Kind::RefusedSetting, 160);
+    let filings = filings_of(Kind::RefusedSetting, 320);
     let counts = counted(filings.iter().flat_map(|filing| settings_shown(filing)));
     let cabins = |which: u8| {
         [
@@ -286,7 +286,7 @@ fn settings_at_their_limits() {
         .map(String::as_str)
         .chain(others)
         .map(|text| (text, 1))
-        .chain([("5 refused", 10)])
+        .chain([("5 refused", 20)])
         .collect();
     are_shown(&counts, &expected);
     assert!(!counts.contains_key("5 taken"));

@@ -140,31 +140,31 @@ impl Shown {
     }
 }
 
-/// What each count shows, and in at least how many of 3000 filings.
+/// What each count shows, and in at least how many of 8000 filings.
 const LEAST_OF_EACH: [(&str, u32); 10] = [
-    ("filed", 500),
-    ("withdrawn", 200),
-    ("amount filed", 1000),
-    ("amount withdrawn", 200),
-    ("amount refused 8", 1),
+    ("filed", 1300),
+    ("withdrawn", 530),
+    ("amount filed", 2650),
+    ("amount withdrawn", 530),
+    ("amount refused 8", 3),
     ("amount refused 9", 1),
-    ("alone refused 8", 3),
-    ("alone refused 9", 8),
-    ("filed and refused 9", 6),
-    ("taken and refused 9", 4),
+    ("alone refused 8", 8),
+    ("alone refused 9", 21),
+    ("filed and refused 9", 16),
+    ("taken and refused 9", 10),
 ];
 
 /// What is shown besides, in the same way.
 const LEAST_BESIDES: [(&str, u32); 3] = [
-    ("13 amount refused 5", 5),
-    ("weights refused 8", 5),
-    ("weights refused 9", 5),
+    ("13 amount refused 5", 13),
+    ("weights refused 8", 13),
+    ("weights refused 9", 13),
 ];
 
 #[test]
 fn all_counts_occur() {
     let mut counts: BTreeMap<String, u32> = BTreeMap::new();
-    for what in (0..3000).flat_map(|number| Shown::of(&filing(1, number))) {
+    for what in (0..8000).flat_map(|number| Shown::of(&filing(1, number))) {
         *counts.entry(what).or_default() += 1;
     }
     let of_each = (8..=12)

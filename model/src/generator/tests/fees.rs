@@ -203,10 +203,10 @@ fn settled_shown(sector: Sector, filing: &[u8]) -> Vec<String> {
         .collect()
 }
 
-/// The first 2000 filings of a sector show each of these at least so often.
+/// The first 2200 filings of a sector show each of these at least so often.
 fn show(sector: Sector, expected: &[(&str, u32)]) {
     for seed in [1, 2017] {
-        let filings = (0..2000).map(|number| filing_in(sector, seed, number));
+        let filings = (0..2200).map(|number| filing_in(sector, seed, number));
         let counts = counted(filings.flat_map(|filing| settled_shown(sector, &filing)));
         are_shown(&counts, expected);
     }

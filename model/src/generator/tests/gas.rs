@@ -143,7 +143,7 @@ fn place_in_words((field, number): (Field, u8)) -> Vec<String> {
 
 #[test]
 fn each_place_of_electricity_is_refused() {
-    let filings = filings_of(Kind::OnlyElectricity, 9000);
+    let filings = filings_of(Kind::OnlyElectricity, 12_000);
     let refused = filings.filter_map(|(_, filing)| refused_field(&filing));
     let counts = counted(refused.flat_map(place_in_words));
     let places = [
@@ -182,7 +182,7 @@ fn tag_refused(filing: &[u8]) -> Option<String> {
 
 #[test]
 fn interruptions_are_refused() {
-    let filings = filings_of(Kind::Interrupted, 4000);
+    let filings = filings_of(Kind::Interrupted, 6000);
     let counts = counted(filings.filter_map(|(_, filing)| tag_refused(&filing)));
     let expected = [
         "tag 3 refused 2, electricity reads on",
@@ -212,16 +212,17 @@ fn filings_of_electricity_are_given_to_gas() {
 
 #[test]
 fn filings_of_gas_are_given_to_electricity() {
-    let outcomes = (0..2000).map(|number| {
+    let outcomes = (0..4000).map(|number| {
         let filing = filing_in(Sector::Gas, 1, number);
         outcome(Sector::Electricity, &filing)
     });
     let counts = counted(outcomes);
     let expected = [
         numbered("refused # at", 1..=9),
+        numbered("refused # at", 14..=15),
         numbered("refused #", 10..=11),
     ];
-    occur(&counts, &expected.concat(), 5);
+    occur(&counts, &expected.concat(), 10);
     // Nearly all others have no cabins.
-    assert!(counts["refused 11"] > 1000, "{counts:#?}");
+    assert!(counts["refused 11"] > 2000, "{counts:#?}");
 }

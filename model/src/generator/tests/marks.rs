@@ -91,7 +91,7 @@ fn refused_cases(filed: &[(MarkPlace, u8)]) -> Vec<(&'static str, bool)> {
     ]
 }
 
-/// At least how many of 2000 filings show it.
+/// At least how many of 2200 filings show it.
 const LEAST_SHOWN: [(&str, u32); 8] = [
     ("all cleared", 800),
     ("some of each", 270),
@@ -105,7 +105,7 @@ const LEAST_SHOWN: [(&str, u32); 8] = [
 
 fn has_all_marks(seed: u64) {
     let mut counts: BTreeMap<&str, u32> = BTreeMap::new();
-    for what in (0..2000).flat_map(|number| marks_shown(&filing(seed, number))) {
+    for what in (0..2200).flat_map(|number| marks_shown(&filing(seed, number))) {
         *counts.entry(what).or_default() += 1;
     }
     let often =
