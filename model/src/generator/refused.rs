@@ -190,8 +190,8 @@ impl Draft {
         }
     }
 
-    /// The same interruption with a value out of its range: by ways 7 to 11 a time, by the
-    /// others `NOT_BY_TIMES` another one.
+    /// The same interruption with a value out of its range: by ways 7 to 11 a time, by those
+    /// of `NOT_BY_TIMES` another one.
     pub fn interruption_out_of_range(&mut self, way: u64, mut filed: Interruption) -> Field {
         match way {
             4 => filed.sign = self.past(2) as u8,
