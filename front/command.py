@@ -75,7 +75,7 @@ def _input_given():
 
 
 def _examples(builder, arguments):
-    """Settles the examples, each after what it shows. One is there to be refused, so that only trouble counts."""
+    """Settles the examples, each after what it shows. Two are there to be refused, so that only trouble counts."""
     trouble = False
     for calls in sorted(ROOT.glob("examples/*/calls.txt")):
         book_kind = kind_of_example(calls.parent.name)

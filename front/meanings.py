@@ -25,7 +25,11 @@ MEANINGS = {
     12: "Every operator that has joined is marked unreliable at {all_indicators}, so no points can be given. A join sets the "
     "{marks} marks: clear one when its attestation is in, as in: mark 0 {indicator} 0",
     13: "The room lent for the output is too short. The programs here lend enough, so tell whoever keeps them.",
+    14: "The interruption starts after its end. Correct the start or the end.",
+    15: "The interruption ends outside 2017 to 2019, or starts before 2 January 2016. Correct the end or the start.",
 }
+# Those of an interruption's times, which a kind without interruptions does not give.
+OF_TIMES = (14, 15)
 # For a sheet there is no call that a join could stand before.
 UNJOINED_SHEET = "This operator has not joined, so it has no sheet. Add its join, or correct the operator."
 
@@ -34,7 +38,8 @@ def meanings_of(book_kind):
     """What each number means for that kind of book."""
     (_, indicator), *_ = book_kind.indicators
     own = {**book_kind._asdict(), "tags": runs(book_kind.tags), "indicator": indicator}
-    return {number: meaning.format(**own) for number, meaning in MEANINGS.items()}
+    untold = () if BY_NAME["interruption"].tag in book_kind.tags else OF_TIMES
+    return {number: meaning.format(**own) for number, meaning in MEANINGS.items() if number not in untold}
 
 
 class Asked(NamedTuple):

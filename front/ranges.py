@@ -1,4 +1,4 @@
-"""The ranges of the values of a call, and which of its values are outside: what a refusal by 5 means."""
+"""The ranges of the values of a call, and which of its values are outside: what a refusal by 5, 14 or 15 means."""
 
 from front.calls import ACCESS_POINTS, CABINS, INCOME, YEARS
 from front.words import word_of
@@ -17,9 +17,10 @@ MOST_RATE = 20_000
 MOST_INDEX = 100_000
 
 
-def outside(call, book_kind):
-    """A sentence for each value of a call that is outside its range in that kind of book: the value, and the range."""
-    wrong = [*_untaken(call, book_kind), *(CHECKS.get(call.kind.name, _none)(call) if book_kind.takes(call) else ())]
+def outside(number, call, book_kind):
+    """A sentence for each value of a call for which that number refuses it in that kind of book: the value, and the range."""
+    untaken = _untaken(call, book_kind) if number == 5 else ()
+    wrong = [*untaken, *(CHECKS[number].get(call.kind.name, _none)(call) if book_kind.takes(call) else ())]
     words = {place.name: word_of(place, value) for place, value in zip(call.kind.places, call.values)}
     return [f"The {name} is {words[name]}: {text}." for name, text in wrong]
 
@@ -42,14 +43,20 @@ def _setting(call):
         yield "value", LIMITS[which][1]
 
 
-def _interruption(call):
-    start, end, weight = (call.value(name) for name in ("start", "end", "weight"))
-    if not 0 <= end <= MOST_END:
+def _start_and_end(call):
+    if call.value("start") > call.value("end"):
+        yield "start", f"it is not after the end, {word_of(call.kind.places[5], call.value('end'))}"
+
+
+def _period(call):
+    if not 0 <= call.value("end") <= MOST_END:
         yield "end", f"it is {PERIOD}"
-    if start < LEAST_START:
+    if call.value("start") < LEAST_START:
         yield "start", "it is not before 2016-01-02T00:00"
-    if start > end:
-        yield "start", f"it is not after the end, {word_of(call.kind.places[5], end)}"
+
+
+def _interruption(call):
+    weight = call.value("weight")
     if call.value("level") == 1 and weight != 1:
         yield "weight", "for LV it is 1"
     if call.value("level") == 0 and not 1 <= weight <= MOST_WEIGHT:
@@ -72,4 +79,9 @@ def _index(call):
         yield "value", f"an index is 1 to {MOST_INDEX:,} hundredths"
 
 
-CHECKS = {"setting": _setting, "interruption": _interruption, "mark": _mark, "rates": _rates, "index": _index}
+# What is looked at for each number, by the name of the call.
+CHECKS = {
+    5: {"setting": _setting, "interruption": _interruption, "mark": _mark, "rates": _rates, "index": _index},
+    14: {"interruption": _start_and_end},
+    15: {"interruption": _period},
+}

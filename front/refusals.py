@@ -4,7 +4,7 @@ from front.calls import CABINS, SETTINGS, YEAR
 from front.figures import moves_of
 from front.kinds import hints, hints_to_settle
 from front.listing import listed, runs, sentence
-from front.ranges import outside
+from front.ranges import CHECKS, outside
 from front.trouble import Trouble
 from front.words import line_of, word_of
 
@@ -104,9 +104,9 @@ def _to_look_at(source, number, before, field, programs):
 
 
 def _untaken(number, field, book_kind):
-    """For 5 the values and their ranges; for 2 why this kind of book takes no such call, if another one does."""
-    if number == 5:
-        return outside(field.call, book_kind)
+    """For 5, 14 and 15 the values and their ranges; for 2 why this kind of book takes no such call, if another one does."""
+    if number in CHECKS:
+        return outside(number, field.call, book_kind)
     lack = book_kind.refusal_of(field.data[0]) if number == 2 else None
     return [sentence(lack)] if lack else []
 
@@ -163,7 +163,7 @@ def _withdraws(call):
 def _of_sheet(source, refusal, asked):
     """For 5 the year and its range; for 7 who has joined."""
     if refusal.number == 5:
-        return outside(asked.like, asked.book_kind)
+        return outside(5, asked.like, asked.book_kind)
     if refusal.number == 7:
         joined = sorted(field.call.value("operator") for field in source.fields() if field.call.kind.name == "join")
         return [f"Joined here: {listed([f'operator {operator}' for operator in joined] or ['nobody'])}."]

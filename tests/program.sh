@@ -7,7 +7,7 @@ gas_program=$(built quality_gas)
 
 for example in examples/*/; do
     "$model" encode <"$example/calls.txt" | cmp - "$example/filing.q"
-    # One of the examples is refused, which is status 1.
+    # Two of the examples are refused, which is status 1.
     # shellcheck disable=SC2046
     ./settle $(option_of "$example") "$example" >"$work/printed" 2>"$work/said" || [ $? = 1 ] || fail "$(cat "$work/said")"
     cmp "$work/printed" <(model_of "$example" program "$example/filing.q")

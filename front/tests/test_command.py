@@ -76,6 +76,8 @@ class Output(InFolder):
         run = settle(cwd=self.folder)
         self.assertEqual((run.status, run.output), (0, expected))
         self.assertIn("examples/refused/filing.q: field 6 at byte 56: refused: amount 2 2017 fees file 50000", run.said)
+        mistyped = "interruption 0 file MV own 2018-06-03T08:10 2018-05-03T09:40 12"
+        self.assertIn(f"examples/mistyped/filing.q: field 6 at byte 56: refused: {mistyped}", run.said)
 
     def test_a_reader_that_leaves_is_no_error(self):
         end, other = os.pipe()

@@ -8,7 +8,7 @@ from front.calls import BY_NAME, FIGURES, INDICATORS, YEARS, Call
 from front.filing import encode
 from front.kinds import ELECTRICITY, GAS, KINDS_OF_BOOK, kind_of_example
 from front.meanings import meanings_of
-from front.ranges import outside
+from front.ranges import CHECKS, outside
 from front.tests.common import EXERCISE, GAS_EXERCISE, GAS_PROGRAM, ROOT, InFolder, program_on, settle, settle_here
 
 CASE_M = ROOT / "examples" / "case-m"
@@ -458,11 +458,14 @@ class Asked(InFolder):
             self.assertIs(kind_of_example(name), book_kind)
 
 
+# Starts and ends: in order, alike, exchanged, too late, too early.
+TIMES = [("0", "300"), ("300", "300"), ("301", "300"), ("0", "94608000"), ("-31536001", "0")]
 # Calls where operator 1 has joined: each of the seven, and each number at a place that not all kinds of book take alike.
 TRIED = [
     "join 2",
     *(f"setting 1 {number} 1" for number in range(6)),
     INTERRUPTION.replace("interruption 0", "interruption 1"),
+    *(f"interruption 1 file MV own {start} {end} 1" for start, end in TIMES),
     *(f"amount 1 2019 {number} file 1" for number in range(14)),
     *(f"mark 1 {number} 0" for number in range(7)),
     "rates 1 2",
@@ -476,7 +479,8 @@ class Kinds(InFolder):
         for book_kind, text in product(KINDS_OF_BOOK, TRIED):
             call = words.read(text)[0][0].call
             printed = program_on(joined + encode(call), GAS_PROGRAM.with_name(book_kind.settling))
-            self.assertEqual(b" at 4" not in printed, book_kind.takes(call) and not outside(call, book_kind), (book_kind.name, text))
+            taken = book_kind.takes(call) and not any(outside(number, call, book_kind) for number in CHECKS)
+            self.assertEqual(b" at 4" not in printed, taken, (book_kind.name, text))
 
     def test_the_indicators_and_tags_of_each(self):
         self.assertEqual([word for _, word in ELECTRICITY.indicators], list(INDICATORS))
@@ -484,7 +488,7 @@ class Kinds(InFolder):
 
     def test_every_number_has_a_meaning_in_each(self):
         for book_kind in KINDS_OF_BOOK:
-            self.assertEqual(list(meanings_of(book_kind)), list(range(1, 14)))
+            self.assertEqual(list(meanings_of(book_kind)), list(range(1, 16 if book_kind is ELECTRICITY else 14)))
             self.assertFalse([meaning for meaning in meanings_of(book_kind).values() if "{" in meaning])
         differing = [number for number in MEANINGS if MEANINGS[number] != meanings_of(ELECTRICITY)[number]]
         self.assertEqual(differing, [2, 11, 12])

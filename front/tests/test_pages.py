@@ -5,7 +5,7 @@ import re
 from front import csv_calls, words
 from front.calls import KINDS
 from front.kinds import KINDS_OF_BOOK
-from front.meanings import UNJOINED_SHEET, meanings_of
+from front.meanings import MEANINGS, UNJOINED_SHEET, meanings_of
 from front.sources import source_of
 from front.tests.common import ROOT, InFolder, settle
 
@@ -59,6 +59,27 @@ class Pages(InFolder):
 
     def test_the_refusal_of_a_sheet_stands_there(self):
         self.assertIn(f"\n    7: {UNJOINED_SHEET}\n", page("docs/FILING.md"))
+
+    def test_the_mistyped_dates_of_the_page(self):
+        text = page("docs/FILING.md")
+        shown = re.findall(r"^    (exercise\.txt:6: refused: (interruption .*)\n      (1[45]): .*\n      .*\n)", text, re.MULTILINE)
+        self.assertEqual([number for _, _, number in shown], ["14", "15"])
+        for block, line, number in shown:
+            for first in ("join 0\n", "join 1\n"):
+                self.file("exercise.txt", f"{first}rates 1 1\n\n\n\n{line}\n")
+                run = settle("exercise.txt", cwd=self.folder)
+                self.assertEqual(run.output, f"refused {number} at 15\n".encode())
+                self.assertEqual("".join(f"{told}\n" for told in run.said.splitlines()[:3]), block.replace("\n      ", "\n  "))
+        # One of no length is left out as short.
+        calls = self.file("exercise.txt", "join 0\ninterruption 0 file MV own 300 300 1\n")
+        self.assertIn(b"left out: short", settle("--show", calls).output)
+
+    def test_the_order_of_the_numbers_is_the_definitions(self):
+        definition = (ROOT / "crates" / "calls" / "specs" / "Laws.antt").read_text(encoding="utf-8")
+        ((numbers),) = re.findall(r"^order = ([0-9 ∷]+) ∷ \[\]$", definition, re.MULTILINE)
+        told = re.search(r"the first in\s+this order is given: ([0-9, ]+)\.", page("docs/FILING.md"))[1]
+        self.assertEqual(told.split(", "), numbers.split(" ∷ "))
+        self.assertEqual(sorted(map(int, told.split(", "))), list(MEANINGS))
 
     def test_the_table_of_the_page_is_read(self):
         tables = [text for kind, text in BLOCK.findall(page("docs/FILING.md")) if kind == "csv"]

@@ -151,7 +151,7 @@ class Refused(InFolder):
         )
         self.assertEqual(self.said_of("# nothing\n", 0, 2017, printed="refused 7")[-1], "  Joined here: nobody.")
 
-    def test_the_lowest_number(self):
+    def test_the_first_number(self):
         for operator, year, number in [(16, 3, 4), (16, 2017, 4), (1, 3, 5), (1, 2017, 7)]:
             self.said_of(NETWORK, operator, year, printed=f"refused {number}")
 

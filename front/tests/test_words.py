@@ -117,8 +117,11 @@ class Taken(InFolder):
             ("join 0\namount 0 0 13 file 1", b"refused 5 at 4\n"),
             ("join 0\nsetting 0 cabins-2018 18446744073709551615", b"refused 5 at 4\n"),
             ("join 0\nsetting 0 5 1", b"refused 5 at 4\n"),
-            ("join 0\ninterruption 0 file MV own 2015-12-31T00:00 2017-01-01T00:00 1", b"refused 5 at 4\n"),
+            ("join 0\ninterruption 0 file MV own 2015-12-31T00:00 2017-01-01T00:00 1", b"refused 15 at 4\n"),
+            ("join 0\ninterruption 0 file MV own 2017-01-02T00:00 2017-01-01T00:00 1", b"refused 14 at 4\n"),
             ("join 0\ninterruption 0 file MV own -9223372036854775808 9223372036854775807 4294967295", b"refused 5 at 4\n"),
+            ("join 0\ninterruption 0 file MV own -9223372036854775808 9223372036854775807 1", b"refused 15 at 4\n"),
+            ("join 0\ninterruption 0 file MV own 9223372036854775807 -9223372036854775808 1", b"refused 14 at 4\n"),
             ("rates 4294967295 0", b"refused 5 at 0\n"),
         ]:
             run = settle_here(self.file("calls.txt", text))

@@ -1,29 +1,9 @@
-// The ranges of an interruption's values.
+// The ranges of an interruption's values other than its times.
 ghost use mathlib.Core.Path.{_≡_};
-ghost use Rattle.calls.specs.Indicators.{electricity};
-ghost use Rattle.calls.specs.Call.{weightInRange, detailsInRange, timesInRange, factsOf};
-use calls::Call;
-use calls::FIRST_START;
-use calls::LAST_END;
+ghost use Rattle.calls.specs.Call.{weightInRange, detailsInRange};
 use calls::WEIGHT_LIMIT;
 
-pub fn interruption_in_range(
-    sign: u8,
-    level: u8,
-    cause: u8,
-    start: i64,
-    end: i64,
-    weight: u32,
-) -> bool
-    ensures { λ r. ⌜ r ≡ factsOf electricity (Call.Interruption 0 sign level cause start end weight) .in-range ⌝ }
-{
-    if !details_in_range(sign, level, cause, weight) {
-        return false;
-    }
-    times_in_range(start, end)
-}
-
-fn details_in_range(sign: u8, level: u8, cause: u8, weight: u32) -> bool
+pub fn details_in_range(sign: u8, level: u8, cause: u8, weight: u32) -> bool
     ensures { λ r. ⌜ r ≡ detailsInRange sign level cause weight ⌝ }
 {
     if 1 < sign {
@@ -49,19 +29,4 @@ fn weight_in_range(level: u8, weight: u32) -> bool
         return weight == 1;
     }
     weight <= WEIGHT_LIMIT
-}
-
-fn times_in_range(start: i64, end: i64) -> bool
-    ensures { λ r. ⌜ r ≡ timesInRange start end ⌝ }
-{
-    if end < 0 {
-        return false;
-    }
-    if LAST_END < end {
-        return false;
-    }
-    if start < FIRST_START {
-        return false;
-    }
-    start <= end
 }

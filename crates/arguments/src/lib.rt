@@ -1,4 +1,4 @@
-// Whether the arguments of a filing call are in range, each by 01's limits.
+// Whether the arguments of a filing call are in range, each by 01's limits; an interruption's times have numbers of their own.
 mod arguments;
 mod interruptions;
 
@@ -8,4 +8,4 @@ pub use arguments::mark_in_range;
 pub use arguments::rates_in_range;
 pub use arguments::setting_in_range;
 pub use arguments::setting_limit;
-pub use interruptions::interruption_in_range;
+pub use interruptions::details_in_range;

@@ -37,6 +37,10 @@ pub or-true-right : (t : Bool) → t || true ≡ true
 or-true-right true = refl
 or-true-right false = refl
 
+pub or-left : (s t : Bool) → s || t ≡ false → s ≡ false
+or-left true t e = absurd (false≢true (sym e))
+or-left false t e = refl
+
 pub or-right : (s t : Bool) → s || t ≡ false → t ≡ false
 or-right true t e = absurd (false≢true (sym e))
 or-right false t e = e

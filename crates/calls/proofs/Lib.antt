@@ -1,7 +1,7 @@
 -- The laws that the proofs of `calls`, and of the crates above it, use.
 pub mod Flags
 pub mod KindLaws
-pub mod Lowest
+pub mod First
 pub mod SaidLaws
 pub mod Bit
 pub mod MaskLaws

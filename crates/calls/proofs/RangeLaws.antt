@@ -12,7 +12,7 @@ use Rattle.calls.specs.declared.Call.{Call}
 use Rattle.calls.specs.declared.Call.the-variants.{Join, Setting, Interruption, Amount, Mark, Rates, Index}
 use Rattle.calls.specs.Limits.{weightLimit, years, figureCount, settingCount, indicatorCount, indexCount, settingLimit, rateLimit, indexLeast, indexMost}
 use Rattle.calls.specs.Call.{weightInRange, detailsInRange, yearOf, factsOf}
-use Rattle.calls.proofs.Times.{timed, year-lt}
+use Rattle.calls.proofs.Times.{ends, year-lt}
 use Rattle.calls.proofs.Flags.{both, and-left, and-right}
 
 -- what the range of the details says in numbers
@@ -45,20 +45,20 @@ Ranges kind (Mark operator indicator mark) = (indicator < indicatorCount) × (ma
 Ranges kind (Rates pot cap) = (pot ≤ rateLimit) × (cap ≤ rateLimit)
 Ranges kind (Index number value) = (number < indexCount) × (indexLeast ≤ value) × (value ≤ indexMost)
 
-pub ranges : (kind : List Indicator) (call : Call) → factsOf kind call .in-range ≡ true → Ranges kind call
+-- 5 and 15 let it pass
+pub ranges : (kind : List Indicator) (call : Call) → factsOf kind call .in-range ≡ true → factsOf kind call .outside-period ≡ false → Ranges kind call
 unfolding factsOf
-ranges kind (Join operator) e = tt
-ranges kind (Setting operator which value) e =
+ranges kind (Join operator) e timely = tt
+ranges kind (Setting operator which value) e timely =
     let places : ltb which settingCount && takesSetting kind which ≡ true = and-left _ (leb value (settingLimit which)) e in (
       ltb-true which _ (and-left _ (takesSetting kind which) places),
       leb-true value _ (and-right (ltb which settingCount && takesSetting kind which) _ e),
       and-right (ltb which settingCount) _ places,
     )
-ranges kind (Interruption operator sign level cause start end weight) e =
-    let within = details sign level cause weight (and-left (detailsInRange sign level cause weight) _ e) in
-    let times = timed start end (and-right (detailsInRange sign level cause weight) _ e) in
-    (within .sign-most, within .level-most, year-lt times)
-ranges kind (Amount operator year figure sign value) e =
+ranges kind (Interruption operator sign level cause start end weight) e timely =
+    let within = details sign level cause weight e in
+    (within .sign-most, within .level-most, year-lt (ends start end timely))
+ranges kind (Amount operator year figure sign value) e timely =
     let taken : ltb year years && ltb figure figureCount && takesFigure kind figure ≡ true = and-left _ (leb sign 1) e in
     let places : ltb year years && ltb figure figureCount ≡ true = and-left _ (takesFigure kind figure) taken in (
       ltb-true year _ (and-left _ (ltb figure figureCount) places),
@@ -66,14 +66,14 @@ ranges kind (Amount operator year figure sign value) e =
       leb-true sign 1 (and-right (ltb year years && ltb figure figureCount && takesFigure kind figure) _ e),
       and-right (ltb year years && ltb figure figureCount) _ taken,
     )
-ranges kind (Mark operator indicator mark) e =
+ranges kind (Mark operator indicator mark) e timely =
     let places : ltb indicator indicatorCount && takesMark kind indicator ≡ true = and-left _ (leb mark 1) e in (
       ltb-true indicator _ (and-left _ (takesMark kind indicator) places),
       leb-true mark 1 (and-right (ltb indicator indicatorCount && takesMark kind indicator) _ e),
       and-right (ltb indicator indicatorCount) _ places,
     )
-ranges kind (Rates pot cap) e = (leb-true pot _ (and-left (leb pot rateLimit) _ e), leb-true cap _ (and-right (leb pot rateLimit) _ e))
-ranges kind (Index number value) e =
+ranges kind (Rates pot cap) e timely = (leb-true pot _ (and-left (leb pot rateLimit) _ e), leb-true cap _ (and-right (leb pot rateLimit) _ e))
+ranges kind (Index number value) e timely =
     let least : ltb number indexCount && leb indexLeast value ≡ true = and-left _ (leb value indexMost) e in (
       ltb-true number _ (and-left _ (leb indexLeast value) least),
       leb-true 1 value (and-right (ltb number indexCount) _ least),

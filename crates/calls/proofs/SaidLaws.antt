@@ -11,7 +11,7 @@ use mathlib.Core.List.{[], _∷_}
 use lib.ListN.{getD}
 use mathlib.Core.Path.{_≡_, refl, sym, ap, _∙_}
 use Rattle.calls.specs.declared.Refusal.{Refusal}
-use Rattle.calls.specs.declared.Refusal.the-variants.{Truncated, UnknownTag, WrongLength, UnknownOperator, OutOfRange, AlreadyJoined, NotJoined, AboveLimit, BelowZero, NoneJoined, NetworkMissing, AllMarked, BufferTooShort}
+use Rattle.calls.specs.declared.Refusal.the-variants.{Truncated, UnknownTag, WrongLength, UnknownOperator, OutOfRange, AlreadyJoined, NotJoined, AboveLimit, BelowZero, NoneJoined, NetworkMissing, AllMarked, BufferTooShort, StartsAfterEnd, OutsidePeriod}
 use Rattle.calls.specs.declared.Reason.{Reason}
 use Rattle.calls.specs.declared.Reason.the-variants.{Short, Planned, Coupled, Exceptional}
 use Rattle.calls.specs.declared.Answer.{Answer}
@@ -23,7 +23,7 @@ use Rattle.calls.specs.Laws.{ToldApart}
 abbrev refusalOf : ℕ → Refusal
 refusalOf number =
     getD
-    (Truncated ∷ UnknownTag ∷ WrongLength ∷ UnknownOperator ∷ OutOfRange ∷ AlreadyJoined ∷ NotJoined ∷ AboveLimit ∷ BelowZero ∷ NoneJoined ∷ NetworkMissing ∷ AllMarked ∷ BufferTooShort ∷ [])
+    (Truncated ∷ UnknownTag ∷ WrongLength ∷ UnknownOperator ∷ OutOfRange ∷ AlreadyJoined ∷ NotJoined ∷ AboveLimit ∷ BelowZero ∷ NoneJoined ∷ NetworkMissing ∷ AllMarked ∷ BufferTooShort ∷ StartsAfterEnd ∷ OutsidePeriod ∷ [])
     (number - 1) Truncated
 
 refusal-back : (refusal : Refusal) → refusalOf (numberOf refusal) ≡ refusal
@@ -40,6 +40,8 @@ refusal-back NoneJoined = refl
 refusal-back NetworkMissing = refl
 refusal-back AllMarked = refl
 refusal-back BufferTooShort = refl
+refusal-back StartsAfterEnd = refl
+refusal-back OutsidePeriod = refl
 
 pub numbers-apart : ToldApart numberOf
 numbers-apart refusal other same = sym (refusal-back refusal) ∙ ap refusalOf same ∙ refusal-back other

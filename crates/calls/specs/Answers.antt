@@ -4,7 +4,7 @@ use Prim.Native.Nat.{ℕ}
 use mathlib.Core.Bool.{Bool, true, false, cond}
 use mathlib.Core.List.{List, [], _∷_}
 use Rattle.calls.specs.declared.Refusal.{Refusal}
-use Rattle.calls.specs.declared.Refusal.the-variants.{Truncated, UnknownTag, WrongLength, UnknownOperator, OutOfRange, AlreadyJoined, NotJoined, AboveLimit, BelowZero, NoneJoined, NetworkMissing, AllMarked, BufferTooShort}
+use Rattle.calls.specs.declared.Refusal.the-variants.{Truncated, UnknownTag, WrongLength, UnknownOperator, OutOfRange, AlreadyJoined, NotJoined, AboveLimit, BelowZero, NoneJoined, NetworkMissing, AllMarked, BufferTooShort, StartsAfterEnd, OutsidePeriod}
 use Rattle.calls.specs.declared.Reason.{Reason}
 use Rattle.calls.specs.declared.Reason.the-variants.{Short, Planned, Coupled, Exceptional}
 use Rattle.calls.specs.declared.Answer.{Answer}
@@ -35,7 +35,7 @@ pub data Acceptance : Type 0 where
   left-out-as-short : Acceptance
   left-out-under : ℕ → Acceptance
 
--- "Answers other than yes"
+-- "Answers other than yes"; "Start after end is 14, a time outside the period 15" (02, point 8)
 abbrev pub numberOf : Refusal → ℕ
 numberOf Truncated = 1
 numberOf UnknownTag = 2
@@ -50,6 +50,8 @@ numberOf NoneJoined = 10
 numberOf NetworkMissing = 11
 numberOf AllMarked = 12
 numberOf BufferTooShort = 13
+numberOf StartsAfterEnd = 14
+numberOf OutsidePeriod = 15
 
 -- "left out as short", "left out under that cause"
 abbrev pub leftOutAs : Reason → Acceptance

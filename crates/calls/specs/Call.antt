@@ -1,20 +1,24 @@
 -- The seven filing calls: the operators that each names, its arguments' ranges, and what an accepted one enters and answers (01, "The filing").
 -- Assumes nothing.
 use Prim.Native.Nat.{ℕ, _+_, _*_, _/_}
-use mathlib.Core.Bool.{Bool, true, false, cond, _&&_}
+use mathlib.Core.Bool.{Bool, true, false, cond, _&&_, _||_}
 use mathlib.Core.List.{List, [], _∷_, _++_}
 use lib.Dec.{ltb, leb, eqb}
 use lib.IntN.{ℤ, pos, negℤ, natAbs, _-ℤ_}
-use lib.Signed.{leZ}
+use lib.Signed.{ltZ}
 use Rattle.calls.specs.declared.Call.{Call}
 use Rattle.calls.specs.declared.Call.the-variants.{Join, Setting, Interruption, Amount, Mark, Rates, Index}
 use Rattle.calls.specs.Limits.{years, firstCount, figureCount, settingCount, indicatorCount, indexCount, settingLimit, rateLimit, indexLeast, indexMost, yearLength, lastEnd, startBefore, weightLimit, shortMost}
 use Rattle.calls.specs.Indicators.{Indicator, takesInterruptions, takesSetting, takesFigure, takesMark}
 use Rattle.calls.specs.Answers.{Acceptance, yes-said, counted-in, left-out-as-short, left-out-under}
 
--- "End is 0 to 94,607,999, start at least -31,536,000 and at most end"
-unfoldable pub timesInRange : ℤ → ℤ → Bool
-timesInRange start end = leZ (pos 0) end && leZ end (pos lastEnd) && leZ (negℤ (pos startBefore)) start && leZ start end
+-- 14: "An interruption that starts after its end" (02, point 8)
+unfoldable pub startsAfterEnd : ℤ → ℤ → Bool
+startsAfterEnd start end = ltZ end start
+
+-- 15: "one that ends outside the three years or starts too early" (02, point 8); "End is 0 to 94,607,999, start at least -31,536,000"
+unfoldable pub outsidePeriod : ℤ → ℤ → Bool
+outsidePeriod start end = ltZ end (pos 0) || ltZ (pos lastEnd) end || ltZ start (negℤ (pos startBefore))
 
 -- "Weight is the number of cabins, 1 to 100,000, for MV and 1 for LV"; level 0 is MV, 1 is LV
 unfoldable pub weightInRange : ℕ → ℕ → Bool
@@ -76,15 +80,42 @@ pub record Facts : Type 0 where
   -- the operators that it joins, and those that have to be joined (tags 2 to 5)
   pub newcomers : List ℕ
   pub members : List ℕ
-  -- whether every value but the operator is in its range
+  -- whether every value but the operator and an interruption's times is in its range
   pub in-range : Bool
+  -- what is wrong with an interruption's times
+  pub starts-after-end : Bool
+  pub outside-period : Bool
   -- what it enters, and what it answers, if nothing refuses it
   pub entries : List Entry
   pub answer : Acceptance
 
+-- of a call without times none is wrong
 abbrev pub facts : Bool → List ℕ → List ℕ → Bool → List Entry → Acceptance → Facts
 facts known newcomers members in-range entries answer =
-    record { known = known; newcomers = newcomers; members = members; in-range = in-range; entries = entries; answer = answer }
+    record {
+      known = known;
+      newcomers = newcomers;
+      members = members;
+      in-range = in-range;
+      starts-after-end = false;
+      outside-period = false;
+      entries = entries;
+      answer = answer;
+    }
+
+-- the same of a call from a start to an end
+abbrev pub withTimes : ℤ → ℤ → Facts → Facts
+withTimes start end call =
+    record {
+      known = call .known;
+      newcomers = call .newcomers;
+      members = call .members;
+      in-range = call .in-range;
+      starts-after-end = startsAfterEnd start end;
+      outside-period = outsidePeriod start end;
+      entries = call .entries;
+      answer = call .answer;
+    }
 
 -- a call on a book of a kind: "There an interruption field is refused by 2; figures .., indicators .. and every cabin setting are refused by 5"
 unfoldable pub factsOf : List Indicator → Call → Facts
@@ -93,8 +124,9 @@ factsOf kind (Setting operator which value) =
     facts true [] (operator ∷ []) (ltb which settingCount && takesSetting kind which && leb value (settingLimit which)) [] yes-said
 factsOf kind (Interruption operator sign level cause start end weight) =
     let answer : Acceptance = outcome cause (secondsOf start end) (yearOf end) in
-    facts (takesInterruptions kind) [] (operator ∷ []) (detailsInRange sign level cause weight && timesInRange start end)
-    (interruptionEntries operator sign level weight (secondsOf start end) (yearOf end) answer) answer
+    withTimes start end
+    (facts (takesInterruptions kind) [] (operator ∷ []) (detailsInRange sign level cause weight)
+    (interruptionEntries operator sign level weight (secondsOf start end) (yearOf end) answer) answer)
 factsOf kind (Amount operator year figure sign value) =
     facts true [] (operator ∷ []) (ltb year years && ltb figure figureCount && takesFigure kind figure && leb sign 1)
     (entry operator year figure sign value ∷ []) yes-said

@@ -1,4 +1,4 @@
-// The number of a refusal in 01.
+// The number of a refusal in 01 and 02.
 ghost use mathlib.Core.Path.{_≡_};
 ghost use Rattle.calls.specs.Answers.{numberOf};
 use crate::Refusal;
@@ -20,5 +20,7 @@ pub fn number_of(refusal: Refusal) -> u8
         Refusal::NetworkMissing => 11,
         Refusal::AllMarked => 12,
         Refusal::BufferTooShort => 13,
+        Refusal::StartsAfterEnd => 14,
+        Refusal::OutsidePeriod => 15,
     }
 }

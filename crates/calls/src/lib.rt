@@ -93,7 +93,7 @@ pub enum Call {
     },
 }
 
-// The answers other than yes, in the order of their numbers in 01.
+// The answers other than yes, in the order of their numbers. Which is looked at before which is another order: specs/Laws.antt has it.
 pub enum Refusal {
     Truncated,
     UnknownTag,
@@ -108,6 +108,8 @@ pub enum Refusal {
     NetworkMissing,
     AllMarked,
     BufferTooShort,
+    StartsAfterEnd,
+    OutsidePeriod,
 }
 
 // Why an interruption is left out.

@@ -9,7 +9,7 @@ use lib.Seq.{take-append-seam}
 use Rattle.calls.specs.declared.Call.{Call}
 use Rattle.calls.specs.Answers.{accepted, onAnswer, isRefused, said}
 use Rattle.calls.specs.Held.{Same}
-use Rattle.calls.proofs.Lowest.{only-value}
+use Rattle.calls.proofs.First.{only-value}
 use Rattle.book.specs.declared.Book.{Book}
 use Rattle.book.specs.Book.{freshBook}
 use Rattle.ledger.specs.Calls.{filedAnswers}

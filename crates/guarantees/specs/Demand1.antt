@@ -15,7 +15,7 @@ use Rattle.calls.specs.Limits.{figureCount}
 use Rattle.calls.specs.Indicators.{Indicator, electricity, gas}
 use Rattle.calls.specs.Answers.{Said, refused-by, accepted, yes-said, said}
 use Rattle.calls.specs.Call.{factsOf}
-use Rattle.calls.specs.Laws.{applies, Lowest}
+use Rattle.calls.specs.Laws.{rank, Ranked, applies, IsFirst, First}
 use Rattle.book.specs.declared.Book.{Book}
 use Rattle.book.specs.Book.{isJoined, figureOf, inRange}
 use Rattle.ledger.specs.Table.{linesFor}
@@ -34,8 +34,8 @@ use Rattle.writer.specs.Writer.{writingLines, writingAnswer, writingBuffer}
 
 -- a call whose refusals are lines of a table: what it said, and what it left where `before` stood
 pub record Judged {A S : Type 0} (lines : List (ℕ × Bool)) (value : A) (said : Said A) (left before after : S) : Type 0 where
-  -- refused by a number exactly when that number applies and none below it does
-  pub number : (n : ℕ) → (said ≡ refused-by n) ↔ ((applies lines n ≡ true) × ((lower : ℕ) → lower < n → applies lines lower ≡ false))
+  -- refused by a number exactly when that number applies and none before it in the order does
+  pub number : (n : ℕ) → (said ≡ refused-by n) ↔ IsFirst lines n
   -- not refused exactly when none applies
   pub answered : (said ≡ accepted value) ↔ ((n : ℕ) → applies lines n ≡ false)
   -- a refusal leaves what there was; "on every other input the call does its work"
@@ -44,7 +44,7 @@ pub record Judged {A S : Type 0} (lines : List (ℕ × Bool)) (value : A) (said 
 
 -- the calls on books of a kind, which is a list of indicators
 module _ (kind : List Indicator) where
-  -- a book out of range "gets 5 from every call, before any other check"; else the table of 2 and 4 to 9
+  -- a book out of range "gets 5 from every call, before any other check"; else the table of 2, 4 to 9, 14 and 15
   unfoldable pub callLines : Book → Call → List (ℕ × Bool)
   callLines b call = cond (inRange kind b) (linesFor kind (isJoined b) (figureOf b) call) ((5, true) ∷ [])
 
@@ -56,11 +56,11 @@ module _ (kind : List Indicator) where
     pub filing-defined : (b : Book) (call : Call)
         → Judged (callLines b call) (factsOf kind call .answer) (fileAs kind b call .said) (fileAs kind b call .book) b (changed kind b call)
     -- the table that the history looks up too, with whatever it holds
-    pub table : (joined : ℕ → Bool) (total : ℕ → ℕ → ℕ → ℕ) (call : Call) → Lowest (linesFor kind joined total call) (factsOf kind call .answer)
+    pub table : (joined : ℕ → Bool) (total : ℕ → ℕ → ℕ → ℕ) (call : Call) → First (linesFor kind joined total call) (factsOf kind call .answer)
     -- what stands at an offset, by `field_in`: 1, 2 or 3, the end, or a call, each both ways
     pub field : (bytes : List ℕ) (at : ℕ) → FieldAnswered kind bytes at
     -- its table for itself
-    pub field-table : (bytes : List ℕ) (at : ℕ) → Lowest (fieldLines kind bytes at) (callAt bytes at)
+    pub field-table : (bytes : List ℕ) (at : ℕ) → First (fieldLines kind bytes at) (callAt bytes at)
     -- reading files the calls of the fields in order, "up to the first refusal, keeps those before it"
     pub reads : (b : Book) (bytes : List ℕ) → ReadAsCallsIfInRange kind b bytes
     -- "(the reader: none applied, offset 0)"
@@ -78,6 +78,8 @@ module _ (kind : List Indicator) where
         (putInto buffer (textAs kind b))
 
 pub record Demand1 : Type 0 where
+  -- the order in which the numbers are looked at has every refusal's (02, point 8)
+  pub order : Ranked
   -- of the two kinds,
   pub of-electricity : Demand1Of electricity
   pub of-gas : Demand1Of gas
@@ -87,5 +89,5 @@ pub record Demand1 : Type 0 where
   pub sheets : (b : Book) (operator year : ℕ)
       → Judged (sheetLines b operator year) yes-said (sheetOf b operator year .said) (sheetOf b operator year .counts) noCounts (countsOf b operator year)
   -- "4, 5 or 7 as an amount field with that operator and year would", whatever else that field says within its range
-  pub sheets-as-amounts : (b : Book) (operator year figure sign value : ℕ) → figure < figureCount → sign ≤ 1 → (n : ℕ) → n ≤ 7
+  pub sheets-as-amounts : (b : Book) (operator year figure sign value : ℕ) → figure < figureCount → sign ≤ 1 → (n : ℕ) → rank n ≤ rank 7
       → applies (sheetLines b operator year) n ≡ applies (callLines electricity b (Amount operator year figure sign value)) n

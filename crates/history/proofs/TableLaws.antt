@@ -6,7 +6,7 @@ use mathlib.Core.Logic.{_⊎_, inl, inr}
 use mathlib.Core.Bool.{Bool, true, false, not, _&&_}
 use mathlib.Core.List.{List, [], _∷_}
 use lib.Dec.{leb, ltb, eqb}
-use borrow.Author.Tests.{leb-false, ltb-false}
+use borrow.Author.Tests.{leb-false, ltb-false, not-false}
 use Rattle.calls.specs.declared.Call.{Call}
 use Rattle.calls.specs.Limits.{operators, years, figureCount, figureLimit}
 use Rattle.calls.specs.Answers.{Said, refused-by, accepted, firstOf, Acceptance}
@@ -15,10 +15,11 @@ use Rattle.calls.specs.Indicators.{Indicator, some}
 use Rattle.ledger.specs.Table.{totalAt, passesLimit, fallsBelow, linesFor, answerTo}
 use Rattle.calls.proofs.Flags.{and-other}
 use Rattle.ledger.proofs.AdmissionLaws.{isUnknown, joinsAgain, lacksOperator}
+use Rattle.calls.proofs.First.{TableDecided, table-decided}
 use Rattle.calls.proofs.RangeLaws.{Ranges, ranges}
 use Rattle.history.proofs.EntryLaws.{All, Within, all-map, all-both, all-parts, none-some, same-some, entries-within, entries-joined}
 
--- none of the numbers 2 and 4 to 9 applies
+-- none of the numbers 2, 4 to 9, 14 and 15 applies
 pub record Passed (kind : List Indicator) (joined : ℕ → Bool) (total : ℕ → ℕ → ℕ → ℕ) (call : Call) : Type 0 where
   pub had : factsOf kind call .known ≡ true
   pub known : isUnknown kind call ≡ false
@@ -32,41 +33,26 @@ module _ (kind : List Indicator) (joined : ℕ → Bool) (total : ℕ → ℕ �
   abbrev pub Decided : Said Acceptance → Type 0
   Decided answer = ((answer ≡ accepted (factsOf kind call .answer)) × Passed kind joined total call) ⊎ ((number : ℕ) × (answer ≡ refused-by number))
 
-  decide : (s t u v w x y : Bool)
-      → factsOf kind call .known ≡ s
-      → isUnknown kind call ≡ t
-      → factsOf kind call .in-range ≡ u
-      → joinsAgain kind joined call ≡ v
-      → lacksOperator kind joined call ≡ w
-      → some (passesLimit total) (factsOf kind call .entries) ≡ x
-      → some (fallsBelow total) (factsOf kind call .entries) ≡ y
-      → Decided (firstOf ((2, not s) ∷ (4, t) ∷ (5, not u) ∷ (6, v) ∷ (7, w) ∷ (8, x) ∷ (9, y) ∷ []) (factsOf kind call .answer))
-  unfolding firstOf
-  decide false t u v w x y had known ranged no-join present below above = inr (2, refl)
-  decide true true u v w x y had known ranged no-join present below above = inr (4, refl)
-  decide true false false v w x y had known ranged no-join present below above = inr (5, refl)
-  decide true false true true w x y had known ranged no-join present below above = inr (6, refl)
-  decide true false true false true x y had known ranged no-join present below above = inr (7, refl)
-  decide true false true false false true y had known ranged no-join present below above = inr (8, refl)
-  decide true false true false false false true had known ranged no-join present below above = inr (9, refl)
-  decide true false true false false false false had known ranged no-join present below above =
-      inl (
-        refl,
-        record {
-          had = had;
-          known = known;
-          in-range = ranges kind call ranged;
-          no-join = no-join;
-          present = present;
-          below = below;
-          above = above;
-        },
-      )
-
   -- a call is accepted or refused
   pub decided : Decided (answerTo kind joined total call)
   unfolding answerTo linesFor
-  decided = decide _ _ _ _ _ _ _ refl refl refl refl refl refl refl
+  decided = go (table-decided (linesFor kind joined total call) (factsOf kind call .answer))
+    where
+      go : {answer : Said Acceptance} → TableDecided (linesFor kind joined total call) (factsOf kind call .answer) answer → Decided answer
+      go (inr refused) = inr refused
+      go (inl (said, (had, (known, (ranged, (ordered, (timely, (no-join, (present, (below, (above, none))))))))))) =
+          inl (
+            said,
+            record {
+              had = not-false (factsOf kind call .known) had;
+              known = known;
+              in-range = ranges kind call (not-false (factsOf kind call .in-range) ranged) timely;
+              no-join = no-join;
+              present = present;
+              below = below;
+              above = above;
+            },
+          )
 
 -- an entry of a joined operator that neither 8 nor 9 keeps out
 pub record Enters (kind : List Indicator) (joined : ℕ → Bool) (total : ℕ → ℕ → ℕ → ℕ) (entry : Entry) : Type 0 where
@@ -132,7 +118,7 @@ module _ (kind : List Indicator) (joined known : ℕ → Bool) (total sum : ℕ 
 
   pub same-answer : (call : Call) → answerTo kind joined total call ≡ answerTo kind known sum call
   unfolding answerTo linesFor firstOf
-  same-answer call = go (factsOf kind call .known) (isUnknown kind call) (factsOf kind call .in-range) refl refl refl
+  same-answer call = go (factsOf kind call .known) (isUnknown kind call) (factsOf kind call .in-range) (factsOf kind call .outside-period) refl refl refl refl
     where
       rest : (ℕ → Bool) → (ℕ → ℕ → ℕ → ℕ) → List (ℕ × Bool)
       rest held figures =
@@ -142,14 +128,18 @@ module _ (kind : List Indicator) (joined known : ℕ → Bool) (total sum : ℕ 
           ∷ (9, some (fallsBelow figures) (factsOf kind call .entries))
           ∷ []
 
-      go : (s t u : Bool) → factsOf kind call .known ≡ s → isUnknown kind call ≡ t → factsOf kind call .in-range ≡ u
-          → firstOf ((2, not s) ∷ (4, t) ∷ (5, not u) ∷ rest joined total) (factsOf kind call .answer)
-          ≡ firstOf ((2, not s) ∷ (4, t) ∷ (5, not u) ∷ rest known sum) (factsOf kind call .answer)
-      go false t u had lt ranged = refl
-      go true true u had lt ranged = refl
-      go true false false had lt ranged = refl
-      go true false true had lt ranged =
-          let within = entries-within kind call had lt (ranges kind call ranged) in
+      lines : Bool → Bool → Bool → Bool → (ℕ → Bool) → (ℕ → ℕ → ℕ → ℕ) → List (ℕ × Bool)
+      lines s t u q held figures =
+          (2, not s) ∷ (4, t) ∷ (5, not u) ∷ (14, factsOf kind call .starts-after-end) ∷ (15, q) ∷ rest held figures
+
+      go : (s t u q : Bool) → factsOf kind call .known ≡ s → isUnknown kind call ≡ t → factsOf kind call .in-range ≡ u → factsOf kind call .outside-period ≡ q
+          → firstOf (lines s t u q joined total) (factsOf kind call .answer) ≡ firstOf (lines s t u q known sum) (factsOf kind call .answer)
+      go false t u q had lt ranged timed = refl
+      go true true u q had lt ranged timed = refl
+      go true false false q had lt ranged timed = refl
+      go true false true true had lt ranged timed = refl
+      go true false true false had lt ranged timed =
+          let within = entries-within kind call had lt (ranges kind call ranged timed) in
           rw (
             same-joins call lt,
             same-lacks call lt,

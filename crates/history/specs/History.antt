@@ -98,7 +98,7 @@ module _ (kind : List Indicator) where
   recorded h (Rates pot cap) = historyWithRates h pot cap
   recorded h (Index number value) = historyWithIndices h (at1 number value (h .index))
 
-  -- "The table of answers .. is looked up with what the history itself holds"
+  -- "The table of answers .. is looked up with what the history itself holds", by the first number in its order (02, point 8)
   unfoldable pub noteAnswer : History → Call → Said Acceptance
   noteAnswer h call = answerTo kind (h .joined) (total h) call
 

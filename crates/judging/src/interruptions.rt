@@ -1,8 +1,8 @@
 // An interruption that is in range: its year and length, whether it counts or is left out and why, and the figure that counts it.
 ghost use mathlib.Core.Path.{_≡_};
-ghost use mathlib.Core.Bool.{true};
+ghost use mathlib.Core.Bool.{false};
 ghost use Rattle.calls.specs.Answers.{leftOutAs};
-ghost use Rattle.calls.specs.Call.{timesInRange, yearOf, secondsOf, countFigure};
+ghost use Rattle.calls.specs.Call.{startsAfterEnd, outsidePeriod, yearOf, secondsOf, countFigure};
 ghost use Rattle.judging.specs.Steps.{JudgedAs};
 use crate::Judged;
 use calls::FIRST_COUNT;
@@ -15,7 +15,7 @@ const SHORT: u64 = 180;
 
 // The year is that of the end.
 pub fn year_of(start: i64, end: i64) -> u8
-    requires { ⌜ timesInRange start end ≡ true ⌝ }
+    requires { ⌜ outsidePeriod start end ≡ false ⌝ }
     ensures { λ r. ⌜ r ≡ yearOf end ⌝ }
 {
     let stop = end as u64;
@@ -24,7 +24,7 @@ pub fn year_of(start: i64, end: i64) -> u8
 
 // How long an interruption lasts.
 pub fn seconds_of(start: i64, end: i64) -> u64
-    requires { ⌜ timesInRange start end ≡ true ⌝ }
+    requires { ⌜ (startsAfterEnd start end ≡ false) × (outsidePeriod start end ≡ false) ⌝ }
     ensures { λ r. ⌜ r ≡ secondsOf start end ⌝ }
 {
     (end - start) as u64

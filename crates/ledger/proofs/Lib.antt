@@ -3,6 +3,6 @@ pub mod AdmissionLaws
 pub mod UnattestedLaws
 pub mod MoveLaws
 pub mod LastEntry
-pub mod LowestOfCalls
+pub mod FirstOfCalls
 pub mod TurnLaws
 pub mod Opened

@@ -17,7 +17,7 @@ use Rattle.calls.specs.Call.{outcome, factsOf}
 use Rattle.calls.proofs.Flags.{both}
 use Rattle.calls.proofs.SaidLaws.{answerSaying}
 use Rattle.book.specs.declared.Book.{Book}
-use Rattle.book.specs.Book.{inRange}
+use Rattle.book.specs.Book.{isJoined, figureOf, inRange}
 use Rattle.ledger.specs.Table.{linesFor, answerTo}
 use Rattle.ledger.specs.Calls.{outcomeOf, apply, fileAs, filedBook, filedAnswers}
 use Rattle.ledger.specs.Filed.{FiledInTurn}
@@ -68,24 +68,25 @@ sayable-facts kind (Mark operator indicator mark) = refl
 sayable-facts kind (Rates pot cap) = refl
 sayable-facts kind (Index number value) = refl
 
-sayable-lines : (two four five six seven eight nine : Bool) (value : Acceptance) → Sayable (accepted value)
-    → Sayable (firstOf ((2, two) ∷ (4, four) ∷ (5, five) ∷ (6, six) ∷ (7, seven) ∷ (8, eight) ∷ (9, nine) ∷ []) value)
+-- every number of a table is a refusal's
+abbrev AllSayable : List (ℕ × Bool) → Type 0
+AllSayable [] = Unit {0}
+AllSayable ((number, applies) ∷ rest) = Sayable (refused-by number) × AllSayable rest
+
+sayable-first : (lines : List (ℕ × Bool)) (value : Acceptance) → AllSayable lines → Sayable (accepted value) → Sayable (firstOf lines value)
 unfolding firstOf
-sayable-lines true four five six seven eight nine value it = refl
-sayable-lines false true five six seven eight nine value it = refl
-sayable-lines false false true six seven eight nine value it = refl
-sayable-lines false false false true seven eight nine value it = refl
-sayable-lines false false false false true eight nine value it = refl
-sayable-lines false false false false false true nine value it = refl
-sayable-lines false false false false false false true value it = refl
-sayable-lines false false false false false false false value it = it
+sayable-first [] value numbers it = it
+sayable-first ((number, true) ∷ rest) value numbers it = numbers .0
+sayable-first ((number, false) ∷ rest) value numbers it = sayable-first rest value (numbers .1) it
 
 sayable-filed : (kind : List Indicator) (b : Book) (call : Call) → Sayable (fileAs kind b call .said)
 unfolding fileAs apply outcomeOf answerTo linesFor
 sayable-filed kind b call = go (inRange kind b)
   where
     go : (ranged : Bool) → Sayable (cond ranged (apply kind b call) (outcomeOf b b (refused-by 5)) .said)
-    go true = sayable-lines _ _ _ _ _ _ _ (factsOf kind call .answer) (sayable-facts kind call)
+    go true =
+        sayable-first (linesFor kind (isJoined b) (figureOf b) call) (factsOf kind call .answer)
+        (refl, (refl, (refl, (refl, (refl, (refl, (refl, (refl, (refl, tt))))))))) (sayable-facts kind call)
     go false = refl
 
 -- ---- so every list has a run

@@ -5,12 +5,13 @@ use mathlib.Core.Path.{_≡_}
 use mathlib.Core.Bool.{Bool, not}
 use mathlib.Core.List.{List, [], _∷_}
 use lib.Dec.{leb}
+use lib.IntN.{ℤ}
 use Rattle.calls.specs.declared.Answer.{Answer}
 use Rattle.calls.specs.Limits.{operators, years, figureCount, weightLimit, longest}
 use Rattle.calls.specs.Masks.{has}
 use Rattle.calls.specs.Answers.{accepted, firstOf, Acceptance, said}
 use Rattle.calls.specs.Indicators.{some}
-use Rattle.calls.specs.Call.{Entry}
+use Rattle.calls.specs.Call.{Entry, startsAfterEnd, outsidePeriod}
 use Rattle.book.specs.declared.Book.{Book}
 use Rattle.book.specs.Book.{withFigures, figureOf}
 use Rattle.ledger.specs.Table.{passesLimit, fallsBelow}
@@ -19,6 +20,16 @@ use Rattle.ledger.specs.Calls.{Outcome, enterAll, outcomeOf}
 -- 4, 5 and 7 of a call that names a member
 unfoldable pub memberLines : ℕ → ℕ → Bool → List (ℕ × Bool)
 memberLines joined operator valid = (4, leb operators operator) ∷ (5, not valid) ∷ (7, not (has joined operator)) ∷ []
+
+-- and of an interruption, with 14 and 15 between 5 and 7
+unfoldable pub interruptionLines : ℕ → ℕ → Bool → ℤ → ℤ → List (ℕ × Bool)
+interruptionLines joined operator valid start end =
+    (4, leb operators operator)
+    ∷ (5, not valid)
+    ∷ (14, startsAfterEnd start end)
+    ∷ (15, outsidePeriod start end)
+    ∷ (7, not (has joined operator))
+    ∷ []
 
 -- an entry's values other than its u64
 pub record EntryInRange (operator year figure sign : ℕ) : Type 0 where

@@ -1,4 +1,4 @@
--- The table of answers, numbers 2 and 4 to 9, looked up with what is held: who has joined, and the figures' totals (01, "Answers other than yes").
+-- The table of answers, numbers 2, 4 to 9, 14 and 15, looked up with what is held: who has joined, and the figures' totals (01, "Answers other than yes").
 -- Assumes nothing.
 use Prim.Native.Nat.{ℕ, _+_}
 use mathlib.Core.Bool.{Bool, not, _&&_}
@@ -31,6 +31,9 @@ linesFor kind joined total call =
     ∷ (4, some (leb operators) (factsOf kind call .newcomers ++ factsOf kind call .members))
     -- "any other value outside its range"
     ∷ (5, not (factsOf kind call .in-range))
+    -- "Start after end is 14, a time outside the period 15" (02, point 8)
+    ∷ (14, factsOf kind call .starts-after-end)
+    ∷ (15, factsOf kind call .outside-period)
     -- "join of one already joined"
     ∷ (6, some joined (factsOf kind call .newcomers))
     -- "operator not joined (tags 2 to 5)"
@@ -39,6 +42,6 @@ linesFor kind joined total call =
     ∷ (9, some (fallsBelow total) (factsOf kind call .entries))
     ∷ []
 
--- "The lowest number that applies is given": the lines stand in the order of their numbers
+-- "the first in this order": the lines stand in the order of crates/calls/specs/Laws.antt
 unfoldable pub answerTo : List Indicator → (ℕ → Bool) → (ℕ → ℕ → ℕ → ℕ) → Call → Said Acceptance
 answerTo kind joined total call = firstOf (linesFor kind joined total call) (factsOf kind call .answer)

@@ -33,7 +33,7 @@ use Rattle.calls.specs.declared.Call.{Call}
 use Rattle.calls.specs.declared.Call.the-variants.{Join, Setting, Amount, Mark}
 use Rattle.writer.specs.Writer.{writerAnswer}
 use Rattle.writer.proofs.Opened.{writer-opened}
-use Rattle.marked.specs.Marked.{lasting, gasSaidTo, gasCases, gasSettled, caseM, filingM, linesM, newcomer, sixMarks, losing, growing, frequenciesOf, feesAlone, feesOf, twoAdjusted, potOfTwo, cabinsOfTwo, cutThree, refusedFilings, tiedCases, marked, All}
+use Rattle.marked.specs.Marked.{lasting, gasSaidTo, gasCases, gasSettled, caseM, filingM, linesM, newcomer, sixMarks, losing, growing, frequenciesOf, feesAlone, feesOf, twoAdjusted, potOfTwo, cabinsOfTwo, cutThree, refusedFilings, Answered, timeCases, tiedCases, marked, All}
 use Rattle.marked.proofs.AppliedLaws.{appliedFrom, answersFrom, book-of, answers-of}
 
 -- what a call is answered after operator 0 has joined
@@ -201,7 +201,7 @@ gas-barred = (
 gas-holds : All gasCases
 unfolding output-opened appliedFrom answersFrom
 gas-holds =
-    (refused-example gas (3 ∷ 0 ∷ 0 ∷ []) 2 _ (omega arith) refl refl, (answered gas (lasting 0 181) refl, (gas-barred .0, (gas-barred .1 .0, (gas-barred .1 .1, (answered gas (Amount 16 0 0 0 0) refl, (answered gas (Amount 1 0 0 0 0) refl, (answered gas (Amount 1 0 4 0 0) refl, (refl, (gas-said [] refl, (gas-said (Setting 0 1 1 ∷ []) refl, (gas-said (Setting 0 1 1 ∷ Mark 0 4 0 ∷ []) refl, (value-after gas (numberedIn gas 5 .measure) 6 5 refl, (gas-pools, tt))))))))))))))
+    (refused-example gas (3 ∷ 0 ∷ 0 ∷ []) 2 _ (omega arith) refl refl, (answered gas (lasting 0 181) refl, (answered gas (lasting 181 0) refl, (gas-barred .0, (gas-barred .1 .0, (gas-barred .1 .1, (answered gas (Amount 16 0 0 0 0) refl, (answered gas (Amount 1 0 0 0 0) refl, (answered gas (Amount 1 0 4 0 0) refl, (refl, (gas-said [] refl, (gas-said (Setting 0 1 1 ∷ []) refl, (gas-said (Setting 0 1 1 ∷ Mark 0 4 0 ∷ []) refl, (value-after gas (numberedIn gas 5 .measure) 6 5 refl, (gas-pools, tt)))))))))))))))
 
 -- a figure of exactly 10^11
 figure-taken : figureOf (bookOf electricity (Join 0 ∷ Amount 0 0 4 0 100000000000 ∷ [])) 0 0 4 ≡ 100000000000
@@ -230,6 +230,20 @@ module _ (size : ℕ) where
   unfolding share award floors remainders sum
   even-sizes = ap (λ (place : ℕ). set (3 ∷ 3 ∷ 3 ∷ []) place (getD (3 ∷ 3 ∷ 3 ∷ []) place 0 + 1)) first-of-three
 
+-- what calls are answered, computed one by one without the range of their books
+abbrev Computed : List (Call × Said Acceptance) → Type 0
+Computed [] = Unit {0}
+Computed ((call, answer) ∷ rest) = (getD (answersFrom electricity freshBook (Join 0 ∷ call ∷ [])) 1 (refused-by 0) ≡ answer) × Computed rest
+
+all-answered : (cases : List (Call × Said Acceptance)) → Computed cases → Answered cases
+all-answered [] computed = tt
+all-answered ((call, answer) ∷ rest) computed = (answered electricity call (computed .0), all-answered rest (computed .1))
+
+-- times with numbers of their own
+timed-hold : Answered timeCases
+unfolding output-opened answersFrom
+timed-hold = all-answered timeCases (refl, (refl, (refl, (refl, (refl, (refl, (refl, (refl, (refl, (refl, (refl, (refl, (refl, (refl, (refl, (refl, (refl, (refl, (refl, tt)))))))))))))))))))
+
 -- ties by size
 tied-hold : All tiedCases
 unfolding output-opened appliedFrom pointsAt
@@ -247,4 +261,4 @@ tied-hold = (
 pub all-hold : All marked
 unfolding output-opened answersFrom
 all-hold =
-    (even-sizes, (refl, (refl, (answered electricity (lasting 0 180) refl, (answered electricity (lasting 0 181) refl, (answered electricity (lasting 31535000 31535999) refl, (answered electricity (lasting 31535000 31536000) refl, (answered electricity (lasting 94607000 94608000) refl, (answered electricity (Amount 0 0 4 0 100000000000) refl, (figure-taken, (output-m, (cut-m, (filings-refused, (answered electricity (Amount 0 0 4 0 100000000001) refl, (answered electricity (Amount 0 0 4 1 1) refl, (refl, (joined-only, (marked-six, (joined-new, (cleared-one, (lost, (grown 0 ∙ grown-applied .0, (grown 1 ∙ grown-applied .1, (adjusted-grown, (fees-by-year 10000 ∙ fees-applied .0, (fees-by-year 12500 ∙ fees-applied .1, (adjusted-fees, (adjusted-fees-indexed, (undivided .0, (undivided .1, (join-too-long, (refl, (refl, (refl, (tied-hold, (gas-holds, tt))))))))))))))))))))))))))))))))))))
+    (even-sizes, (refl, (refl, (answered electricity (lasting 0 180) refl, (answered electricity (lasting 0 181) refl, (answered electricity (lasting 31535000 31535999) refl, (answered electricity (lasting 31535000 31536000) refl, (answered electricity (lasting 94607000 94608000) refl, (answered electricity (Amount 0 0 4 0 100000000000) refl, (figure-taken, (output-m, (cut-m, (filings-refused, (answered electricity (Amount 0 0 4 0 100000000001) refl, (answered electricity (Amount 0 0 4 1 1) refl, (refl, (joined-only, (marked-six, (joined-new, (cleared-one, (lost, (grown 0 ∙ grown-applied .0, (grown 1 ∙ grown-applied .1, (adjusted-grown, (fees-by-year 10000 ∙ fees-applied .0, (fees-by-year 12500 ∙ fees-applied .1, (adjusted-fees, (adjusted-fees-indexed, (undivided .0, (undivided .1, (join-too-long, (refl, (refl, (refl, (timed-hold, (tied-hold, (gas-holds, tt)))))))))))))))))))))))))))))))))))))

@@ -31,9 +31,20 @@ use Rattle.writer.specs.Writer.{writerAnswer}
 abbrev pub saidTo : Call → Said Acceptance
 saidTo call = getD (filedAnswers electricity freshBook (Join 0 ∷ call ∷ [])) 1 (refused-by 0)
 
--- operator 0 files an interruption of its own MV network with one cabin
+-- an operator files an interruption of its own MV network, with some cabins, from a start to an end
+abbrev pub files : ℕ → ℕ → ℤ → ℤ → Call
+files operator cabins start end = Interruption operator 0 0 0 start end cabins
+
+-- operator 0, one cabin
 abbrev pub lasting : ℕ → ℕ → Call
-lasting start end = Interruption 0 0 0 0 (pos start) (pos end) 1
+lasting start end = files 0 1 (pos start) (pos end)
+
+-- the least and the most of a time in a field, which has eight bytes
+abbrev pub leastTime : ℤ
+leastTime = negℤ (pos 9223372036854775808)
+
+abbrev pub mostTime : ℤ
+mostTime = pos 9223372036854775807
 
 -- "M: operators 0 and 1; cabins 100 each; access points 1000 and 3000; income 100,000,000 and 200,000,000; operator 1, year 0:
 -- fees 50,000, connections 100; rates 5000 and" a cap rate; all that is filed is attested ("case M gains twelve clearing fields", 02, point
@@ -141,8 +152,8 @@ refusedFilings =
 -- 02, point 4
 abbrev pub gasCases : List (Type 0)
 gasCases =
-    -- "There an interruption field is refused by 2", also as a call
-    (gasOutputOf (3 ∷ 0 ∷ 0 ∷ []) ≡ bytesOf "refused 2 at 0\n") ∷ (gasSaidTo (lasting 0 181) ≡ refused-by 2)
+    -- "There an interruption field is refused by 2", also as a call, and before its times are looked at
+    (gasOutputOf (3 ∷ 0 ∷ 0 ∷ []) ≡ bytesOf "refused 2 at 0\n") ∷ (gasSaidTo (lasting 0 181) ≡ refused-by 2) ∷ (gasSaidTo (lasting 181 0) ≡ refused-by 2)
     -- "figures 0 to 3 and 8 to 12, indicators 0 to 3 and every cabin setting are refused by 5", also where they would stay 0
     ∷ All (map (λ (figure : ℕ). gasSaidTo (Amount 0 0 figure 0 0) ≡ refused-by 5) (0 ∷ 3 ∷ 8 ∷ 12 ∷ []))
     ∷ All (map (λ (indicator : ℕ). gasSaidTo (Mark 0 indicator 0) ≡ refused-by 5) (0 ∷ 3 ∷ []))
@@ -159,6 +170,27 @@ gasCases =
     ∷ (yearlyValue (bookOf gas (Join 0 ∷ Amount 0 0 6 0 5 ∷ [])) (numberedIn gas 5 .measure) 0 0 ≡ 50)
     -- its pool, 300 times 20 points, stands at D1's number
     ∷ (settledGas (bookOf gas (Join 0 ∷ Setting 0 1 1 ∷ Mark 0 4 0 ∷ [])) .settlement .pools ≡ 0 ∷ 0 ∷ 0 ∷ 0 ∷ 6000 ∷ 0 ∷ []) ∷ []
+
+-- calls, and what each is answered after operator 0 has joined
+abbrev pub Answered : List (Call × Said Acceptance) → Type 0
+Answered cases = All (map (λ (case : Call × Said Acceptance). saidTo (case .0) ≡ case .1) cases)
+
+-- "Which value was out of range" (02, point 8)
+abbrev pub timeCases : List (Call × Said Acceptance)
+timeCases =
+    -- "Start after end is 14", by one second; a start that is the end is none after it
+    (lasting 301 300, refused-by 14) ∷ (lasting 300 300, accepted left-out-as-short)
+    -- "a time outside the period 15": an end before it, a start too early, and the first and the last that are taken
+    ∷ (files 0 1 (negℤ (pos 1000)) (negℤ (pos 1)), refused-by 15) ∷ (files 0 1 (negℤ (pos 31536001)) (pos 0), refused-by 15)
+    ∷ (files 0 1 (negℤ (pos 31536000)) (pos 0), accepted (counted-in 0)) ∷ (lasting 94607000 94607999, accepted (counted-in 2))
+    -- "in the order 4, 5, 14, 15, 6": both of them; operator 16, no cabins, and operator 1, that has not joined
+    ∷ (lasting 94608001 94608000, refused-by 14)
+    ∷ (files 16 1 (pos 301) (pos 300), refused-by 4) ∷ (files 0 0 (pos 301) (pos 300), refused-by 5) ∷ (files 0 0 (pos 0) (pos 94608000), refused-by 5)
+    ∷ (files 1 1 (pos 301) (pos 300), refused-by 14) ∷ (files 1 1 (pos 0) (pos 94608000), refused-by 15) ∷ (files 1 1 (pos 0) (pos 300), refused-by 7)
+    -- the ends of what a field can hold
+    ∷ (files 0 1 leastTime mostTime, refused-by 15) ∷ (files 0 1 mostTime leastTime, refused-by 14)
+    ∷ (files 0 1 leastTime leastTime, refused-by 15) ∷ (files 0 1 mostTime mostTime, refused-by 15)
+    ∷ (files 0 1 leastTime (pos 0), refused-by 15) ∷ (files 0 1 mostTime (pos 0), refused-by 14) ∷ []
 
 -- "Ties by size" (02, point 7): in each of the four sharings the operator with more access points has the spare unit
 abbrev pub tiedCases : List (Type 0)
@@ -186,8 +218,8 @@ marked =
     ∷ (saidTo (lasting 0 180) ≡ accepted left-out-as-short) ∷ (saidTo (lasting 0 181) ≡ accepted (counted-in 0))
     -- "end 31,535,999 is year 0, 31,536,000 year 1"
     ∷ (saidTo (lasting 31535000 31535999) ≡ accepted (counted-in 0)) ∷ (saidTo (lasting 31535000 31536000) ≡ accepted (counted-in 1))
-    -- "end 94,608,000 gives 5"
-    ∷ (saidTo (lasting 94607000 94608000) ≡ refused-by 5)
+    -- "the marked end of 94,608,000 now gets 15" (02, point 8)
+    ∷ (saidTo (lasting 94607000 94608000) ≡ refused-by 15)
     -- "a figure of exactly 10^11 is taken"
     ∷ (saidTo (Amount 0 0 4 0 100000000000) ≡ accepted yes-said)
     ∷ (figureOf (bookOf electricity (Join 0 ∷ Amount 0 0 4 0 100000000000 ∷ [])) 0 0 4 ≡ 100000000000)
@@ -201,7 +233,7 @@ marked =
     ∷ (saidTo (Amount 0 0 4 0 100000000001) ≡ refused-by 8) ∷ (saidTo (Amount 0 0 4 1 1) ≡ refused-by 9)
     -- "a refused settlement `refused 10`": a fresh book
     ∷ (outputOf [] ≡ bytesOf "refused 10\n")
-    -- "only a join"; "one operator, six marks", its network filed, since 11 would be the lower number
+    -- "only a join"; "one operator, six marks", its network filed, since 11 would come first
     ∷ (settled (bookOf electricity (Join 0 ∷ [])) .said ≡ refused-by 11) ∷ (settled (bookOf electricity sixMarks) .said ≡ refused-by 12)
     -- "A freshly joined set meets refusal 12 once its settings are in" (02, point 1); with one mark cleared it settles
     ∷ (settled (bookOf electricity (newcomer [])) .said ≡ refused-by 12) ∷ (settled (bookOf electricity (newcomer (Mark 0 0 0 ∷ []))) .said ≡ accepted yes-said)
@@ -223,5 +255,5 @@ marked =
     -- levelling goes by the sums and not by k (02, point 5): two have one k, and the mean between them
     ∷ (take 4 (thousandths aroundTheMean) ≡ 505 ∷ 1000 ∷ 752 ∷ 752 ∷ [])
     ∷ (take 4 (levelledWeights 15 aroundTheMean (exponentWeights (thousandths aroundTheMean))) ≡ 1074598086 ∷ 735390232 ∷ 942490338 ∷ 1074598086 ∷ [])
-    -- ties by size, and gas
-    ∷ All tiedCases ∷ All gasCases ∷ []
+    -- times with numbers of their own, ties by size, and gas
+    ∷ Answered timeCases ∷ All tiedCases ∷ All gasCases ∷ []

@@ -1,14 +1,15 @@
 // The seven filing calls on the parts of a book that each changes, lent and altered in place; a refused call leaves them. Each refuses in
-// the order of the table: 2, 4, 5, 6 or 7, then 8 and 9.
+// the order of the table: 2, 4, 5, an interruption 14 and 15, 6 or 7, then 8 and 9.
 ghost use mathlib.Core.Path.{_≡_};
 ghost use Rattle.calls.specs.Indicators.{indicatorsOf};
 ghost use Rattle.posting.specs.Parts.{OnMarks, OnSettings, OnFigures, OnRates, OnIndices};
 use admission::Admission;
 use admission::admit;
+use admission::admit_interruption;
 use admission::mark_unattested;
 use arguments::amount_in_range;
+use arguments::details_in_range;
 use arguments::index_in_range;
-use arguments::interruption_in_range;
 use arguments::mark_in_range;
 use arguments::rates_in_range;
 use arguments::setting_in_range;
@@ -89,8 +90,8 @@ pub fn interruption(
     if !takes_interruptions(kind) {
         return Answer::Refused(Refusal::UnknownTag);
     }
-    let valid = interruption_in_range(sign, level, cause, start, end, weight);
-    if let Admission::Refused(refusal) = admit(joined, operator, valid) {
+    let valid = details_in_range(sign, level, cause, weight);
+    if let Admission::Refused(refusal) = admit_interruption(joined, operator, valid, start, end) {
         return Answer::Refused(refusal);
     }
     let seconds = seconds_of(start, end);

@@ -1,4 +1,4 @@
--- The report by the settlement's answer: yes, or a refusal; the lowest number is given.
+-- The report by the settlement's answer: yes, or a refusal; the first number in the order is given.
 -- Assumes nothing.
 use Prim.Native.Nat.{ℕ}
 use mathlib.Core.Path.{_≡_, refl}
@@ -7,16 +7,16 @@ use mathlib.Core.List.{List, [], _∷_}
 use lib.ListN.{length}
 use Rattle.book.specs.declared.Book.{Book}
 use Rattle.calls.specs.Answers.{refused-by, accepted, onAnswer, isRefused, yes-said}
-use Rattle.calls.specs.Laws.{risesFrom, Lowest}
-use Rattle.calls.proofs.Lowest.{lowest, only-value, first-refuses, first-passes}
+use Rattle.calls.specs.Laws.{rank, placeFrom, standFrom, First}
+use Rattle.calls.proofs.First.{first-in-order, only-value, first-refuses, first-passes}
 use Rattle.calls.specs.Indicators.{Indicator}
 use Rattle.settlement.specs.Settlement.{settlingLines, settledBy}
 use Rattle.text.specs.Buffer.{tooShort, bufferAfter, fitting}
 use Rattle.report.specs.Report.{textAs, reportingLines, reportingAnswer, reportingBuffer}
 
-pub lowest-of-reports : (kind : List Indicator) (b : Book) (buffer : List ℕ) → Lowest (reportingLines kind b buffer) (length (textAs kind b))
-unfolding risesFrom reportingLines settlingLines
-lowest-of-reports kind b buffer = lowest (length (textAs kind b)) (reportingLines kind b buffer) refl
+pub first-of-reports : (kind : List Indicator) (b : Book) (buffer : List ℕ) → First (reportingLines kind b buffer) (length (textAs kind b))
+unfolding rank placeFrom standFrom reportingLines settlingLines
+first-of-reports kind b buffer = first-in-order (length (textAs kind b)) (reportingLines kind b buffer) refl
 
 module _ (kind : List Indicator) (b : Book) where
   -- settling that does not refuse says yes

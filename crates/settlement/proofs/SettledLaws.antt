@@ -15,9 +15,9 @@ use Rattle.apportion.specs.Share.{share}
 use Rattle.apportion.proofs.Shared.{shared}
 use Rattle.calls.specs.Limits.{settingCount}
 use Rattle.calls.specs.Answers.{accepted, yes-said, onAnswer}
-use Rattle.calls.specs.Laws.{applies, risesFrom, Lowest}
+use Rattle.calls.specs.Laws.{rank, placeFrom, applies, standFrom, First}
 use Rattle.calls.proofs.Flags.{and-other}
-use Rattle.calls.proofs.Lowest.{lowest}
+use Rattle.calls.proofs.First.{first-in-order}
 use Rattle.book.specs.declared.Book.{Book}
 use Rattle.book.specs.Book.{isJoined, settingOf, withinLimits, inRange}
 use Rattle.book.proofs.Bounds.{bounded}
@@ -54,13 +54,13 @@ worth-kind Electricity = worth-electricity
 worth-kind Gas = worth-gas
 
 module _ (b : Book) (indicators : List Indicator) where
-  pub lowest-of-settling : Lowest (settlingLines b indicators) yes-said
-  unfolding risesFrom settlingLines
-  lowest-of-settling = lowest yes-said (settlingLines b indicators) refl
+  pub first-of-settling : First (settlingLines b indicators) yes-said
+  unfolding rank placeFrom standFrom settlingLines
+  first-of-settling = first-in-order yes-said (settlingLines b indicators) refl
 
   pub settles-exactly : Settles b indicators ↔ (settledBy b indicators .said ≡ accepted yes-said)
   unfolding settledBy
-  settles-exactly = (lowest-of-settling .answered .1, lowest-of-settling .answered .0)
+  settles-exactly = (first-of-settling .answered .1, first-of-settling .answered .0)
 
   -- a book that settles passes the four tests, and is given its settlement
   module _ (settles : Settles b indicators) where
@@ -85,7 +85,7 @@ module _ (b : Book) (indicators : List Indicator) where
 
     pub settled-so : settledBy b indicators .settlement ≡ settlementBy b indicators
     unfolding settledBy onAnswer
-    settled-so = rw (lowest-of-settling .answered .1 settles) refl
+    settled-so = rw (first-of-settling .answered .1 settles) refl
 
 -- a joined operator has access points
 joined-access : (b : Book) (indicators : List Indicator) → networkMissing b indicators ≡ false → (operator : ℕ) → operator < 16 → isJoined b operator ≡ true → 0 < settingOf b operator 1

@@ -14,8 +14,8 @@ use Rattle.calls.specs.Limits.{operators, years, figureCount, figureLimit, firs
 use Rattle.calls.specs.Masks.{has}
 use Rattle.calls.specs.Answers.{Said, refused-by, accepted, onAnswer, firstOf, Acceptance, yes-said}
 use Rattle.calls.specs.Call.{factsOf}
-use Rattle.calls.specs.Laws.{risesFrom, Lowest}
-use Rattle.calls.proofs.Lowest.{lowest}
+use Rattle.calls.specs.Laws.{rank, placeFrom, standFrom, First}
+use Rattle.calls.proofs.First.{first-in-order}
 use Rattle.calls.proofs.Flags.{and-true-right, or-false-right}
 use Rattle.calls.proofs.KindLaws.{kinds-opened}
 use Rattle.book.specs.declared.Book.{Book}
@@ -131,11 +131,11 @@ module _ (b : Book) (operator year : ℕ) where
       go true ranged = said-as-member ranged
       go false e = said-out-of-range e
 
-pub lowest-of-sheets : (b : Book) (operator year : ℕ) → Lowest (sheetLines b operator year) yes-said
-unfolding sheetLines risesFrom
-lowest-of-sheets b operator year = lowest yes-said (sheetLines b operator year) (go (inRange electricity b))
+pub first-of-sheets : (b : Book) (operator year : ℕ) → First (sheetLines b operator year) yes-said
+unfolding rank placeFrom standFrom sheetLines
+first-of-sheets b operator year = first-in-order yes-said (sheetLines b operator year) (go (inRange electricity b))
   where
     go : (t : Bool)
-        → risesFrom 0 (cond t ((4, leb operators operator) ∷ (5, not (ltb year years)) ∷ (7, not (isJoined b operator)) ∷ []) ((5, true) ∷ [])) ≡ true
+        → standFrom 0 (cond t ((4, leb operators operator) ∷ (5, not (ltb year years)) ∷ (7, not (isJoined b operator)) ∷ []) ((5, true) ∷ [])) ≡ true
     go true = refl
     go false = refl

@@ -1,4 +1,4 @@
--- What writing answers and leaves, case by case; the lowest number is given.
+-- What writing answers and leaves, case by case; the first number in the order is given.
 -- Assumes nothing.
 use Prim.Native.Nat.{ℕ, _≤_, _<_}
 use mathlib.Core.Path.{_≡_, refl}
@@ -8,8 +8,8 @@ use lib.ListN.{length}
 use Rattle.book.specs.declared.Book.{Book}
 use Rattle.calls.specs.Indicators.{Indicator}
 use Rattle.calls.specs.Answers.{refused-by, accepted, onAnswer, firstOf}
-use Rattle.calls.specs.Laws.{risesFrom, Lowest}
-use Rattle.calls.proofs.Lowest.{lowest}
+use Rattle.calls.specs.Laws.{rank, placeFrom, standFrom, First}
+use Rattle.calls.proofs.First.{first-in-order}
 use Rattle.book.specs.Book.{inRange}
 use Rattle.text.specs.Buffer.{putInto, bufferAfter, fitting}
 use Rattle.text.proofs.FittingLaws.{too-short, fits}
@@ -17,9 +17,9 @@ use Rattle.writing.specs.Written.{writtenAs}
 use Rattle.writer.specs.Writer.{writingLines, writingAnswer, writingBuffer}
 
 module _ (kind : List Indicator) (b : Book) (buffer : List ℕ) where
-  pub lowest-of-writing : Lowest (writingLines kind b buffer) (length (writtenAs kind b))
-  unfolding risesFrom writingLines
-  lowest-of-writing = lowest (length (writtenAs kind b)) (writingLines kind b buffer) refl
+  pub first-of-writing : First (writingLines kind b buffer) (length (writtenAs kind b))
+  unfolding rank placeFrom standFrom writingLines
+  first-of-writing = first-in-order (length (writtenAs kind b)) (writingLines kind b buffer) refl
 
   pub write-out-of-range : inRange kind b ≡ false → (refused-by 5 ≡ writingAnswer kind b buffer) × (buffer ≡ writingBuffer kind b buffer)
   unfolding writingAnswer writingBuffer writingLines firstOf bufferAfter onAnswer

@@ -26,7 +26,7 @@ module _ (kind : List Indicator) (c : Book) where
       ≡ acceptedCall (withMarks (withJoined c (including (c .joined) operator)) (unattested kind (c .marks) operator)) yes-said
   unfolding factsOf some changed isJoined
   join-accepted operator lo free =
-      done kind c (Join operator) refl (rw (lt-leb operators operator lo) refl) refl (rw free refl) refl refl
+      done kind c (Join operator) refl (rw (lt-leb operators operator lo) refl) refl refl refl (rw free refl) refl refl
 
   pub setting-accepted : (operator which value : ℕ) → operator < operators → which < settingCount → value ≤ settingLimit which → takesSetting kind which ≡ true
       → has (c .joined) operator ≡ true
@@ -34,7 +34,7 @@ module _ (kind : List Indicator) (c : Book) where
       ≡ acceptedCall (withSettings c (set (c .settings) (settingSlot operator which) value)) yes-said
   unfolding factsOf some changed isJoined
   setting-accepted operator which value lo lw le taken joined =
-      done kind c (Setting operator which value) refl (rw (lt-leb operators operator lo) refl) (rw (lt-ltb which settingCount lw, taken, le-leb value (settingLimit which) le) refl) refl
+      done kind c (Setting operator which value) refl (rw (lt-leb operators operator lo) refl) (rw (lt-ltb which settingCount lw, taken, le-leb value (settingLimit which) le) refl) refl refl refl
       (rw joined refl) refl
 
   -- a figure that is 0
@@ -45,7 +45,7 @@ module _ (kind : List Indicator) (c : Book) where
   unfolding factsOf some changed isJoined entering figureOf
   amount-accepted operator year figure value lo ly lf le taken joined none =
       admitted kind c (Amount operator year figure 0 value) refl (rw (lt-leb operators operator lo) refl)
-      (rw (lt-ltb year years ly, lt-ltb figure figureCount lf, taken) refl) refl (rw joined refl)
+      (rw (lt-ltb year years ly, lt-ltb figure figureCount lf, taken) refl) refl refl refl (rw joined refl)
       ∙ one-moved c (entry operator year figure 0 value) yes-said value
       (record {
         below-limit = rw none (le-ltb figureLimit (0 + value) (omega arith));
@@ -59,17 +59,17 @@ module _ (kind : List Indicator) (c : Book) where
       ≡ acceptedCall (withMarks c (set (c .marks) indicator (excluding (getD (c .marks) indicator 0) operator))) yes-said
   unfolding factsOf some changed isJoined remasked
   mark-accepted operator indicator lo li taken joined =
-      done kind c (Mark operator indicator 0) refl (rw (lt-leb operators operator lo) refl) (rw (lt-ltb indicator indicatorCount li, taken) refl) refl (rw joined refl) refl
+      done kind c (Mark operator indicator 0) refl (rw (lt-leb operators operator lo) refl) (rw (lt-ltb indicator indicatorCount li, taken) refl) refl refl refl (rw joined refl) refl
 
   pub index-accepted : (number value : ℕ) → number < indexCount → indexLeast ≤ value → value ≤ indexMost
       → apply kind c (Index number value)
       ≡ acceptedCall (withIndices c (set (c .indices) number value)) yes-said
   unfolding factsOf some changed
   index-accepted number value ln least most =
-      done kind c (Index number value) refl refl (rw (lt-ltb number indexCount ln, le-leb indexLeast value least, le-leb value indexMost most) refl) refl refl refl
+      done kind c (Index number value) refl refl (rw (lt-ltb number indexCount ln, le-leb indexLeast value least, le-leb value indexMost most) refl) refl refl refl refl refl
 
   pub rates-accepted : (pot cap : ℕ) → pot ≤ rateLimit → cap ≤ rateLimit
       → apply kind c (Rates pot cap) ≡ acceptedCall (withRates c pot cap) yes-said
   unfolding factsOf some changed
   rates-accepted pot cap pot-le cap-le =
-      done kind c (Rates pot cap) refl refl (rw (le-leb pot rateLimit pot-le, le-leb cap rateLimit cap-le) refl) refl refl refl
+      done kind c (Rates pot cap) refl refl (rw (le-leb pot rateLimit pot-le, le-leb cap rateLimit cap-le) refl) refl refl refl refl refl

@@ -19,7 +19,9 @@ returns-2 c = simp (le-leb _ _ (c .before .if1 .left), lt-leb _ _ (c .if2 .taken
 -- no such cause
 returns-3 : tie.Need-returns-3
 unfolding detailsInRange
-returns-3 c = simp (le-leb _ _ (c .before .before .if1 .left), le-leb _ _ (c .before .if2 .left), lt-leb _ _ (c .if3 .taken))
+returns-3 c =
+    let known = c .before .before .before in
+    simp (le-leb _ _ (c .before .before .if1 .left), le-leb _ _ (c .before .if2 .left), lt-leb (known .args .cause) 4 (c .if3 .taken))
 
 weight-in-range-requires : tie.Need-weight-in-range-requires
 weight-in-range-requires c κs = search needs

@@ -1,10 +1,11 @@
 -- `arguments::interruptions::weight_in_range` meets its contract.
 -- Assumes nothing.
-use mathlib.Core.Path.{_≡_, refl, sym}
-use mathlib.Core.Bool.{Bool, true, false, cond}
+use mathlib.Core.Path.{_≡_, refl, sym, ap}
+use mathlib.Core.Bool.{Bool, true, false, cond, _&&_}
 use native.Mathlib.Omega.{arith}
-use lib.Dec.{eqb}
+use lib.Dec.{leb, eqb}
 use borrow.Author.Tests.{lt-leb, le-leb, eq-eqb, ne-eqb}
+use Rattle.calls.specs.Limits.{weightLimit}
 use Rattle.calls.specs.Call.{weightInRange}
 use Rattle.arguments.proofs.interruptions.weight_in_range.Statement.{statement}
 use Rattle.arguments.proofs.interruptions.weight_in_range.Tie as tie
@@ -23,7 +24,9 @@ returns c =
 -- low voltage
 returns-2 : tie.Need-returns-2
 unfolding weightInRange
-returns-2 c = simp (ne-eqb _ _ (c .if2 .taken))
+returns-2 c =
+    let args = c .before .before .args in
+    ap (λ (t : Bool). cond t (leb 1 (args .weight) && leb (args .weight) weightLimit) (eqb (args .weight) 1)) (sym (ne-eqb (args .level) 0 (c .if2 .taken)))
 
 -- the limit decides
 returns-3 : tie.Need-returns-3

@@ -6,7 +6,7 @@ use native.Mathlib.Omega.{arith}
 use lib.IntN.{ℤ, natAbs}
 use Rattle.calls.specs.Limits.{yearLength}
 use Rattle.calls.specs.Call.{yearOf}
-use Rattle.calls.proofs.Times.{back, timed}
+use Rattle.calls.proofs.Times.{back, ends}
 use Rattle.judging.proofs.interruptions.year_of.Statement.{statement}
 use Rattle.judging.proofs.interruptions.year_of.Tie as tie
 
@@ -17,12 +17,12 @@ returns c = ap (λ (z : ℤ). natAbs z / yearLength) (back (c .fits .end))
 
 cast-stop : tie.Need-cast-stop
 cast-stop c =
-    let times = timed _ _ (c .pre) in
+    let times = ends _ _ (c .pre) in
     rw (back (c .fits .end), times .end-is) (tt, record { fits = omega (arith, times .stop-most) })
 
 cast-result : tie.Need-cast-result
 cast-result c =
-    let times = timed _ _ (c .pre) in
+    let times = ends _ _ (c .pre) in
     rw (back (c .fits .end), times .end-is) (record { fits = omega (arith, times .stop-most) })
 
 pub year-of-spec : {M : Type 1} → statement M

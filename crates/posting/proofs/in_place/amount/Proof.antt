@@ -28,7 +28,7 @@ returns : tie.Need-returns
 unfolding factsOf
 returns c = λ b.
     let start = c .before .before .before .before .before in
-    rw (member-decided (indicatorsOf (start .args .kind)) (withFigures (withJoined b (start .args .joined)) (start .args .figures .now)) (Amount (start .args .operator) (start .args .year) (start .args .figure) (start .args .sign) (start .args .value)) (start .args .operator) _ refl refl refl (sym (c .before .before .before .before .amount-in-range .ensures)) _ (sym (c .before .before .before .admit .ensures) ∙ ap admissionSaid (c .before .refusal .given .1))) (refl, refl)
+    rw (member-decided (indicatorsOf (start .args .kind)) (withFigures (withJoined b (start .args .joined)) (start .args .figures .now)) (Amount (start .args .operator) (start .args .year) (start .args .figure) (start .args .sign) (start .args .value)) (start .args .operator) _ refl refl refl (sym (c .before .before .before .before .amount-in-range .ensures)) refl refl _ (sym (c .before .before .before .admit .ensures) ∙ ap admissionSaid (c .before .refusal .given .1))) (refl, refl)
 
 enum-told : tie.Need-enum-told
 enum-told c = search needs
@@ -37,8 +37,8 @@ enter-requires : tie.Need-enter-requires
 unfolding factsOf
 enter-requires c κs =
     let start = c .before .before .before .before .before in
-    let passed = member-decided (indicatorsOf (start .args .kind)) (withJoined freshBook (start .args .joined)) (Amount (start .args .operator) (start .args .year) (start .args .figure) (start .args .sign) (start .args .value)) (start .args .operator) _ refl refl refl (sym (c .before .before .before .before .amount-in-range .ensures)) _ (sym (c .before .before .before .admit .ensures) ∙ ap admissionSaid (c .before .enum-told .given .1)) in
-    let in-range = ranges (indicatorsOf (start .args .kind)) (Amount (start .args .operator) (start .args .year) (start .args .figure) (start .args .sign) (start .args .value)) (sym (c .before .before .before .before .amount-in-range .ensures) ∙ passed .in-range) in
+    let passed = member-decided (indicatorsOf (start .args .kind)) (withJoined freshBook (start .args .joined)) (Amount (start .args .operator) (start .args .year) (start .args .figure) (start .args .sign) (start .args .value)) (start .args .operator) _ refl refl refl (sym (c .before .before .before .before .amount-in-range .ensures)) refl refl _ (sym (c .before .before .before .admit .ensures) ∙ ap admissionSaid (c .before .enum-told .given .1)) in
+    let in-range = ranges (indicatorsOf (start .args .kind)) (Amount (start .args .operator) (start .args .year) (start .args .figure) (start .args .sign) (start .args .value)) (sym (c .before .before .before .before .amount-in-range .ensures) ∙ passed .in-range) refl in
     record { operator-known = passed .small; year-known = in-range .0; figure-known = in-range .1; sign-most = in-range .2 }
 
 -- entered, 8 or 9
@@ -46,7 +46,7 @@ returns-2 : tie.Need-returns-2
 unfolding factsOf changed
 returns-2 c = λ b.
     let start = c .before .before .before .before .before .before in
-    let passed = member-decided (indicatorsOf (start .args .kind)) (withFigures (withJoined b (start .args .joined)) (start .args .figures .now)) (Amount (start .args .operator) (start .args .year) (start .args .figure) (start .args .sign) (start .args .value)) (start .args .operator) _ refl refl refl (sym (c .before .before .before .before .before .amount-in-range .ensures)) _ (sym (c .before .before .before .before .admit .ensures) ∙ ap admissionSaid (c .before .before .enum-told .given .1)) in
+    let passed = member-decided (indicatorsOf (start .args .kind)) (withFigures (withJoined b (start .args .joined)) (start .args .figures .now)) (Amount (start .args .operator) (start .args .year) (start .args .figure) (start .args .sign) (start .args .value)) (start .args .operator) _ refl refl refl (sym (c .before .before .before .before .before .amount-in-range .ensures)) refl refl _ (sym (c .before .before .before .before .admit .ensures) ∙ ap admissionSaid (c .before .before .enum-told .given .1)) in
     rw (passed .entered refl) (c .enter .ensures yes-said refl (withJoined b (start .args .joined)))
 
 pub amount-spec : {M : Type 1} → statement M

@@ -27,15 +27,16 @@ mul-indices : tie.Need-mul-indices
 mul-indices c = search needs
 
 element-write-indices : tie.Need-element-write-indices
+unfolding factsOf
 element-write-indices c =
     let start = c .before .before in
-    ranges electricity (Index (start .args .number) (start .args .value)) (granted (c .before .index-in-range .ensures) (c .if1 .left)) .0
+    ranges electricity (Index (start .args .number) (start .args .value)) (granted (c .before .index-in-range .ensures) (c .if1 .left)) refl .0
 
 returns-2 : tie.Need-returns-2
 unfolding factsOf some changed
 returns-2 c = λ kind b.
     let start = c .before .before in
-    rw (done kind (withIndices b (start .args .indices .now)) (Index (start .args .number) (start .args .value)) refl refl (granted (c .before .index-in-range .ensures) (c .if1 .left)) refl refl refl) (refl, refl)
+    rw (done kind (withIndices b (start .args .indices .now)) (Index (start .args .number) (start .args .value)) refl refl (granted (c .before .index-in-range .ensures) (c .if1 .left)) refl refl refl refl refl) (refl, refl)
 
 pub index-spec : {M : Type 1} → statement M
 index-spec =

@@ -1,7 +1,7 @@
 -- `posting::in_place::interruption` meets its contract.
 -- Assumes nothing.
 use mathlib.Core.Path.{_≡_, refl, sym, ap, _∙_}
-use mathlib.Core.Bool.{Bool, true, _&&_}
+use mathlib.Core.Bool.{Bool, true, false}
 use mathlib.Core.List.{List}
 use Prim.Native.Nat.{_<_}
 use native.Mathlib.Omega.{arith}
@@ -9,18 +9,19 @@ use Rattle.calls.specs.declared.Call.{Call}
 use Rattle.calls.specs.declared.Call.the-variants.{Interruption}
 use Rattle.calls.specs.Limits.{operators}
 use Rattle.calls.specs.Indicators.{Indicator, indicatorsOf}
-use Rattle.calls.specs.Call.{detailsInRange, timesInRange, secondsOf, yearOf, factsOf}
+use Rattle.calls.specs.Answers.{Said, firstOf}
+use Rattle.calls.specs.Call.{startsAfterEnd, outsidePeriod, detailsInRange, secondsOf, yearOf, factsOf}
 use Rattle.judging.specs.Steps.{JudgedAs}
 use Rattle.book.specs.declared.Book.{Book}
 use Rattle.book.specs.Book.{withJoined, withFigures, freshBook}
 use Rattle.ledger.specs.Calls.{changed, apply}
-use Rattle.ledger.specs.Steps.{entering}
+use Rattle.ledger.specs.Steps.{interruptionLines, entering}
 use Rattle.admission.specs.Admission.{admissionSaid}
-use Rattle.calls.proofs.Flags.{denied, granted, and-left, and-right}
-use Rattle.calls.proofs.Times.{back, timed, year-lt, seconds-most}
+use Rattle.calls.proofs.Flags.{denied, granted}
+use Rattle.calls.proofs.Times.{back, ends, year-lt, lasts, seconds-most}
 use Rattle.calls.proofs.RangeLaws.{details}
 use Rattle.judging.proofs.JudgedLaws.{left-out-counted, left-out-known}
-use Rattle.ledger.proofs.AdmissionLaws.{unknown-call, member-decided}
+use Rattle.ledger.proofs.AdmissionLaws.{unknown-call, Decides, interruption-decided}
 use borrow.Author.Needs.{needs}
 use Rattle.posting.proofs.in_place.interruption.Statement.{statement}
 use Rattle.posting.proofs.in_place.interruption.Tie as tie
@@ -35,12 +36,15 @@ kindOf start = indicatorsOf (start .args .kind)
 abbrev lent : tie.Start → Book → Book
 lent start b = withFigures (withJoined b (start .args .joined)) (start .args .figures .now)
 
--- the two tests of 5
+-- the test of 5, and those of 14 and 15
 abbrev detailed : tie.Start → Bool
 detailed start = detailsInRange (start .args .sign) (start .args .level) (start .args .cause) (start .args .weight)
 
-abbrev inTime : tie.Start → Bool
-inTime start = timesInRange (start .args .start) (start .args .end)
+abbrev late : tie.Start → Bool
+late start = startsAfterEnd (start .args .start) (start .args .end)
+
+abbrev outside : tie.Start → Bool
+outside start = outsidePeriod (start .args .start) (start .args .end)
 
 takes-interruptions-requires : tie.Need-takes-interruptions-requires
 takes-interruptions-requires c κs = search needs
@@ -60,52 +64,69 @@ had : (m : tie.Else1) → factsOf (kindOf (opened m)) (call (opened m)) .known �
 unfolding factsOf
 had m = granted (m .before .takes-interruptions .ensures) (m .if1 .left)
 
-ranged : (m : tie.After-interruption-in-range) → factsOf (kindOf (opened (m .before))) (call (opened (m .before))) .in-range ≡ m .interruption-in-range .result
+ranged : (m : tie.After-details-in-range) → factsOf (kindOf (opened (m .before))) (call (opened (m .before))) .in-range ≡ m .details-in-range .result
 unfolding factsOf
-ranged m = sym (rw (back (opened (m .before) .fits .start), back (opened (m .before) .fits .end)) at (m .interruption-in-range .ensures))
+ranged m = sym (m .details-in-range .ensures)
 
-interruption-in-range-requires : tie.Need-interruption-in-range-requires
-interruption-in-range-requires c κs = search needs
+details-in-range-requires : tie.Need-details-in-range-requires
+details-in-range-requires c κs = search needs
 
-admit-requires : tie.Need-admit-requires
-admit-requires c κs = search needs
+admit-interruption-requires : tie.Need-admit-interruption-requires
+admit-interruption-requires c κs = search needs
+
+-- the shared checks, and what follows from what they say
+module _ (m : tie.After-admit-interruption) where
+  abbrev asking : tie.Start
+  asking = opened (m .before .before)
+
+  checked : firstOf (interruptionLines (asking .args .joined) (asking .args .operator) (m .before .details-in-range .result) (asking .args .start) (asking .args .end)) tt
+      ≡ admissionSaid (m .admit-interruption .result)
+  checked =
+      sym
+      (m .admit-interruption .ensures
+      ∙ (λ i. firstOf (interruptionLines (asking .args .joined) (asking .args .operator) (m .before .details-in-range .result) (back (asking .fits .start) i) (back (asking .fits .end) i)) tt))
+
+  decided : (b : Book) (answer : Said (Unit {0})) → admissionSaid (m .admit-interruption .result) ≡ answer
+      → Decides (kindOf asking) (lent asking b) (call asking) (asking .args .operator) (m .before .details-in-range .result) (late asking) (outside asking) answer
+  unfolding factsOf
+  decided b answer e =
+      interruption-decided (kindOf asking) (lent asking b) (call asking) (asking .args .operator) _ (had (m .before .before)) refl refl (ranged (m .before)) (asking .args .start) (asking .args .end) refl refl answer (checked ∙ e)
 
 enum-known-refusal : tie.Need-enum-known-refusal
 enum-known-refusal c = search needs
 
--- 4, 5 or 7
+-- 4, 5, 14, 15 or 7
 returns-2 : tie.Need-returns-2
-unfolding factsOf
-returns-2 c = λ b.
-    let start = opened (c .before .before .before .before .before) in
-    rw (member-decided (kindOf start) (lent start b) (call start) (start .args .operator) _ (had (c .before .before .before .before .before)) refl refl (ranged (c .before .before .before .before)) _ (sym (c .before .before .before .admit .ensures) ∙ ap admissionSaid (c .before .refusal .given .1))) (refl, refl)
+returns-2 c = λ b. rw (decided (c .before .before .before) b _ (ap admissionSaid (c .before .refusal .given .1))) (refl, refl)
 
 enum-told : tie.Need-enum-told
 enum-told c = search needs
 
--- what is known once 4, 5 and 7 are passed
+-- what is known once they are passed
 abbrev begun : tie.After-enum-told → tie.Start
 begun m = opened (m .before .before .before .before)
 
 module _ (m : tie.After-enum-told) where
   admitted : (b : Book)
       → (begun m .args .operator < operators)
-      × (detailed (begun m) && inTime (begun m) ≡ true)
+      × (detailed (begun m) ≡ true)
+      × (late (begun m) ≡ false)
+      × (outside (begun m) ≡ false)
       × (apply (kindOf (begun m)) (lent (begun m) b) (call (begun m))
       ≡ entering (lent (begun m) b) (factsOf (kindOf (begun m)) (call (begun m)) .entries) (factsOf (kindOf (begun m)) (call (begun m)) .answer))
   unfolding factsOf changed
   admitted b =
-      let passed = member-decided (kindOf (begun m)) (lent (begun m) b) (call (begun m)) (begun m .args .operator) _ (had (m .before .before .before .before)) refl refl (ranged (m .before .before .before)) _ (sym (m .before .before .admit .ensures) ∙ ap admissionSaid (m .enum-told .given .1)) in
-      (passed .small, ranged (m .before .before .before) ∙ passed .in-range, passed .entered refl)
-
-  in-time : inTime (begun m) ≡ true
-  in-time = and-right (detailed (begun m)) _ (admitted freshBook .1)
+      let passed = decided (m .before .before) b _ (ap admissionSaid (m .enum-told .given .1)) in
+      (passed .small, ranged (m .before .before .before) ∙ passed .in-range, passed .ordered, passed .timely, passed .entered refl)
 
 seconds-of-requires : tie.Need-seconds-of-requires
-seconds-of-requires c κs = rw (back (begun c .fits .start), back (begun c .fits .end)) (in-time c)
+seconds-of-requires c κs =
+    let passed = admitted c freshBook in
+    rw (back (begun c .fits .start), back (begun c .fits .end)) (passed .2, passed .3)
 
 year-of-requires : tie.Need-year-of-requires
-year-of-requires c κs = (λ i. timesInRange (back (begun (c .before) .fits .start) i) (back (begun (c .before) .fits .end) i)) ∙ in-time (c .before)
+year-of-requires c κs =
+    (λ i. outsidePeriod (back (begun (c .before) .fits .start) i) (back (begun (c .before) .fits .end) i)) ∙ admitted (c .before) freshBook .3
 
 judge-requires : tie.Need-judge-requires
 judge-requires c κs = search needs
@@ -131,15 +152,14 @@ enter-counted-requires : tie.Need-enter-counted-requires
 enter-counted-requires c κs =
     let told = c .before .before .before .before .before .before in
     let passed = admitted told freshBook in
-    let in-range = details (begun told .args .sign) (begun told .args .level) (begun told .args .cause) (begun told .args .weight) (and-left _ (inTime (begun told)) (passed .1)) in
-    let times = timed (begun told .args .start) (begun told .args .end) (in-time told) in
+    let in-range = details (begun told .args .sign) (begun told .args .level) (begun told .args .cause) (begun told .args .weight) (passed .1) in
     record {
       operator-known = passed .0;
       sign-most = in-range .sign-most;
       level-most = in-range .level-most;
-      year-known = rw (year-is (c .before .before .before .before)) (year-lt times);
+      year-known = rw (year-is (c .before .before .before .before)) (year-lt (ends (begun told .args .start) (begun told .args .end) (passed .3)));
       weight-most = in-range .weight-most;
-      seconds-most = rw (seconds-is (c .before .before .before .before .before)) (seconds-most times);
+      seconds-most = rw (seconds-is (c .before .before .before .before .before)) (seconds-most (lasts (begun told .args .start) (begun told .args .end) (passed .2) (passed .3)));
     }
 
 enum-known-reason : tie.Need-enum-known-reason
@@ -152,11 +172,10 @@ enter-requires : tie.Need-enter-requires
 enter-requires c κs =
     let told = c .before .before .before .before .before .before .before .before in
     let passed = admitted told freshBook in
-    let in-range = details (begun told .args .sign) (begun told .args .level) (begun told .args .cause) (begun told .args .weight) (and-left _ (inTime (begun told)) (passed .1)) in
-    let times = timed (begun told .args .start) (begun told .args .end) (in-time told) in
+    let in-range = details (begun told .args .sign) (begun told .args .level) (begun told .args .cause) (begun told .args .weight) (passed .1) in
     record {
       operator-known = passed .0;
-      year-known = rw (year-is (c .before .before .before .before .before .before)) (year-lt times);
+      year-known = rw (year-is (c .before .before .before .before .before .before)) (year-lt (ends (begun told .args .start) (begun told .args .end) (passed .3)));
       figure-known = rw (c .before .count-figure .ensures) (left-out-known (c .before .before .before .reason .given .0 .0));
       sign-most = omega (arith, in-range .sign-most);
     }
@@ -166,7 +185,7 @@ returns-3 : tie.Need-returns-3
 unfolding factsOf
 returns-3 c = λ b.
     let told = c .before .before .before .before .before .before .before in
-    rw (admitted told b .2, ← judged (c .before .before .before .before) (yearOf (begun told .args .end)), c .before .before .enum-told2 .given .1)
+    rw (admitted told b .4, ← judged (c .before .before .before .before) (yearOf (begun told .args .end)), c .before .before .enum-told2 .given .1)
     (rw (year-is (c .before .before .before .before .before), seconds-is (c .before .before .before .before .before .before)) at (c .enter-counted .ensures (withJoined b (begun told .args .joined))))
 
 -- left out
@@ -174,7 +193,7 @@ returns-4 : tie.Need-returns-4
 unfolding factsOf
 returns-4 c = λ b.
     let told = c .before .before .before .before .before .before .before .before .before in
-    rw (admitted told b .2, ← judged (c .before .before .before .before .before .before) (yearOf (begun told .args .end)), c .before .before .before .before .reason .given .1, left-out-counted)
+    rw (admitted told b .4, ← judged (c .before .before .before .before .before .before) (yearOf (begun told .args .end)), c .before .before .before .before .reason .given .1, left-out-counted)
     (rw (year-is (c .before .before .before .before .before .before .before), c .before .before .count-figure .ensures) at (c .enter .ensures _ refl (withJoined b (begun told .args .joined))))
 
 pub interruption-spec : {M : Type 1} → statement M
@@ -183,8 +202,8 @@ interruption-spec =
     (tie.spec
     takes-interruptions-requires
     returns
-    interruption-in-range-requires
-    admit-requires
+    details-in-range-requires
+    admit-interruption-requires
     enum-known-refusal
     returns-2
     enum-told

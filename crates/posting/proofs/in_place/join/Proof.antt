@@ -30,7 +30,7 @@ returns-2 : tie.Need-returns-2
 unfolding factsOf some isJoined
 returns-2 c = λ b.
     let start = c .before .before .before .before in
-    rw (already-joined (indicatorsOf (start .args .kind)) (withMarks (withJoined b (start .args .joined .now)) (start .args .marks .now)) (Join (start .args .operator)) refl (rw (lt-leb 16 (start .args .operator) (omega arith)) refl) refl (rw (sym (c .before .has-bit .ensures) ∙ c .if2 .taken) refl)) (refl, refl)
+    rw (already-joined (indicatorsOf (start .args .kind)) (withMarks (withJoined b (start .args .joined .now)) (start .args .marks .now)) (Join (start .args .operator)) refl (rw (lt-leb 16 (start .args .operator) (omega arith)) refl) refl refl refl (rw (sym (c .before .has-bit .ensures) ∙ c .if2 .taken) refl)) (refl, refl)
 
 include-bit-requires : tie.Need-include-bit-requires
 include-bit-requires c κs = search needs
@@ -45,7 +45,7 @@ returns-3 c = λ b.
     let start = c .before .before .before .before .before .before .before in
     let free : has (start .args .joined .now) (start .args .operator) ≡ false = sym (c .before .before .before .before .has-bit .ensures) ∙ c .before .before .before .if2 .left in
     let marked : c .mark-unattested .last .1 .0 ≡ unattested (indicatorsOf (start .args .kind)) (start .args .marks .now) (start .args .operator) = c .mark-unattested .ensures in
-    rw (done (indicatorsOf (start .args .kind)) (withMarks (withJoined b (start .args .joined .now)) (start .args .marks .now)) (Join (start .args .operator)) refl (rw (lt-leb 16 (start .args .operator) (omega arith)) refl) refl (rw free refl) refl refl, ← c .before .before .include-bit .ensures, ← marked) (refl, refl)
+    rw (done (indicatorsOf (start .args .kind)) (withMarks (withJoined b (start .args .joined .now)) (start .args .marks .now)) (Join (start .args .operator)) refl (rw (lt-leb 16 (start .args .operator) (omega arith)) refl) refl refl refl (rw free refl) refl refl, ← c .before .before .include-bit .ensures, ← marked) (refl, refl)
 
 pub join-spec : {M : Type 1} → statement M
 join-spec =

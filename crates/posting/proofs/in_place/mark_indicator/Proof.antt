@@ -28,7 +28,7 @@ returns : tie.Need-returns
 unfolding factsOf
 returns c = λ b.
     let start = c .before .before .before .before .before in
-    rw (member-decided (indicatorsOf (start .args .kind)) (withMarks (withJoined b (start .args .joined)) (start .args .marks .now)) (Mark (start .args .operator) (start .args .indicator) (start .args .mark)) (start .args .operator) _ refl refl refl (sym (c .before .before .before .before .mark-in-range .ensures)) _ (sym (c .before .before .before .admit .ensures) ∙ ap admissionSaid (c .before .refusal .given .1))) (refl, refl)
+    rw (member-decided (indicatorsOf (start .args .kind)) (withMarks (withJoined b (start .args .joined)) (start .args .marks .now)) (Mark (start .args .operator) (start .args .indicator) (start .args .mark)) (start .args .operator) _ refl refl refl (sym (c .before .before .before .before .mark-in-range .ensures)) refl refl _ (sym (c .before .before .before .admit .ensures) ∙ ap admissionSaid (c .before .refusal .given .1))) (refl, refl)
 
 enum-told : tie.Need-enum-told
 enum-told c = search needs
@@ -40,16 +40,16 @@ element-copy-out-remask : tie.Need-element-copy-out-remask
 unfolding factsOf
 element-copy-out-remask c =
     let start = c .before .before .before .before in
-    let passed = member-decided (indicatorsOf (start .args .kind)) (withJoined freshBook (start .args .joined)) (Mark (start .args .operator) (start .args .indicator) (start .args .mark)) (start .args .operator) _ refl refl refl (sym (c .before .before .before .mark-in-range .ensures)) _ (sym (c .before .before .admit .ensures) ∙ ap admissionSaid (c .enum-told .given .1)) in
-    let in-range = ranges (indicatorsOf (start .args .kind)) (Mark (start .args .operator) (start .args .indicator) (start .args .mark)) (sym (c .before .before .before .mark-in-range .ensures) ∙ passed .in-range) in
+    let passed = member-decided (indicatorsOf (start .args .kind)) (withJoined freshBook (start .args .joined)) (Mark (start .args .operator) (start .args .indicator) (start .args .mark)) (start .args .operator) _ refl refl refl (sym (c .before .before .before .mark-in-range .ensures)) refl refl _ (sym (c .before .before .admit .ensures) ∙ ap admissionSaid (c .enum-told .given .1)) in
+    let in-range = ranges (indicatorsOf (start .args .kind)) (Mark (start .args .operator) (start .args .indicator) (start .args .mark)) (sym (c .before .before .before .mark-in-range .ensures) ∙ passed .in-range) refl in
     omega (arith, in-range)
 
 remask-requires : tie.Need-remask-requires
 unfolding factsOf
 remask-requires c κs =
     let start = c .before .before .before .before .before in
-    let passed = member-decided (indicatorsOf (start .args .kind)) (withJoined freshBook (start .args .joined)) (Mark (start .args .operator) (start .args .indicator) (start .args .mark)) (start .args .operator) _ refl refl refl (sym (c .before .before .before .before .mark-in-range .ensures)) _ (sym (c .before .before .before .admit .ensures) ∙ ap admissionSaid (c .before .enum-told .given .1)) in
-    let in-range = ranges (indicatorsOf (start .args .kind)) (Mark (start .args .operator) (start .args .indicator) (start .args .mark)) (sym (c .before .before .before .before .mark-in-range .ensures) ∙ passed .in-range) in
+    let passed = member-decided (indicatorsOf (start .args .kind)) (withJoined freshBook (start .args .joined)) (Mark (start .args .operator) (start .args .indicator) (start .args .mark)) (start .args .operator) _ refl refl refl (sym (c .before .before .before .before .mark-in-range .ensures)) refl refl _ (sym (c .before .before .before .admit .ensures) ∙ ap admissionSaid (c .before .enum-told .given .1)) in
+    let in-range = ranges (indicatorsOf (start .args .kind)) (Mark (start .args .operator) (start .args .indicator) (start .args .mark)) (sym (c .before .before .before .before .mark-in-range .ensures) ∙ passed .in-range) refl in
     passed .small
 
 mul-marks : tie.Need-mul-marks
@@ -59,15 +59,15 @@ element-write-marks : tie.Need-element-write-marks
 unfolding factsOf
 element-write-marks c =
     let start = c .before .before .before .before .before .before in
-    let passed = member-decided (indicatorsOf (start .args .kind)) (withJoined freshBook (start .args .joined)) (Mark (start .args .operator) (start .args .indicator) (start .args .mark)) (start .args .operator) _ refl refl refl (sym (c .before .before .before .before .before .mark-in-range .ensures)) _ (sym (c .before .before .before .before .admit .ensures) ∙ ap admissionSaid (c .before .before .enum-told .given .1)) in
-    let in-range = ranges (indicatorsOf (start .args .kind)) (Mark (start .args .operator) (start .args .indicator) (start .args .mark)) (sym (c .before .before .before .before .before .mark-in-range .ensures) ∙ passed .in-range) in
+    let passed = member-decided (indicatorsOf (start .args .kind)) (withJoined freshBook (start .args .joined)) (Mark (start .args .operator) (start .args .indicator) (start .args .mark)) (start .args .operator) _ refl refl refl (sym (c .before .before .before .before .before .mark-in-range .ensures)) refl refl _ (sym (c .before .before .before .before .admit .ensures) ∙ ap admissionSaid (c .before .before .enum-told .given .1)) in
+    let in-range = ranges (indicatorsOf (start .args .kind)) (Mark (start .args .operator) (start .args .indicator) (start .args .mark)) (sym (c .before .before .before .before .before .mark-in-range .ensures) ∙ passed .in-range) refl in
     omega (arith, in-range)
 
 returns-2 : tie.Need-returns-2
 unfolding factsOf changed
 returns-2 c = λ b.
     let start = c .before .before .before .before .before .before in
-    let passed = member-decided (indicatorsOf (start .args .kind)) (withMarks (withJoined b (start .args .joined)) (start .args .marks .now)) (Mark (start .args .operator) (start .args .indicator) (start .args .mark)) (start .args .operator) _ refl refl refl (sym (c .before .before .before .before .before .mark-in-range .ensures)) _ (sym (c .before .before .before .before .admit .ensures) ∙ ap admissionSaid (c .before .before .enum-told .given .1)) in
+    let passed = member-decided (indicatorsOf (start .args .kind)) (withMarks (withJoined b (start .args .joined)) (start .args .marks .now)) (Mark (start .args .operator) (start .args .indicator) (start .args .mark)) (start .args .operator) _ refl refl refl (sym (c .before .before .before .before .before .mark-in-range .ensures)) refl refl _ (sym (c .before .before .before .before .admit .ensures) ∙ ap admissionSaid (c .before .before .enum-told .given .1)) in
     rw (passed .done refl, c .remask .ensures) (refl, refl)
 
 pub mark-indicator-spec : {M : Type 1} → statement M

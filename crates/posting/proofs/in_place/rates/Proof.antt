@@ -27,7 +27,7 @@ returns-2 : tie.Need-returns-2
 unfolding factsOf some changed
 returns-2 c = λ kind b.
     let start = c .before .before in
-    rw (done kind (withRates b (start .args .pot-rate .now) (start .args .cap-rate .now)) (Rates (start .args .pot) (start .args .cap)) refl refl (granted (c .before .rates-in-range .ensures) (c .if1 .left)) refl refl refl) (refl, refl)
+    rw (done kind (withRates b (start .args .pot-rate .now) (start .args .cap-rate .now)) (Rates (start .args .pot) (start .args .cap)) refl refl (granted (c .before .rates-in-range .ensures) (c .if1 .left)) refl refl refl refl refl) (refl, refl)
 
 pub rates-spec : {M : Type 1} → statement M
 rates-spec = tie.close (tie.spec rates-in-range-requires returns returns-2)

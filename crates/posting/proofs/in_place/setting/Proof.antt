@@ -28,7 +28,7 @@ returns : tie.Need-returns
 unfolding factsOf
 returns c = λ b.
     let start = c .before .before .before .before .before in
-    rw (member-decided (indicatorsOf (start .args .kind)) (withSettings (withJoined b (start .args .joined)) (start .args .settings .now)) (Setting (start .args .operator) (start .args .which) (start .args .value)) (start .args .operator) _ refl refl refl (sym (c .before .before .before .before .setting-in-range .ensures)) _ (sym (c .before .before .before .admit .ensures) ∙ ap admissionSaid (c .before .refusal .given .1))) (refl, refl)
+    rw (member-decided (indicatorsOf (start .args .kind)) (withSettings (withJoined b (start .args .joined)) (start .args .settings .now)) (Setting (start .args .operator) (start .args .which) (start .args .value)) (start .args .operator) _ refl refl refl (sym (c .before .before .before .before .setting-in-range .ensures)) refl refl _ (sym (c .before .before .before .admit .ensures) ∙ ap admissionSaid (c .before .refusal .given .1))) (refl, refl)
 
 enum-told : tie.Need-enum-told
 enum-told c = search needs
@@ -37,8 +37,8 @@ setting-slot-requires : tie.Need-setting-slot-requires
 unfolding factsOf
 setting-slot-requires c κs =
     let start = c .before .before .before .before in
-    let passed = member-decided (indicatorsOf (start .args .kind)) (withJoined freshBook (start .args .joined)) (Setting (start .args .operator) (start .args .which) (start .args .value)) (start .args .operator) _ refl refl refl (sym (c .before .before .before .setting-in-range .ensures)) _ (sym (c .before .before .admit .ensures) ∙ ap admissionSaid (c .enum-told .given .1)) in
-    let in-range = ranges (indicatorsOf (start .args .kind)) (Setting (start .args .operator) (start .args .which) (start .args .value)) (sym (c .before .before .before .setting-in-range .ensures) ∙ passed .in-range) in
+    let passed = member-decided (indicatorsOf (start .args .kind)) (withJoined freshBook (start .args .joined)) (Setting (start .args .operator) (start .args .which) (start .args .value)) (start .args .operator) _ refl refl refl (sym (c .before .before .before .setting-in-range .ensures)) refl refl _ (sym (c .before .before .admit .ensures) ∙ ap admissionSaid (c .enum-told .given .1)) in
+    let in-range = ranges (indicatorsOf (start .args .kind)) (Setting (start .args .operator) (start .args .which) (start .args .value)) (sym (c .before .before .before .setting-in-range .ensures) ∙ passed .in-range) refl in
     (omega (arith, passed .small, in-range .0), in-range .0)
 
 mul-settings : tie.Need-mul-settings
@@ -52,7 +52,7 @@ returns-2 : tie.Need-returns-2
 unfolding factsOf changed
 returns-2 c = λ b.
     let start = c .before .before .before .before .before in
-    let passed = member-decided (indicatorsOf (start .args .kind)) (withSettings (withJoined b (start .args .joined)) (start .args .settings .now)) (Setting (start .args .operator) (start .args .which) (start .args .value)) (start .args .operator) _ refl refl refl (sym (c .before .before .before .before .setting-in-range .ensures)) _ (sym (c .before .before .before .admit .ensures) ∙ ap admissionSaid (c .before .enum-told .given .1)) in
+    let passed = member-decided (indicatorsOf (start .args .kind)) (withSettings (withJoined b (start .args .joined)) (start .args .settings .now)) (Setting (start .args .operator) (start .args .which) (start .args .value)) (start .args .operator) _ refl refl refl (sym (c .before .before .before .before .setting-in-range .ensures)) refl refl _ (sym (c .before .before .before .admit .ensures) ∙ ap admissionSaid (c .before .enum-told .given .1)) in
     rw (passed .done refl, c .setting-slot .ensures .0) (refl, refl)
 
 pub setting-spec : {M : Type 1} → statement M

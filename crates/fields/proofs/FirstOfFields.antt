@@ -1,4 +1,4 @@
--- The lowest of 1, 2 and 3 that applies to a field that is there is given, as specs/Laws.antt says, and a field's answers are told apart.
+-- The first of 1, 2 and 3 that applies to a field that is there is given, as specs/Laws.antt says, and a field's answers are told apart.
 -- Assumes nothing.
 use Prim.Native.Nat.{ℕ, _+_, _<_}
 use mathlib.Core.Path.{_≡_, refl, sym, ap, _∙_}
@@ -13,16 +13,16 @@ use Rattle.fields.specs.declared.Field.{Field}
 use Rattle.fields.specs.declared.Field.the-variants.{CallThen, End, Refused}
 use Rattle.calls.specs.Indicators.{Indicator}
 use Rattle.calls.specs.Answers.{Said, refused-by, accepted, firstOf, numberOf}
-use Rattle.calls.specs.Laws.{applies, risesFrom, Lowest, ToldApart}
-use Rattle.calls.proofs.Lowest.{lowest}
+use Rattle.calls.specs.Laws.{rank, placeFrom, applies, standFrom, First, ToldApart}
+use Rattle.calls.proofs.First.{first-in-order}
 use Rattle.calls.proofs.SaidLaws.{numbers-apart}
 use Rattle.contents.specs.Content.{bigEndian, unsigned}
 use Rattle.fields.specs.Field.{sizeAt, leftAt, Found, at-end, call-then, fieldLines, callAt, fieldIn, fieldSaid}
 use Rattle.fields.specs.Laws.{FieldAnswered}
 
-pub lowest-of-fields : (kind : List Indicator) (bytes : List ℕ) (at : ℕ) → Lowest (fieldLines kind bytes at) (callAt bytes at)
-unfolding risesFrom fieldLines
-lowest-of-fields kind bytes at = lowest (callAt bytes at) (fieldLines kind bytes at) refl
+pub first-of-fields : (kind : List Indicator) (bytes : List ℕ) (at : ℕ) → First (fieldLines kind bytes at) (callAt bytes at)
+unfolding rank placeFrom standFrom fieldLines
+first-of-fields kind bytes at = first-in-order (callAt bytes at) (fieldLines kind bytes at) refl
 
 -- an answer tells the end from a field
 abbrev isEnd : Said Found → Bool
@@ -64,18 +64,15 @@ module _ (kind : List Indicator) (bytes : List ℕ) (at : ℕ) where
   answered false more =
       let some : 0 < leftAt bytes at = omega (arith, eqb-false (leftAt bytes at) 0 more) in
       let judged : fieldIn kind bytes at ≡ firstOf (fieldLines kind bytes at) (callAt bytes at) = rw more refl in
-      let low = lowest-of-fields kind bytes at in
+      let first = first-of-fields kind bytes at in
       record {
-        number = λ n. (
-          (λ e. let lines = low .refused n .0 (sym judged ∙ e) in (some, lines .0, lines .1)),
-          (λ all. judged ∙ low .refused n .1 (all .1, all .2)),
-        );
+        number = λ n. ((λ e. (some, first .refused n .0 (sym judged ∙ e))), (λ all. judged ∙ first .refused n .1 (all .1)));
         ends = (
           (λ e. absurd (false≢true (sym field-no-end ∙ ap isEnd (sym judged ∙ e)))),
           (λ none. absurd (omega (arith, some, none))),
         );
         end-not-truncated = end-not-truncated;
-        calls = ((λ e. (some, low .answered .0 (sym judged ∙ e))), (λ all. judged ∙ low .answered .1 (all .1)));
+        calls = ((λ e. (some, first .answered .0 (sym judged ∙ e))), (λ all. judged ∙ first .answered .1 (all .1)));
       }
 
   pub field-answered : FieldAnswered kind bytes at
