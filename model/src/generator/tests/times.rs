@@ -240,12 +240,11 @@ fn times_shown(filing: &[u8]) -> BTreeSet<String> {
     met(filing).iter().flat_map(times_in_words).collect()
 }
 
-/// The first filings about times.
-fn filings_of_times(count: usize) -> impl Iterator<Item = Vec<u8>> {
-    (0..)
+/// The filings about times among the first ones.
+fn filings_of_times(most: u64) -> impl Iterator<Item = Vec<u8>> {
+    (0..most)
         .filter(|&number| kind(number) == Kind::Times)
         .map(|number| filing(1, number))
-        .take(count)
 }
 
 /// The answers are right for every interruption that is met.
@@ -290,8 +289,8 @@ fn mistakes_about_times_show() {
     }
 }
 
-/// What is shown of single times and of both, and in at least how many of 600 filings
-/// about them.
+/// What is shown of single times and of both, and in at least how many of the filings
+/// about them among the first 12,000, some 630.
 const LEAST_TIMES: [(&str, u32); 27] = [
     ("start at end taken", 110),
     ("start at end refused 15", 28),
@@ -343,7 +342,7 @@ const LEAST_REASONS: [(&str, u32); 15] = [
 
 #[test]
 fn times_of_every_sort_occur() {
-    let counts = counted(filings_of_times(600).flat_map(|filing| times_shown(&filing)));
+    let counts = counted(filings_of_times(12_000).flat_map(|filing| times_shown(&filing)));
     are_shown(&counts, &LEAST_TIMES);
     are_shown(&counts, &LEAST_REASONS);
 }
