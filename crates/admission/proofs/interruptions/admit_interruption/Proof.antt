@@ -1,4 +1,4 @@
--- `admission::admit_interruption` meets its contract.
+-- `admission::interruptions::admit_interruption` meets its contract.
 -- Assumes nothing.
 use Prim.Native.Nat.{ℕ}
 use mathlib.Core.Path.{_≡_, sym, ap, _∙_}
@@ -17,8 +17,8 @@ use Rattle.calls.proofs.Times.{back}
 use Rattle.calls.proofs.First.{line-passed, line-given}
 use Rattle.ledger.specs.Steps.{interruptionLines}
 use borrow.Author.Needs.{needs}
-use Rattle.admission.proofs.admit_interruption.Statement.{statement}
-use Rattle.admission.proofs.admit_interruption.Tie as tie
+use Rattle.admission.proofs.interruptions.admit_interruption.Statement.{statement}
+use Rattle.admission.proofs.interruptions.admit_interruption.Tie as tie
 
 -- what the table gives, and its lines from 7, 15, 14 and 5 on
 abbrev told : tie.Start → Said (Unit {0})

@@ -1,4 +1,4 @@
--- `admission::is_outside` meets its contract.
+-- `admission::interruptions::is_outside` meets its contract.
 -- Assumes nothing.
 use mathlib.Core.Path.{_≡_, sym, _∙_}
 use mathlib.Core.Bool.{Bool, true, false}
@@ -8,8 +8,8 @@ use mir.Syntax.{w64}
 use mir.Val.{toZ, ofZ}
 use Rattle.calls.specs.Limits.{lastEnd, startBefore}
 use Rattle.calls.proofs.Times.{back, out-at-first, out-at-last, out-early}
-use Rattle.admission.proofs.is_outside.Statement.{statement}
-use Rattle.admission.proofs.is_outside.Tie as tie
+use Rattle.admission.proofs.interruptions.is_outside.Statement.{statement}
+use Rattle.admission.proofs.interruptions.is_outside.Tie as tie
 
 -- the tests of the end, which the code has as bits
 module _ (begun : tie.Start) (t : Bool) where
