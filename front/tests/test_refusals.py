@@ -300,7 +300,7 @@ class Refusals(InFolder):
             self.assertIn(f": {number}: {' '.join(sentences)}\n", run.said)
 
     def test_the_order_of_the_numbers(self):
-        # No such operator, a weight of 0, not joined: before 14 and 15, before them, after them.
+        # No such operator and a weight of 0 come before 14 and 15, and one that has not joined after them.
         for operator, weight, times, number in [
             (16, 1, "301 300", 4),
             (0, 0, "301 300", 5),
