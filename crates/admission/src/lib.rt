@@ -1,4 +1,6 @@
 // What comes before a filing call does its work: the checks that calls share, and the marks that a newcomer has.
+#![tactic(auto)]
+
 mod interruptions;
 
 ghost use Rattle.std.specs.Prelude.{◌≡◌, cond, ◌<◌, ◌≤◌, length};
@@ -14,7 +16,7 @@ use calls::{Kind, LAST_OPERATOR, Refusal, has_bit, include_bit, takes_mark};
 pub use interruptions::admit_interruption;
 
 // Whether a call passes the checks that it shares with others.
-#[derive(Drop)]
+#[derive(Clone, Copy)]
 pub enum Admission {
     Admitted,
     Refused(Refusal),

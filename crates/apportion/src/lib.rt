@@ -1,11 +1,13 @@
 // Sharing a total by weights over sixteen places, by largest remainders (01: "Sharing T by weights").
+#![tactic(auto)]
+
 ghost use Rattle.std.specs.Prelude.{◌≡◌, ◌+◌, ◌^◌, ◌<◌};
 ghost use Rattle.apportion.specs.Sum.{sum};
 ghost use Rattle.apportion.specs.Steps.{DividingEach};
 ghost use Rattle.apportion.specs.Share.{floors, remainders, precedes, foremost, award, share};
 
 // The floors and the remainders of all places.
-#[derive(Drop)]
+#[derive(Clone, Copy)]
 struct Divisions {
     floors: [u64; 16],
     remainders: [u64; 16],

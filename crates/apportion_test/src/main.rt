@@ -1,4 +1,6 @@
 // Shares totals by weights, each with four rows of sizes, and prints each case as T, the weights, the sizes, = and the shares.
+#![tactic(auto)]
+
 mod cases;
 
 ghost use Rattle.std.specs.Prelude.{◌+◌, ◌*◌, ◌^◌, ◌<◌};

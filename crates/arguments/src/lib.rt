@@ -1,4 +1,6 @@
 // Whether the arguments of a filing call are in range, each by 01's limits; an interruption's times have numbers of their own.
+#![tactic(auto)]
+
 mod arguments;
 mod interruptions;
 

@@ -1,10 +1,12 @@
 // The book of operators, settings, marks and figures, and what it holds by name.
+#![tactic(auto)]
+
 mod access;
 
 pub use access::{figure_of, figure_slot, fresh, is_joined, setting_of, setting_slot};
 use calls::{FIGURE_PLACES, INDICATORS, INDICES, SETTING_PLACES};
 
-#[derive(Drop)]
+#[derive(Clone, Copy)]
 pub struct Book {
     // Sixteen bits, one an operator.
     pub joined: u16,

@@ -1,4 +1,6 @@
 // The filing calls on whole books: a call as a value on the parts of a book, and the calls by value, of electricity and of gas.
+#![tactic(auto)]
+
 mod by_value;
 mod dispatch;
 mod gas;
@@ -10,7 +12,7 @@ pub use dispatch::apply_in;
 pub use gas::{amount_gas, file_gas, index_gas, join_gas, mark_gas, rates_gas, setting_gas};
 
 // What a call gives: the book afterwards, and the answer.
-#[derive(Drop)]
+#[derive(Clone, Copy)]
 pub struct Answered {
     pub book: Book,
     pub answer: Answer,

@@ -1,4 +1,6 @@
 // A filing call and its answers, the limits of 01, what a kind takes, and masks of operators.
+#![tactic(auto)]
+
 mod answers;
 mod kinds;
 mod limits;
@@ -18,14 +20,14 @@ pub use limits::{
 pub use masks::{has_bit, include_bit, remask};
 
 // The kinds of operators, each with a book of its own.
-#[derive(Drop)]
+#[derive(Clone, Copy)]
 pub enum Kind {
     Electricity,
     Gas,
 }
 
 // A filing call with its arguments, as the fields of a filing give them.
-#[derive(Drop)]
+#[derive(Clone, Copy)]
 pub enum Call {
     Join {
         operator: u8,
@@ -67,7 +69,7 @@ pub enum Call {
 }
 
 // The answers other than yes, in the order of their numbers. Which is looked at before which is another order: specs/Laws.antt has it.
-#[derive(Drop)]
+#[derive(Clone, Copy)]
 pub enum Refusal {
     Truncated,
     UnknownTag,
@@ -87,7 +89,7 @@ pub enum Refusal {
 }
 
 // Why an interruption is left out.
-#[derive(Drop)]
+#[derive(Clone, Copy)]
 pub enum Reason {
     Short,
     Planned,
@@ -95,7 +97,7 @@ pub enum Reason {
     Exceptional,
 }
 
-#[derive(Drop)]
+#[derive(Clone, Copy)]
 pub enum Answer {
     Yes,
     Counted { year: u8 },

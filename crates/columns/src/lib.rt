@@ -1,5 +1,7 @@
 // The columns of a line of the printed settlement, put into a slice at a place, and the sums of points that stand in them.
 // What puts something answers with the place after it.
+#![tactic(auto)]
+
 ghost use Rattle.std.specs.Prelude.{◌≡◌, [], ◌∷◌, ◌++◌, ◌+◌, ◌^◌, ◌≤◌, ◌<◌, nat_abs, length};
 ghost use Rattle.apportion.specs.Sum.{sum};
 ghost use Rattle.text.specs.Text.{decimal, signed_decimal};

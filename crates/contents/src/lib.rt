@@ -1,4 +1,6 @@
 // The content of a field: its numbers, and the call that a tag's content gives.
+#![tactic(auto)]
+
 mod contents;
 mod numbers;
 

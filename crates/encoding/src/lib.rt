@@ -1,4 +1,6 @@
 // A field of a filing put into a lent slice at a place; each function answers with the place after it.
+#![tactic(auto)]
+
 ghost use Rattle.std.specs.Prelude.{◌≡◌, ◌+◌, ◌≤◌, length};
 ghost use Rattle.fields.specs.Encoding.{in_bytes};
 ghost use Rattle.text.specs.Steps.{with_text_at};
@@ -6,7 +8,7 @@ ghost use Rattle.encoding.specs.Fields.{bytes_in};
 
 // A field to be written. Its content is two numbers: the single bytes in front, as one number, and the value after them. Of rates
 // they are the two rates; a width of 0 leaves a number out.
-#[derive(Drop)]
+#[derive(Clone, Copy)]
 pub struct Encoded {
     pub tag: u8,
     pub front: u64,

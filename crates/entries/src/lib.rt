@@ -1,5 +1,7 @@
 // The places of a written filing, in its order: joins, settings, amounts, marks, indices, rates. At each the book's value is fresh, or
 // there is a field for it. A mark is fresh as a join sets it.
+#![tactic(auto)]
+
 ghost use Rattle.std.specs.Prelude.{◌≡◌, ◌*◌, ◌<◌, not, ◌&&◌};
 ghost use Rattle.calls.specs.Limits.{operators, years, figure_count, setting_count, indicator_count, index_count};
 ghost use Rattle.calls.specs.Masks.{has};
@@ -15,7 +17,7 @@ use calls::{
 use encoding::Encoded;
 
 // What a book's written filing has at a place: nothing where the value is fresh, else a field.
-#[derive(Drop)]
+#[derive(Clone, Copy)]
 pub enum Entry {
     Fresh,
     Differs(Encoded),

@@ -1,12 +1,14 @@
 // Division, rounded down; and quotient and remainder of a product, at once where it fits 64 bits and in steps of 64 bits where it passes
 // them (01: "Some products pass 64 bits; the answer is exact all the same").
+#![tactic(auto)]
+
 ghost use Rattle.std.specs.Prelude.{◌≡◌, ◌+◌, ◌*◌, ◌/◌, ◌%◌, ◌^◌, ◌<◌, ◌≤◌, min, ltb};
 ghost use Rattle.exact.specs.Division.{over, Dividing, Appending};
 
 const LARGEST: u64 = 18446744073709551615;
 
 // What a whole division gives.
-#[derive(Drop)]
+#[derive(Clone, Copy)]
 pub struct Division {
     pub quotient: u64,
     pub remainder: u64,

@@ -1,4 +1,6 @@
 // Divides products at the extremes of `exact` and in between, and prints each as t w s = quotient remainder.
+#![tactic(auto)]
+
 mod cases;
 
 ghost use Rattle.std.specs.Prelude.{◌<◌};

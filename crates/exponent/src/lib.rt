@@ -1,4 +1,6 @@
 // The exponent weights: a constant table of 1001 numbers (01: "The weight of k stands in a table").
+#![tactic(auto)]
+
 mod table;
 
 ghost use Rattle.std.specs.Prelude.{◌≡◌, ℕ, ◌≤◌, get_or};

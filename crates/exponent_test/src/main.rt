@@ -1,4 +1,6 @@
 // Prints the 1001 exponent weights, one a line, from k = 0 on.
+#![tactic(auto)]
+
 use libc::STDOUT_FILENO;
 
 fn main() {

@@ -1,10 +1,12 @@
 // What reading a filing into a book gives, defined in specs/. The code is in the crate `reader`.
+#![tactic(auto)]
+
 use book::Book;
 use calls::Answer;
 
 // How far a reading has come: how many fields were applied, the offset of the next tag, and yes or the refusal. Of a reading that has
 // ended the offset is that of the refused tag (the filing's length if none).
-#[derive(Drop)]
+#[derive(Clone, Copy)]
 pub struct Progress {
     pub applied: usize,
     pub offset: usize,
@@ -12,7 +14,7 @@ pub struct Progress {
 }
 
 // What reading gives: the book afterwards, and how far the reading came.
-#[derive(Drop)]
+#[derive(Clone, Copy)]
 pub struct Reading {
     pub book: Book,
     pub progress: Progress,

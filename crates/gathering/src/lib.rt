@@ -1,4 +1,6 @@
 // The points of all indicators, each worked out once: pools, points one after the other, and each operator's total.
+#![tactic(auto)]
+
 ghost use Rattle.std.specs.Prelude.{◌≡◌, ℕ, ◌+◌, ◌*◌, ◌≤◌, ◌<◌, get_or};
 ghost use Rattle.std.proofs.Math.Seq.{paste};
 ghost use Rattle.calls.specs.Limits.{indicator_count};
@@ -19,7 +21,7 @@ use indicators::{points_of, pool_of};
 // A number for each indicator and operator.
 pub const POINT_PLACES: usize = OPERATORS * INDICATORS;
 
-#[derive(Drop)]
+#[derive(Clone, Copy)]
 pub struct Gathered {
     // In hundredths, by the indicators' numbers; 0 where the kind has none.
     pub pools: [u64; INDICATORS],

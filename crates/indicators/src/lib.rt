@@ -1,4 +1,6 @@
 // The indicators: pools, weights and points.
+#![tactic(auto)]
+
 mod interruptions;
 mod pools;
 mod weights;

@@ -1,4 +1,6 @@
 // What the filing calls do to a book, defined in specs/, and entries made in its figures.
+#![tactic(auto)]
+
 mod entries;
 
 pub use entries::{enter, enter_counted};

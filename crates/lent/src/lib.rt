@@ -1,5 +1,7 @@
 // The filing calls, and reading a filing, with the book lent by `&mut`: it is altered where it stands. `held` has the same for code that holds a
 // book by value.
+#![tactic(auto)]
+
 mod fresh;
 mod gas;
 pub mod held;

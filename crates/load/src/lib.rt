@@ -1,11 +1,13 @@
 // A filing from the folder that a program is run in: its bytes, or that it could not be read. What is read no contract can say.
+#![tactic(auto)]
+
 ghost use Rattle.std.specs.Prelude.{◌≤◌, length};
 ghost use Rattle.load.specs.Loading.{LoadedIn, BegunIn};
 
 use libc::ENOENT;
 
 // How many bytes were read, or that the filing could not be read, which has been told on standard error.
-#[derive(Drop)]
+#[derive(Clone, Copy)]
 pub enum Loaded {
     Bytes(usize),
     Failed,
@@ -13,7 +15,7 @@ pub enum Loaded {
 
 // What a filing's first bytes come to: all of it, a buffer that is full and the file that goes on after it, or a filing that could not be
 // read, which has been told.
-#[derive(Drop)]
+#[derive(Clone, Copy)]
 pub enum Begun {
     Whole(usize),
     Full(i32),
@@ -21,7 +23,7 @@ pub enum Begun {
 }
 
 // A filing open for reading, one that there is not, or one that cannot be opened, which has been told.
-#[derive(Drop)]
+#[derive(Clone, Copy)]
 enum Opened {
     At(i32),
     Missing,

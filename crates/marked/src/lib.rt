@@ -1,1 +1,2 @@
 // No code: the marked cases of 01 stand in specs/ as one list, and in proofs/ that all of them hold.
+#![tactic(auto)]

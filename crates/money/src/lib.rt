@@ -1,4 +1,6 @@
 // Money by operator: the pot, limits, the weights of returns, and the adjustment of what is received and paid.
+#![tactic(auto)]
+
 ghost use Rattle.std.specs.Prelude.{◌≡◌, ℕ, ◌*◌, ◌/◌, ◌-◌, ◌^◌, ◌≤◌, ◌<◌, min, get_or};
 ghost use Rattle.std.proofs.Math.IntN.{sub_ℕ};
 ghost use Rattle.calls.specs.Limits.{operators, rate_limit};

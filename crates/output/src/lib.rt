@@ -1,4 +1,6 @@
 // From the bytes of a filing to the bytes that the program prints: every decision of the program.
+#![tactic(auto)]
+
 ghost use Rattle.std.specs.Prelude.{◌≡◌, ◌+◌, ◌≤◌, length};
 ghost use Rattle.text.specs.Buffer.{put_into};
 ghost use Rattle.text.specs.Steps.{with_text_at};

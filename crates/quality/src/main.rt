@@ -1,4 +1,6 @@
 // The program that settles a filing of electricity.
+#![tactic(auto)]
+
 use calls::Kind;
 
 fn main() {

@@ -1,4 +1,6 @@
 // Whether a book is in the range of its kind, which every call that takes a book asks first.
+#![tactic(auto)]
+
 mod limits;
 mod taken;
 

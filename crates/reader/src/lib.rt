@@ -1,5 +1,7 @@
 // Reading a filing into a book, on slice and number: its fields from an offset on, applied in order, up to the first refusal. The book's
 // parts are taken out once, altered where they stand by each field's call, and put together at the end.
+#![tactic(auto)]
+
 ghost use Rattle.std.specs.Prelude.{◌≡◌, true, ◌<◌};
 ghost use Rattle.calls.specs.Answers.{is_refused, said};
 ghost use Rattle.calls.specs.Indicators.{indicators_of};
@@ -19,7 +21,7 @@ use filing::{Progress, Reading};
 use range::in_range;
 
 // A reading under way, but for the book: how far it has come, and whether it goes on with a next field.
-#[derive(Drop)]
+#[derive(Clone, Copy)]
 struct Turn {
     progress: Progress,
     continues: bool,

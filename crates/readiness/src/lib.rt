@@ -1,4 +1,6 @@
 // Whether a book has what settling needs: the settings that 11 asks for, and at an indicator somebody who takes part, or 12.
+#![tactic(auto)]
+
 ghost use Rattle.std.specs.Prelude.{◌≡◌, true, ◌&&◌, ◌<◌, eqb};
 ghost use Rattle.calls.specs.Limits.{setting_count};
 ghost use Rattle.calls.specs.Masks.{has};

@@ -1,6 +1,8 @@
 // Reads commands as bytes from standard input and does them one after the other, first by value, then with the book lent. Each is
 // printed as `command = answer`. A command is a field of a filing: tags 1 to 7 are the filing calls, those from 208 on are its own. A run
 // starts with a fresh book of electricity; calls and settlements are of the kind that was named last.
+#![tactic(auto)]
+
 mod asked;
 mod gas_routes;
 mod routes;

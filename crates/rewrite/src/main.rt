@@ -1,4 +1,6 @@
 // The program that writes a book of electricity out.
+#![tactic(auto)]
+
 use calls::Kind;
 
 fn main() {

@@ -1,4 +1,6 @@
 // The program that writes a book of gas out.
+#![tactic(auto)]
+
 use calls::Kind;
 
 fn main() {

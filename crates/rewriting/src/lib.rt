@@ -1,4 +1,6 @@
 // From the bytes of a filing to its book written out: every decision of the programs that rewrite.
+#![tactic(auto)]
+
 ghost use Rattle.std.specs.Prelude.{◌≡◌, ◌≤◌, true, length};
 ghost use Rattle.calls.specs.Indicators.{indicators_of};
 ghost use Rattle.book.specs.Book.{in_range};
@@ -14,14 +16,14 @@ use output::{LONGEST_FILING, put_refused_field};
 use text::{Filled, put_word};
 use writer::{WRITTEN_MOST, WRITTEN_MOST_GAS, write_as};
 
-#[derive(Drop)]
+#[derive(Clone, Copy)]
 pub enum Stream {
     Output,
     Error,
 }
 
 // Where a text goes, and how many bytes it has.
-#[derive(Drop)]
+#[derive(Clone, Copy)]
 pub struct Printed {
     pub stream: Stream,
     pub count: usize,

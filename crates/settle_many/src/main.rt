@@ -1,5 +1,7 @@
 // Settles a full book of sixteen operators as often as it has arguments, each time with another income, and prints the sum of
 // operator 0's returns. It is for counting the instructions of one settlement: docs/SPEED.md says how.
+#![tactic(auto)]
+
 ghost use Rattle.std.specs.Prelude.{◌<◌};
 ghost use Rattle.calls.specs.Limits.{operators, setting_count};
 

@@ -1,4 +1,6 @@
 // Settling a book: points of each indicator, the pot, contributions, returns and each operator's adjustment.
+#![tactic(auto)]
+
 mod settling;
 
 use calls::{Answer, INDICATORS};
@@ -6,7 +8,7 @@ pub use gathering::POINT_PLACES;
 pub use settling::{settle, settle_as, settle_gas};
 
 // All 0 on refusal and for operators not joined.
-#[derive(Drop)]
+#[derive(Clone, Copy)]
 pub struct Settlement {
     // In hundredths, by the indicators' numbers; 0 where the kind has none.
     pub pools: [u64; INDICATORS],
@@ -20,7 +22,7 @@ pub struct Settlement {
     pub adjustments: [i64; 16],
 }
 
-#[derive(Drop)]
+#[derive(Clone, Copy)]
 pub struct Settled {
     pub settlement: Settlement,
     pub answer: Answer,

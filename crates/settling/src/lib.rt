@@ -1,5 +1,7 @@
 // The program that settles, of either kind: reads `filing.q` from the folder that it is run in, and prints its settlement or its refusal. What is
 // printed for the bytes of a filing is `output`'s to say.
+#![tactic(auto)]
+
 use calls::Kind;
 use libc::STDOUT_FILENO;
 use load::{Begun, Loaded, begin_filing, load_rest};

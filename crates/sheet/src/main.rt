@@ -1,5 +1,7 @@
 // The program that prints a yearly sheet: reads `filing.q` from the folder that it is run in, and prints the sheet of the operator and year
 // that its two arguments give. What is printed for them is `sheet_output`'s to say.
+#![tactic(auto)]
+
 use libc::{STDERR_FILENO, STDOUT_FILENO};
 use load::{Loaded, load_filing};
 use sheet_output::{Argument, argument_of, sheet_output};

@@ -1,4 +1,6 @@
 // From the bytes of a filing, an operator and a year to the bytes that the program `sheet` prints: every decision of the program.
+#![tactic(auto)]
+
 mod arguments;
 mod printing;
 
@@ -6,7 +8,7 @@ pub use arguments::argument_of;
 pub use printing::sheet_output;
 
 // A number of one byte, or something else.
-#[derive(Drop)]
+#[derive(Clone, Copy)]
 pub enum Argument {
     Number(u8),
     Other,

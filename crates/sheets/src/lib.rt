@@ -1,4 +1,6 @@
 // The yearly sheet of an operator, by value: the five figures that count interruptions, or a refusal.
+#![tactic(auto)]
+
 ghost use Rattle.std.specs.Prelude.{◌≡◌, ◌<◌};
 ghost use Rattle.calls.specs.Limits.{operators, years};
 ghost use Rattle.calls.specs.Answers.{said, refused_by, number_of};
@@ -13,7 +15,7 @@ use calls::{Answer, FIGURE_PLACES, FIRST_COUNT, Kind, OUTCOMES, Refusal};
 use range::in_range;
 
 // Of interruptions in a year: how many counted, and how many were left out as short, planned, coupled, exceptional. All 0 on refusal.
-#[derive(Drop)]
+#[derive(Clone, Copy)]
 pub struct YearlySheet {
     pub answer: Answer,
     pub counts: [u64; OUTCOMES],

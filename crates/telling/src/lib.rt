@@ -1,5 +1,7 @@
 // The program that tells what becomes of each field, of either kind: reads `filing.q` from the folder that it is run in, files its calls one by
 // one, and prints for each the field's offset and the answer, up to the first refusal.
+#![tactic(auto)]
+
 use book::Book;
 use calls::{Answer, Kind, Reason, Refusal};
 use fields::Field;
@@ -7,7 +9,7 @@ use libc::STDOUT_FILENO;
 use load::{Loaded, load_filing};
 
 // The book by now, and the offset of the next field.
-#[derive(Drop)]
+#[derive(Clone, Copy)]
 struct Walk {
     book: Book,
     offset: usize,

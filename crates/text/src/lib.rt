@@ -1,4 +1,6 @@
 // Bytes, words and numbers put into a lent slice at a place; each answers with the place after it.
+#![tactic(auto)]
+
 ghost use Rattle.std.specs.Prelude.{◌≡◌, [], ◌∷◌, ◌+◌, ◌^◌, ◌≤◌, ◌<◌, nat_abs, length};
 ghost use Rattle.text.specs.Text.{decimal, signed_decimal};
 ghost use Rattle.text.specs.Steps.{with_text_at};
@@ -6,7 +8,7 @@ ghost use Rattle.text.specs.Steps.{with_text_at};
 use calls::Refusal;
 
 // How many bytes a call has put into a lent buffer, or why none.
-#[derive(Drop)]
+#[derive(Clone, Copy)]
 pub enum Filled {
     Bytes(usize),
     Refused(Refusal),

@@ -1,5 +1,7 @@
 // Yearly values of an indicator by operator and their sums over three years, the first two steps of annex 9, 4.2.1; and the operators that take
 // part. Parts of a book are lent, since a book by value is copied at each call; each function speaks of every book that the parts belong to.
+#![tactic(auto)]
+
 mod columns;
 
 ghost use Rattle.std.specs.Prelude.{◌≡◌, cond, ℕ, ◌+◌, ◌*◌, ◌-◌, ◌^◌, ◌<◌, get_or};
@@ -20,7 +22,7 @@ pub use columns::settings_of;
 use exact::divide;
 
 // The values of each year, by operator.
-#[derive(Drop)]
+#[derive(Clone, Copy)]
 pub struct YearlyValues {
     pub first: [u64; 16],
     pub second: [u64; 16],

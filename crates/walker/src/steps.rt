@@ -6,7 +6,7 @@ ghost use Rattle.walker.specs.Walk.{past, offset_after};
 use fields::{Field, field_at};
 
 // What stands at an offset, and the offset after it: the same at the end and at a field that 1, 2 or 3 refuses.
-#[derive(Drop)]
+#[derive(Clone, Copy)]
 pub(crate) struct Step {
     pub field: Field,
     pub offset: usize,

@@ -1,4 +1,6 @@
 // Walks over a few filings, and prints each as bytes = well formed fields, the offset where the walk ends, what stands there.
+#![tactic(auto)]
+
 use calls::{Refusal, number_of};
 use fields::Field;
 use libc::STDOUT_FILENO;

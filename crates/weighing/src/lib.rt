@@ -1,4 +1,6 @@
 // The weight of one operator at an indicator, from its score and what those that take part come to.
+#![tactic(auto)]
+
 ghost use Rattle.std.specs.Prelude.{◌≡◌, cond, ◌&&◌, ◌-◌, ◌*◌, ◌≤◌, ltb, eqb};
 ghost use Rattle.std.specs.Int.Count.{ones};
 ghost use Rattle.calls.specs.Masks.{has};

@@ -1,4 +1,6 @@
 // The writer: a book written out as a filing, in a lent buffer. How many bytes it needs is worked out first, then each field is put where the one before it ended.
+#![tactic(auto)]
+
 ghost use Rattle.std.specs.Prelude.{◌≡◌, ◌+◌, ◌≤◌, length};
 ghost use Rattle.calls.specs.Indicators.{indicators_of};
 ghost use Rattle.text.specs.Buffer.{filled_said, put_into};

@@ -1,5 +1,7 @@
 // Writes the book of case M into buffers of several lengths, and prints each as `length = answer` and every byte of the buffer around
 // it: those past the lent part have to stay.
+#![tactic(auto)]
+
 ghost use Rattle.std.specs.Prelude.{◌≤◌};
 
 use book::Book;

@@ -1,6 +1,8 @@
 // The program that writes a book out, of either kind: reads `filing.q` from the folder that it is run in, and puts the book's written filing on
 // standard output. A filing that is refused is told on standard error, by the line that the program prints that settles, and nothing goes to
 // standard output.
+#![tactic(auto)]
+
 use calls::Kind;
 use libc::{STDERR_FILENO, STDOUT_FILENO};
 use load::{Loaded, load_filing};

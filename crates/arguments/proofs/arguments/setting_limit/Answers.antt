@@ -1,0 +1,10 @@
+-- `arguments::arguments::setting_limit` meets its contract.
+-- Assumes nothing.
+use mathlib.Core.Path.{sym}
+use Rattle.calls.proofs.SettingLaws.{cabin-limit}
+use borrow.Author.Rules.{rules}
+use Rattle.arguments.proofs.arguments.setting_limit.Goals as goal
+
+-- cabins
+pub returns-in_default : goal.returns-in_default
+returns-in_default c = sym (cabin-limit c.args.which c.in_default.rest.0.1 c.in_default.rest.1)

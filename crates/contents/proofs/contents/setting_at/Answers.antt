@@ -1,0 +1,18 @@
+-- `contents::contents::setting_at` meets its contract.
+-- Assumes nothing.
+use borrow.Author.Rules.{rules}
+use mathlib.Core.Path.{refl}
+use native.Mathlib.Nat.{add-zero}
+use native.Mathlib.Omega.{arith}
+use Rattle.contents.specs.Content.{tags, tagged}
+use Rattle.contents.proofs.NumberLaws.{byte-in, unsigned-in}
+use Rattle.contents.proofs.contents.setting_at.Goals as goal
+
+pub returns : goal.returns
+unfolding tagged tags
+returns c =
+    let bytes = c.args.bytes.now in
+    let at = c.args.at in
+    let byte = byte-in bytes at 10 in
+    let unsigned = unsigned-in bytes at 10 in
+    rw (byte 0 (omega arith), add-zero, byte 1 (omega arith), unsigned 2 8 (omega arith), ← c.eight_at.ensures) refl

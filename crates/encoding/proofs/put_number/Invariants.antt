@@ -1,0 +1,16 @@
+-- `encoding::put_number` meets its contract. The loop's invariant: the last bytes are stored, and the rest of the number is to come.
+-- Assumes nothing.
+use mathlib.Core.Path.{◌≡◌, refl}
+use Prim.Native.Nat.{◌-◌, ◌≤◌}
+use native.Mathlib.Omega.{arith}
+use lib.ListN.{length, length-set}
+use borrow.Author.Rules.{rules}
+use Rattle.fields.proofs.EncodingLaws.{bytes-length}
+use Rattle.encoding.proofs.NumberLaws.{Storing, storing-none, storing-more, storing-all}
+use Rattle.encoding.proofs.put_number.Given as goal
+
+abbrev pub invariant-loop-left : goal.invariant-loop-left
+invariant-loop-left l = (l.left ≤ l.width) × Storing l.initial.out l.at l.width l.number l.out l.rest l.left × (length l.out ≡ length l.initial.out)
+
+abbrev pub decreases-loop-left : goal.decreases-loop-left
+decreases-loop-left l = l.left

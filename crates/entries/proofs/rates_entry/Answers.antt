@@ -1,0 +1,21 @@
+-- `entries::rates_entry` meets its contract.
+-- Assumes nothing.
+use mathlib.Core.Path.{refl}
+use mathlib.Core.Logic.{⊎_elim}
+use borrow.Author.Tests.{eq-eqb, ne_eqb}
+use Rattle.calls.proofs.Flags.{and-false-right}
+use Rattle.entries.specs.Entries.{rates_at}
+use Rattle.entries.proofs.EntryLaws.{nothing-there, rates-there}
+use Rattle.entries.proofs.rates_entry.Goals as goal
+
+pub returns-then-cap_rate-eq0 : goal.returns-then-cap_rate-eq0
+unfolding rates_at
+returns-then-cap_rate-eq0 c = nothing-there (rw (eq-eqb _ 0 c.if-pot_rate-eq0.true, eq-eqb _ 0 c.if-cap_rate-eq0.true) refl)
+
+pub returns : goal.returns
+unfolding rates_at
+returns c =
+    let pot = c.args.pot_rate in
+    let cap = c.args.cap_rate in
+    rates-there pot cap
+    (⊎_elim (λ w. rw (ne_eqb cap 0 w.1.left, and-false-right) refl) (λ w. rw (ne_eqb pot 0 w.left) refl) c.if-pot_rate-eq0.branch)

@@ -1,0 +1,22 @@
+-- `indicators::interruptions::level` meets its contract: the operators passed have their weights.
+-- Assumes nothing.
+use borrow.Author.Rules.{rules}
+use mathlib.Core.Path.{◌≡◌, refl}
+use mathlib.Core.Bool.{cond}
+use mathlib.Core.List.{List}
+use Prim.Native.Nat.{ℕ, ◌-◌}
+use native.Mathlib.Omega.{arith}
+use lib.ListN.{length, get_or}
+use Rattle.calls.specs.Masks.{has}
+use Rattle.apportion.proofs.Sums.{sum_bound}
+use Rattle.values.specs.Bounds.{score_most}
+use Rattle.values.proofs.Tables.{Filling, filling-none, filling-more, filling-each}
+use Rattle.indicators.specs.Points.{is_better, levelled}
+use Rattle.indicators.specs.Sequence.{levelled_weights}
+use Rattle.indicators.proofs.interruptions.level.Given as goal
+
+abbrev pub invariant-loop-i : goal.invariant-loop-i
+invariant-loop-i l = Filling (levelled_at l.mask l.sums l.own) l.i l.weights
+
+abbrev pub decreases-loop-i : goal.decreases-loop-i
+decreases-loop-i l = 16 - l.i

@@ -1,0 +1,34 @@
+-- `indicators::interruptions::thousandths_of` meets its contract: the operators passed have their thousandths.
+-- Assumes nothing.
+use borrow.Author.Rules.{rules}
+use mathlib.Core.Path.{refl}
+use Prim.Native.Nat.{ℕ, ◌-◌, ◌*◌}
+use native.Mathlib.Omega.{arith}
+use lib.ListN.{get_or}
+use Rattle.exact.specs.Division.{over}
+use Rattle.values.specs.Bounds.{score_most}
+use Rattle.values.proofs.Tables.{Filling, filling-none, filling-more, filling-each}
+use Rattle.indicators.specs.Points.{largest}
+use Rattle.indicators.specs.Sequence.{thousandths}
+use Rattle.indicators.proofs.Largest.{largest-ge, largest-le}
+use Rattle.indicators.proofs.interruptions.thousandths_of.Goals as goal
+
+pub loop-i-init : goal.loop-i-init
+loop-i-init c = filling-none _ _ refl
+
+pub normalise-requires : goal.normalise-requires
+normalise-requires c =
+    let i = c.loop-i.i in
+    let sums = c.args.t1 in
+    omega (arith, largest-ge sums i, largest-le sums score_most c.requires, c.largest_of-top.ensures)
+
+pub loop-i-preserved : goal.loop-i-preserved
+loop-i-preserved c =
+    let here = c.loop-i in
+    filling-more _ _ here.invariant (omega arith) (rw c.largest_of-top.ensures at c.normalise.ensures.0)
+
+pub returns : goal.returns
+unfolding thousandths
+returns c =
+    let here = c.loop-i in
+    filling-each here.invariant (omega arith)

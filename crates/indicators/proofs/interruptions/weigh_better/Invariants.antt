@@ -1,0 +1,20 @@
+-- `indicators::interruptions::weigh_better` meets its contract: the operators passed hold their weight if they are better.
+-- Assumes nothing.
+use mathlib.Core.Path.{◌≡◌, refl, ◌∙◌, ap}
+use Prim.Native.Nat.{ℕ, ◌-◌, zero-le}
+use native.Mathlib.Omega.{arith}
+use lib.ListN.{get_or}
+use mathlib.Core.Bool.{cond}
+use Rattle.apportion.specs.Sum.{sum}
+use Rattle.indicators.specs.Points.{is_better}
+use Rattle.values.proofs.Tables.{Filling, filling-none, filling-more, filling-each, sum-each-le}
+use Rattle.exponent.specs.Weight.{first_weight}
+use Rattle.values.proofs.CountLaws.{cond-le}
+use mathlib.Core.List.{List}
+use Rattle.indicators.proofs.interruptions.weigh_better.Given as goal
+
+abbrev pub invariant-loop-i : goal.invariant-loop-i
+invariant-loop-i l = Filling (counted l.mask l.scores l.own) l.i l.counted
+
+abbrev pub decreases-loop-i : goal.decreases-loop-i
+decreases-loop-i l = 16 - l.i

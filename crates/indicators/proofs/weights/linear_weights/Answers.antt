@@ -1,0 +1,41 @@
+-- `indicators::weights::linear_weights` meets its contract: the operators passed have their weights.
+-- Assumes nothing.
+use borrow.Author.Rules.{rules}
+use mathlib.Core.Path.{◌≡◌, refl, sym, ◌∙◌}
+use mathlib.Core.Bool.{cond}
+use mathlib.Core.List.{List}
+use Prim.Native.Nat.{ℕ, ◌-◌}
+use native.Mathlib.Omega.{arith}
+use Rattle.values.specs.Bounds.{score_most}
+use Rattle.indicators.specs.Points.{normalised}
+use Rattle.indicators.proofs.WeightLaws.{linear_weight}
+use Rattle.calls.specs.Masks.{has}
+use Rattle.values.proofs.Tables.{Filling, filling-none, filling-more, filling-each}
+use Rattle.indicators.proofs.Largest.{largest-ge, largest-le}
+use Rattle.indicators.proofs.Weighting.{linear-same}
+use Rattle.indicators.proofs.weights.linear_weights.Goals as goal
+
+-- an operator's weight, and 0 for one that takes no part
+abbrev linear_at : ℕ → List ℕ → ℕ → ℕ
+linear_at mask scores operator = cond (has mask operator) (linear_weight scores operator) 0
+
+pub loop-i-init : goal.loop-i-init
+loop-i-init c = filling-none _ _ refl
+
+pub linear_weight-requires : goal.linear_weight-requires
+linear_weight-requires c =
+    let i = c.loop-i.i in
+    let scores = c.args.t2 in
+    omega (arith, largest-ge scores i, largest-le scores score_most c.requires, c.largest_of-top.ensures)
+
+pub loop-i-preserved : goal.loop-i-preserved
+unfolding normalised
+loop-i-preserved c =
+    let f = linear_at c.args.mask c.args.t2 in
+    let here = c.loop-i in
+    let value : c.linear_weight.result ≡ f here.i = rw c.largest_of-top.ensures at c.linear_weight.ensures in
+    filling-more _ _ here.invariant (omega arith) value
+
+pub returns : goal.returns
+returns c =
+    λ measure linear. filling-each c.loop-i.invariant (omega arith) ∙ sym (linear-same c.args.mask c.args.t2 measure linear)

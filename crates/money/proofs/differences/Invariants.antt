@@ -1,0 +1,17 @@
+-- `money::differences` meets its contract. The loop's invariant: the places passed hold their difference.
+-- Assumes nothing.
+use borrow.Author.Rules.{rules}
+use mathlib.Core.Path.{refl}
+use Prim.Native.Nat.{ℕ, ◌-◌}
+use native.Mathlib.Omega.{arith}
+use lib.IntN.{sub_ℕ}
+use lib.ListN.{get_or}
+use Rattle.money.proofs.Signs.{stored}
+use Rattle.values.proofs.Tables.{Filling, filling-none, filling-more, filling-all}
+use Rattle.money.proofs.differences.Given as goal
+
+abbrev pub invariant-loop-operator : goal.invariant-loop-operator
+invariant-loop-operator l = Filling (λ (k : ℕ). sub_ℕ (get_or l.gains k 0) (get_or l.losses k 0)) l.operator l.out
+
+abbrev pub decreases-loop-operator : goal.decreases-loop-operator
+decreases-loop-operator l = 16 - l.operator

@@ -1,0 +1,17 @@
+-- `money::limits_of` meets its contract. The loop's invariant: the places passed hold their limit.
+-- Assumes nothing.
+use borrow.Author.Rules.{rules}
+use mathlib.Core.Path.{refl}
+use Prim.Native.Nat.{ℕ, ◌*◌, ◌/◌, ◌-◌}
+use native.Mathlib.Omega.{arith}
+use lib.ListN.{get_or}
+use Rattle.money.proofs.InRange.{limit-product-le, limit-le}
+use Rattle.values.specs.Bounds.{limit_most}
+use Rattle.values.proofs.Tables.{Filling, filling-none, filling-more, filling-each, each-le}
+use Rattle.money.proofs.limits_of.Given as goal
+
+abbrev pub invariant-loop-operator : goal.invariant-loop-operator
+invariant-loop-operator l = Filling (λ (k : ℕ). l.cap * get_or l.incomes k 0 / 1000000) l.operator l.out
+
+abbrev pub decreases-loop-operator : goal.decreases-loop-operator
+decreases-loop-operator l = 16 - l.operator

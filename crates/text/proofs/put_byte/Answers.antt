@@ -1,0 +1,9 @@
+-- `text::put_byte` meets its contract.
+-- Assumes nothing.
+use mathlib.Core.Path.{refl}
+use Rattle.text.proofs.WrittenLaws.{written_byte}
+use borrow.Author.Rules.{rules}
+use Rattle.text.proofs.put_byte.Goals as goal
+
+pub returns : goal.returns
+returns c = (written_byte c.args.out.now c.args.at c.args.byte c.requires, refl)

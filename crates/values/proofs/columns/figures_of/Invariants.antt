@@ -1,0 +1,15 @@
+-- `values::columns::figures_of` meets its contract. The loop's invariant: the places passed hold their operator's value.
+-- Assumes nothing.
+use Prim.Native.Nat.{ℕ, ◌-◌}
+use mathlib.Core.Path.{refl}
+use native.Mathlib.Omega.{arith}
+use lib.ListN.{get_or}
+use Rattle.book.specs.Book.{figure_of, figure_slot}
+use Rattle.values.proofs.Tables.{Filling, filling-none, filling-more, filling-each}
+use Rattle.values.proofs.columns.figures_of.Given as goal
+
+abbrev pub invariant-loop-operator : goal.invariant-loop-operator
+invariant-loop-operator l = Filling (λ (k : ℕ). get_or l.figures (figure_slot k l.year l.figure) 0) l.operator l.list
+
+abbrev pub decreases-loop-operator : goal.decreases-loop-operator
+decreases-loop-operator l = 16 - l.operator
