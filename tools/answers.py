@@ -82,8 +82,8 @@ class Turned:
         new = self.function.field(place, fields[0])
         if new is None:
             return m.group()
-        for old, path, arm, label in arm_paths(self.function, place):
-            if dashed(fields[0]) == old and [dashed(f) for f in fields[1:1 + len(path)]] == [dashed(p) for p in path] and path:
+        for old, path, arm, label in sorted(arm_paths(self.function, place), key=lambda it: -len(it[1])):
+            if dashed(fields[0]) == old and [dashed(f) for f in fields[1:1 + len(path)]] == [dashed(p) for p in path] and len(fields) > 1:
                 return ".".join(["c", arm, label, *fields[1 + len(path):]])
         after = fields[1:]
         if after and new.startswith(("if-", "loop-")) and (new.startswith("if-") or new.endswith("-test")):

@@ -12,4 +12,4 @@ returns-in-1 c = (rw c.in-1.is refl, omega arith)
 
 -- year 2
 pub returns-in_default : goal.returns-in_default
-returns-in_default c = (sym (last-cabins c.args.year c.in_default.rest.0.1 c.in_default.rest.1), omega arith)
+returns-in_default c = (sym (last-cabins c.args.year c.in_default.in_default-own.rest.0.1 c.in_default.in_default-own.rest.1), omega arith)
