@@ -37,6 +37,12 @@ class Function:
         self.asked_at = [old for old, _ in entry["asked_at"]]
         self.loops = [(names[0], names[1], variables, changed) for (names, variables), changed in zip(entry["loops"], entry["changed"])]
 
+        self.parameters = []
+
+    def spelled(self, name):
+        """A parameter as the source spells it."""
+        return next((p for p in self.parameters if dashed(p) == dashed(name)), name)
+
     def up(self, place, times):
         for _ in range(times):
             if self.parent.get(place) is None:
@@ -52,6 +58,33 @@ class Function:
         if name in ("args", "requires", "ranges", "well_formed", "utf8", "type_inv"):
             return name
         return None
+
+
+def parameters(crate, parts):
+    """The parameters of the function whose proof lies in a folder."""
+    names = []
+    for source in sorted((ROOT / "crates" / crate / "src").rglob("*.rt")):
+        module = source.relative_to(ROOT / "crates" / crate / "src").with_suffix("").parts
+        if module in (("lib",), ("main",)):
+            module = ()
+        if tuple(parts[: len(module)]) != module or len(parts) - len(module) not in (1, 2):
+            continue
+        m = re.search(r"\bfn " + parts[-1] + r"(?:<[^>]*>)?\(", source.read_text(encoding="utf-8"))
+        if m:
+            rest, depth, word, names = source.read_text(encoding="utf-8")[m.end():], 0, "", []
+            for ch in rest:
+                if ch == ")" and depth == 0:
+                    break
+                depth += (ch in "([<") - (ch in ")]>")
+                if ch == "," and depth == 0:
+                    names.append(word)
+                    word = ""
+                else:
+                    word += ch
+            names = [n.split(":")[0].replace("mut ", "").strip() for n in [*names, word] if n.strip()]
+            if len(module) == len(parts) - 1:
+                return names
+    return names
 
 
 def arm_paths(function, place):
@@ -86,6 +119,14 @@ class Turned:
             if dashed(fields[0]) == old and [dashed(f) for f in fields[1:1 + len(path)]] == [dashed(p) for p in path] and len(fields) > 1:
                 return ".".join(["c", arm, label, *fields[1 + len(path):]])
         after = fields[1:]
+        if new == "args" and after and re.fullmatch(r"t\d+", after[0]):
+            number = int(after[0][1:])
+            if 0 < number <= len(self.function.parameters):
+                after[0] = self.function.parameters[number - 1]
+        if new == "args" and after:
+            after[0] = self.function.spelled(after[0])
+        if after and after[0] in ("taken", "left") and new.startswith("if-not-"):
+            return f"(ap not c.{new}.{'true' if after[0] == 'taken' else 'false'})"
         if after and new.startswith(("if-", "loop-")) and (new.startswith("if-") or new.endswith("-test")):
             after[0] = {"taken": "true", "left": "false"}.get(after[0], after[0])
         return ".".join(["c", new, *after])
@@ -203,7 +244,11 @@ def main():
             print(f"left: {proof.relative_to(ROOT)}")
             continue
         path = ".".join(["Rattle", crate, "proofs", *parts])
-        head, invariants, extra, answers = turned_file(Function(entry), text, path)
+        function = Function(entry)
+        function.parameters = parameters(crate, parts)
+        head, invariants, extra, answers = turned_file(function, text, path)
+        if any("(ap not " in it for it in answers):
+            head += "\nuse Rattle.std.proofs.Common.{ap as ap, not as not}"
         proof.unlink()
         if invariants:
             (proof.parent / "Invariants.antt").write_text("\n\n".join([imports(head, path, "Given"), *invariants]) + "\n", encoding="utf-8")

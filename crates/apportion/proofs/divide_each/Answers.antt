@@ -15,12 +15,12 @@ pub loop-i-init : goal.loop-i-init
 loop-i-init c = (record { within = omega arith; long = refl; same = refl }, record { within = omega arith; long = refl; same = refl })
 
 pub divide_product-d-requires : goal.divide_product-d-requires
-divide_product-d-requires c = omega (arith, element-le c.args.t2 c.loop-i.i)
+divide_product-d-requires c = omega (arith, element-le c.args.weights c.loop-i.i)
 
 pub loop-i-preserved : goal.loop-i-preserved
 loop-i-preserved c =
     let here = c.loop-i in
-    let weights = c.args.t2 in
+    let weights = c.args.weights in
     let long : length weights ≡ 16 = search rules in
     let at_i : here.i < length weights = omega arith in
     let divided = c.divide_product-d.ensures in (
@@ -33,7 +33,7 @@ loop-i-preserved c =
 pub returns : goal.returns
 returns c =
     let here = c.loop-i in
-    let long : length c.args.t2 ≡ 16 = search rules in (
-      filled-all here.invariant.0 (omega arith) (length-floors c.args.t c.args.t2 ∙ long),
-      filled-all here.invariant.1 (omega arith) (length-remainders c.args.t c.args.t2 ∙ long),
+    let long : length c.args.weights ≡ 16 = search rules in (
+      filled-all here.invariant.0 (omega arith) (length-floors c.args.t c.args.weights ∙ long),
+      filled-all here.invariant.1 (omega arith) (length-remainders c.args.t c.args.weights ∙ long),
     )

@@ -16,21 +16,21 @@ loop-i-init c = (omega arith, refl)
 
 pub overflow_add-t : goal.overflow_add-t
 overflow_add-t c =
-    let numbers = c.args.t1 in
+    let numbers = c.args.numbers in
     let long : length numbers ≡ 16 = search rules in
     let i = c.loop-i.i in
     omega (arith, sum-take-suc numbers i (omega arith), take-le numbers (i + 1))
 
 pub loop-i-preserved : goal.loop-i-preserved
 loop-i-preserved c =
-    let numbers = c.args.t1 in
+    let numbers = c.args.numbers in
     let long : length numbers ≡ 16 = search rules in
     let i = c.loop-i.i in
     (omega arith, omega (arith, sum-take-suc numbers i (omega arith)))
 
 pub returns : goal.returns
 returns c =
-    let numbers = c.args.t1 in
+    let numbers = c.args.numbers in
     let long : length numbers ≡ 16 = search rules in
     let last : c.loop-i.i ≡ 16 = omega arith in
     c.loop-i.invariant.1 ∙ ap (λ (n : ℕ). sum (take n numbers)) last ∙ ap sum (take_all 16 numbers (omega arith))

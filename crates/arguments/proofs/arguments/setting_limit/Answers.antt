@@ -7,4 +7,4 @@ use Rattle.arguments.proofs.arguments.setting_limit.Goals as goal
 
 -- cabins
 pub returns-in_default : goal.returns-in_default
-returns-in_default c = sym (cabin-limit c.args.which c.in_default.rest.0.1 c.in_default.rest.1)
+returns-in_default c = sym (cabin-limit c.args.which c.in_default.in_default-own.rest.0.1 c.in_default.in_default-own.rest.1)
