@@ -27,12 +27,13 @@ class Function:
     """The steps of a function, as the older kit and as today's names them."""
 
     def __init__(self, entry):
-        self.parent, self.step, self.arms = {}, {}, {}
+        self.parent, self.step, self.arms, self.labels = {}, {}, {}, {}
         for place, arms in zip(entry["places"], entry["arms"]):
             name, parent, step = place[0], place[1], place[2]
             self.parent[name] = parent
             self.step[name] = step
             self.arms[name] = arms
+            self.labels[name] = {old: new for old, new in place[4]}
         self.needs = [(old, new) for old, new in entry["needs"]]
         self.asked_at = [old for old, _ in entry["asked_at"]]
         self.loops = [(names[0], names[1], variables, changed) for (names, variables), changed in zip(entry["loops"], entry["changed"])]
@@ -125,8 +126,8 @@ class Turned:
                 after[0] = self.function.parameters[number - 1]
         if new == "args" and after:
             after[0] = self.function.spelled(after[0])
-        if after and after[0] in ("taken", "left") and new.startswith("if-not-"):
-            return f"(ap not c.{new}.{'true' if after[0] == 'taken' else 'false'})"
+        if after:
+            after[0] = self.function.labels.get(place, {}).get(after[0], after[0])
         if after and new.startswith(("if-", "loop-")) and (new.startswith("if-") or new.endswith("-test")):
             after[0] = {"taken": "true", "left": "false"}.get(after[0], after[0])
         return ".".join(["c", new, *after])
@@ -247,8 +248,6 @@ def main():
         function = Function(entry)
         function.parameters = parameters(crate, parts)
         head, invariants, extra, answers = turned_file(function, text, path)
-        if any("(ap not " in it for it in answers):
-            head += "\nuse Rattle.std.proofs.Common.{ap as ap, not as not}"
         proof.unlink()
         if invariants:
             (proof.parent / "Invariants.antt").write_text("\n\n".join([imports(head, path, "Given"), *invariants]) + "\n", encoding="utf-8")

@@ -18,8 +18,8 @@ returns-then-figure-gt-LAST_FIGURE c = simp (lt-ltb c.args.year years (omega ari
 
 pub returns-then-not-takes_figure : goal.returns-then-not-takes_figure
 unfolding facts_of
-returns-then-not-takes_figure c = simp (lt-ltb c.args.year years (omega arith), lt-ltb c.args.figure figure_count (omega arith), denied c.takes_figure.ensures c.if-not-takes_figure.true)
+returns-then-not-takes_figure c = simp (lt-ltb c.args.year years (omega arith), lt-ltb c.args.figure figure_count (omega arith), denied c.takes_figure.ensures c.if-not-takes_figure.true-raw)
 
 pub returns : goal.returns
 unfolding facts_of
-returns c = simp (lt-ltb c.args.year years (omega arith), lt-ltb c.args.figure figure_count (omega arith), granted c.takes_figure.ensures c.if-not-takes_figure.false)
+returns c = simp (lt-ltb c.args.year years (omega arith), lt-ltb c.args.figure figure_count (omega arith), granted c.takes_figure.ensures c.if-not-takes_figure.false-raw)

@@ -14,8 +14,8 @@ returns-then-indicator-gt-LAST_INDICATOR c = simp (le-ltb c.args.indicator indic
 
 pub returns-then-not-takes_mark : goal.returns-then-not-takes_mark
 unfolding facts_of
-returns-then-not-takes_mark c = simp (lt-ltb c.args.indicator indicator_count (omega arith), denied c.takes_mark.ensures c.if-not-takes_mark.true)
+returns-then-not-takes_mark c = simp (lt-ltb c.args.indicator indicator_count (omega arith), denied c.takes_mark.ensures c.if-not-takes_mark.true-raw)
 
 pub returns : goal.returns
 unfolding facts_of
-returns c = simp (lt-ltb c.args.indicator indicator_count (omega arith), granted c.takes_mark.ensures c.if-not-takes_mark.false)
+returns c = simp (lt-ltb c.args.indicator indicator_count (omega arith), granted c.takes_mark.ensures c.if-not-takes_mark.false-raw)

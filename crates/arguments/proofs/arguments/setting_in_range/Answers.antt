@@ -14,8 +14,8 @@ returns-then-which-gt-LAST_SETTING c = simp (le-ltb c.args.which setting_count c
 
 pub returns-then-not-takes_setting : goal.returns-then-not-takes_setting
 unfolding facts_of
-returns-then-not-takes_setting c = simp (lt-ltb c.args.which setting_count (omega arith), denied c.takes_setting.ensures c.if-not-takes_setting.true)
+returns-then-not-takes_setting c = simp (lt-ltb c.args.which setting_count (omega arith), denied c.takes_setting.ensures c.if-not-takes_setting.true-raw)
 
 pub returns : goal.returns
 unfolding facts_of
-returns c = simp (lt-ltb c.args.which setting_count (omega arith), granted c.takes_setting.ensures c.if-not-takes_setting.false, c.setting_limit.ensures)
+returns c = simp (lt-ltb c.args.which setting_count (omega arith), granted c.takes_setting.ensures c.if-not-takes_setting.false-raw, c.setting_limit.ensures)
