@@ -44,11 +44,18 @@ class Function:
         """A parameter as the source spells it."""
         return next((p for p in self.parameters if dashed(p) == dashed(name)), name)
 
-    def up(self, place, times):
-        for _ in range(times):
-            if self.parent.get(place) is None:
-                return None
+    def told(self, place):
+        """The place itself, or where the older kit had none for the length of an array behind a reference, the one before it."""
+        while place is not None and self.step[place][0].startswith("way_told"):
             place = self.parent[place]
+        return place
+
+    def up(self, place, times):
+        place = self.told(place)
+        for _ in range(times):
+            if place is None or self.parent.get(place) is None:
+                return None
+            place = self.told(self.parent[place])
         return place
 
     def field(self, place, name):

@@ -14,7 +14,7 @@ loop-i-init c = (record { within = omega arith; passed = omega arith; foremost_i
 
 pub loop-i-preserved : goal.loop-i-preserved
 loop-i-preserved c =
-    let here = c.before.before.before.before.before.before.loop in
+    let here = c.loop-i in
     let args = c.args in
     let remaining = args.remaining.now in
     let tested = rw here.invariant.1 at c.precedes.ensures in
