@@ -164,9 +164,7 @@ def turned_file(function, text, path):
     head, blocks = declarations(text)
     invariants, answers, extra = [], [], []
     order = []
-    last = text[text.rindex("tie.spec"):] if "tie.spec" in text else ""
-    names = re.findall(NAME, last)[2:] if last else []
-    old_names = [n for n in names]
+    local = {}
     by_need = {dashed(old): i for i, (old, _) in enumerate(function.needs)}
     for block in blocks:
         lines = block.split("\n")
@@ -221,6 +219,7 @@ def turned_file(function, text, path):
                     extra.append("-- NOT TURNED\n" + block)
                 continue
             new = function.needs[index][1]
+            local[name] = new
             place = function.asked_at[index]
             if right.strip() in FOUND_ALONE and not unfolding:
                 continue
@@ -230,6 +229,11 @@ def turned_file(function, text, path):
         if "tie.spec" in block or "-spec :" in sig or "_spec :" in sig:
             continue
         extra.append(block)
+    # an answer that cites another one
+    def cited(m):
+        return local.get(m.group(1), m.group(1)) + " c"
+
+    answers = ["\n".join([it.split("\n")[0], *[re.sub(r"(?<![\w.'-])(" + NAME + r") c(?![\w.'-])", cited, l) for l in it.split("\n")[1:]]]) for it in answers]
     return head, invariants, extra, answers
 
 

@@ -8,6 +8,7 @@ use native.Mathlib.Omega.{arith}
 use lib.ListN.{get_or}
 use Rattle.apportion.proofs.Order.{ForemostOf, foremost-one, foremost-more}
 use Rattle.apportion.proofs.foremost_place.Goals as goal
+use Rattle.apportion.proofs.foremost_place.Goals.{then-precedes, else-precedes}
 
 pub loop-i-init : goal.loop-i-init
 loop-i-init c = (record { within = omega arith; passed = omega arith; foremost_is = sym (foremost-one c.args.sizes.now c.args.remaining.now) }, refl)
@@ -19,16 +20,16 @@ loop-i-preserved c =
     let remaining = args.remaining.now in
     let tested = rw here.invariant.1 at c.precedes.ensures in
     let next = foremost-more args.sizes.now remaining here.best here.i in
-    ⊎_elim
-    (λ w. (
-      record { within = omega arith; passed = omega (arith, w.1); foremost_is = w.1 ∙ sym (next true here.invariant.0.foremost_is (sym tested ∙ w.0.taken)) },
-      w.2 ∙ ap (λ (place : ℕ). get_or remaining place 0) (sym w.1),
-    ))
-    (λ w. (
-      record { within = omega arith; passed = omega (arith, w.1); foremost_is = w.1 ∙ sym (next false here.invariant.0.foremost_is (sym tested ∙ w.0.left)) },
-      w.2 ∙ here.invariant.1 ∙ ap (λ (place : ℕ). get_or remaining place 0) (sym w.1),
-    ))
-    c.if-precedes.branch
+    elim c.if-precedes.branch [
+      then-precedes w ↦ (
+        record { within = omega arith; passed = omega arith; foremost_is = w.best-is ∙ sym (next true here.invariant.0.foremost_is (sym tested ∙ w.if-precedes.true)) },
+        w.top-is ∙ ap (λ (place : ℕ). get_or remaining place 0) (sym w.best-is),
+      )
+    | else-precedes w ↦ (
+        record { within = omega arith; passed = omega arith; foremost_is = w.best-is ∙ sym (next false here.invariant.0.foremost_is (sym tested ∙ w.if-precedes.false)) },
+        w.top-is ∙ here.invariant.1 ∙ ap (λ (place : ℕ). get_or remaining place 0) (sym w.best-is),
+      )
+    ]
 
 pub returns : goal.returns
 returns c =

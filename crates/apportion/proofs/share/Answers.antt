@@ -35,11 +35,11 @@ overflow_sub-t c =
 
 pub award_units-requires : goal.award_units-requires
 award_units-requires c =
-    let fits = sub-award-units c in
+    let fits = overflow_sub-t c in
     omega (arith, c.sum_of.ensures, fits)
 
 pub returns : goal.returns
-returns c =
+returns-then-s-eq0 c =
     let some : 0 < sum c.args.weights = omega (arith, c.sum_of-s.ensures, c.if-s-eq0.false) in
     let divisions = c.divide_each-d.ensures in
     rw (share-some c.args.t c.args.weights c.args.sizes some)
