@@ -224,7 +224,7 @@ def turned_file(function, text, path):
             if right.strip() in FOUND_ALONE and not unfolding:
                 continue
             right = Turned(function, place).turn(right)
-            answers.append("\n".join([*comments, f"pub {new} : goal.{new}", f"{unfolding}{new} c ={right}"]))
+            answers.append(("\n".join([*comments, f"pub {new} : goal.{new}", f"{unfolding}{new} c ="]), right))
             continue
         if "tie.spec" in block or "-spec :" in sig or "_spec :" in sig:
             continue
@@ -233,7 +233,7 @@ def turned_file(function, text, path):
     def cited(m):
         return local.get(m.group(1), m.group(1)) + " c"
 
-    answers = ["\n".join([it.split("\n")[0], *[re.sub(r"(?<![\w.'-])(" + NAME + r") c(?![\w.'-])", cited, l) for l in it.split("\n")[1:]]]) for it in answers]
+    answers = [above + re.sub(r"(?<![\w.'-])(" + NAME + r") c(?![\w.'-])", cited, right) for above, right in answers]
     return head, invariants, extra, answers
 
 

@@ -21,6 +21,6 @@ returns-then-x-y c =
 -- a tie of sizes too
 pub returns : goal.returns
 unfolding precedes
-returns-then-r-q c =
+returns c =
     let args = c.args in
     sym (tied args.r args.q _ (omega arith) ∙ tied args.x args.y _ (omega arith))

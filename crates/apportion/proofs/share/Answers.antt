@@ -39,7 +39,7 @@ award_units-requires c =
     omega (arith, c.sum_of.ensures, fits)
 
 pub returns : goal.returns
-returns-then-s-eq0 c =
+returns c =
     let some : 0 < sum c.args.weights = omega (arith, c.sum_of-s.ensures, c.if-s-eq0.false) in
     let divisions = c.divide_each-d.ensures in
     rw (share-some c.args.t c.args.weights c.args.sizes some)
