@@ -14,18 +14,18 @@ loop-i-init c = (omega arith, summing-none _)
 
 pub overflow_add-t : goal.overflow_add-t
 overflow_add-t c =
-    let points = c.args.t1 in
+    let points = c.args.points in
     let long : length points ≡ point_places = search rules in
     record { fits = omega (arith, summing-most points c.loop-i.invariant.1 (omega arith)) }
 
 pub loop-i-preserved : goal.loop-i-preserved
 loop-i-preserved c =
-    let points = c.args.t1 in
+    let points = c.args.points in
     let long : length points ≡ point_places = search rules in
     (omega arith, summing-more points c.loop-i.invariant.1 _ (omega arith) refl)
 
 pub returns : goal.returns
 returns c =
-    let points = c.args.t1 in
+    let points = c.args.points in
     let long : length points ≡ point_places = search rules in
     summing-all points c.loop-i.invariant.1 (omega arith)

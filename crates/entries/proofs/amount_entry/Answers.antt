@@ -16,7 +16,7 @@ pub returns-then-value-eq0 : goal.returns-then-value-eq0
 unfolding amount_at
 returns-then-value-eq0 c =
     let place = c.args.place in
-    let at : c.before.before.figure-slot.result ≡ figure_slot (place / operator_figures) (place % operator_figures / figure_count) (place % figure_count) = c.before.before.figure-slot.ensures.0 in
+    let at : c.figure_slot.result ≡ figure_slot (place / operator_figures) (place % operator_figures / figure_count) (place % figure_count) = c.figure_slot.ensures.0 in
     nothing-there (rw (← at, eq-eqb _ 0 c.if-value-eq0.true) refl)
 
 pub returns : goal.returns
@@ -24,4 +24,4 @@ unfolding amount_at
 returns c =
     let place = c.args.place in
     let figures = c.args.figures.now in
-    amount-there (place / operator_figures) (omega arith) {calls = amount_at figures place} (place % operator_figures / figure_count) (place % figure_count) (get_or figures c.before.before.figure-slot.result 0) (omega arith) (omega arith) (rw (← c.before.before.figure-slot.ensures.0, ne_eqb _ 0 c.if-value-eq0.false) refl)
+    amount-there (place / operator_figures) (omega arith) {calls = amount_at figures place} (place % operator_figures / figure_count) (place % figure_count) (get_or figures c.figure_slot.result 0) (omega arith) (omega arith) (rw (← c.figure_slot.ensures.0, ne_eqb _ 0 c.if-value-eq0.false) refl)

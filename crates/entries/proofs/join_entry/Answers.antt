@@ -9,8 +9,8 @@ use Rattle.entries.proofs.join_entry.Goals as goal
 
 pub returns-then-not-has_bit : goal.returns-then-not-has_bit
 unfolding join_at
-returns-then-not-has_bit c = nothing-there (rw (denied c.has_bit.ensures c.if-not-has_bit.true) refl)
+returns-then-not-has_bit c = nothing-there (rw (denied c.has_bit.ensures c.if-not-has_bit.true-raw) refl)
 
 pub returns : goal.returns
 unfolding join_at
-returns c = join-there c.args.place c.requires (rw (granted c.has_bit.ensures c.if-not-has_bit.false) refl)
+returns c = join-there c.args.place c.requires (rw (granted c.has_bit.ensures c.if-not-has_bit.false-raw) refl)

@@ -34,10 +34,10 @@ cleared m =
 pub returns-then-not-is_cleared : goal.returns-then-not-is_cleared
 unfolding mark_at
 returns-then-not-is_cleared c =
-    nothing-there (ap (written-if c.args.place) (denied (cleared c.before) c.if-not-is_cleared.true))
+    nothing-there (ap (written-if c.args.place) (denied (cleared c.before) c.if-not-is_cleared.true-raw))
 
 pub returns : goal.returns
 unfolding mark_at
 returns c =
     let place = c.args.place in
-    mark-there (place / indicator_count) (omega arith) (place % indicator_count) (omega arith) (ap (written-if place) (granted (cleared c.before) c.if-not-is_cleared.false))
+    mark-there (place / indicator_count) (omega arith) (place % indicator_count) (omega arith) (ap (written-if place) (granted (cleared c.before) c.if-not-is_cleared.false-raw))

@@ -15,7 +15,7 @@ loop-operator-init c = filling-none _ _ refl
 
 pub overflow_mul-out : goal.overflow_mul-out
 overflow_mul-out c =
-    let product = limit-product-le c.args.rate c.args.t2 c.requires.0 c.requires.1 c.loop-operator.operator in
+    let product = limit-product-le c.args.rate c.args.incomes c.requires.0 c.requires.1 c.loop-operator.operator in
     record { fits = omega arith }
 
 pub loop-operator-preserved : goal.loop-operator-preserved
@@ -24,4 +24,4 @@ loop-operator-preserved c = filling-more _ _ c.loop-operator.invariant (omega ar
 pub returns : goal.returns
 returns c =
     let filled = filling-each c.loop-operator.invariant (omega arith) in
-    (filled, λ k. rw filled (each-le _ limit_most (λ j lt. limit-le c.args.rate c.args.t2 c.requires.0 c.requires.1 j) k))
+    (filled, λ k. rw filled (each-le _ limit_most (λ j lt. limit-le c.args.rate c.args.incomes c.requires.0 c.requires.1 j) k))

@@ -25,4 +25,4 @@ loop-operator-preserved c = filling-more _ _ c.loop-operator.invariant (omega ar
 pub returns : goal.returns
 returns c =
     let filled = filling-each c.loop-operator.invariant (omega arith) in
-    (filled, rw filled (weights-sum c.args.t1 c.args.t2 c.requires.0 c.requires.1))
+    (filled, rw filled (weights-sum c.args.access c.args.totals c.requires.0 c.requires.1))

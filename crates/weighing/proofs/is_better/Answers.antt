@@ -8,7 +8,7 @@ use borrow.Author.Rules.{rules}
 use Rattle.weighing.proofs.is_better.Goals as goal
 
 pub returns-then-not-has_bit : goal.returns-then-not-has_bit
-returns-then-not-has_bit c = rw (denied c.has_bit.ensures c.if-not-has_bit.true) refl
+returns-then-not-has_bit c = rw (denied c.has_bit.ensures c.if-not-has_bit.true-raw) refl
 
 pub overflow_mul-result : goal.overflow_mul-result
 overflow_mul-result c =
@@ -16,4 +16,4 @@ overflow_mul-result c =
     record { fits = omega (arith, product) }
 
 pub returns : goal.returns
-returns c = rw (granted c.has_bit.ensures c.if-not-has_bit.false, c.ones_of.ensures.0) refl
+returns c = rw (granted c.has_bit.ensures c.if-not-has_bit.false-raw, c.ones_of.ensures.0) refl

@@ -10,11 +10,11 @@ use Rattle.weighing.proofs.levelled_weight.Goals as goal
 
 -- takes no part
 pub returns-then-not-has_bit : goal.returns-then-not-has_bit
-returns-then-not-has_bit c = rw (denied c.has_bit.ensures c.if-not-has_bit.true) refl
+returns-then-not-has_bit c = rw (denied c.has_bit.ensures c.if-not-has_bit.true-raw) refl
 
 -- nobody is better
 pub returns-then-g-eq0 : goal.returns-then-g-eq0
-returns-then-g-eq0 c = rw (granted c.has_bit.ensures c.if-not-has_bit.false, eq-eqb _ _ c.if-g-eq0.true) refl
+returns-then-g-eq0 c = rw (granted c.has_bit.ensures c.if-not-has_bit.false-raw, eq-eqb _ _ c.if-g-eq0.true) refl
 
 -- one of the better
 pub returns-then-is_better : goal.returns-then-is_better
@@ -22,7 +22,7 @@ returns-then-is_better c =
     rw (
       ← c.is_better.ensures,
       c.if-is_better.true,
-      granted c.has_bit.ensures c.if-not-has_bit.false,
+      granted c.has_bit.ensures c.if-not-has_bit.false-raw,
       ne_eqb _ _ c.if-g-eq0.false,
     )
     refl
@@ -38,7 +38,7 @@ returns c =
     rw (
       ← c.is_better.ensures,
       c.if-is_better.false,
-      granted c.has_bit.ensures c.if-not-has_bit.false,
+      granted c.has_bit.ensures c.if-not-has_bit.false-raw,
       ne_eqb _ _ c.if-g-eq0.false,
     )
     refl

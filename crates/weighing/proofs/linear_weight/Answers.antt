@@ -6,7 +6,7 @@ use borrow.Author.Rules.{rules}
 use Rattle.weighing.proofs.linear_weight.Goals as goal
 
 pub returns-then-not-has_bit : goal.returns-then-not-has_bit
-returns-then-not-has_bit c = rw (denied c.has_bit.ensures c.if-not-has_bit.true) refl
+returns-then-not-has_bit c = rw (denied c.has_bit.ensures c.if-not-has_bit.true-raw) refl
 
 pub returns : goal.returns
-returns c = rw (granted c.has_bit.ensures c.if-not-has_bit.false, c.normalise.ensures.0) refl
+returns c = rw (granted c.has_bit.ensures c.if-not-has_bit.false-raw, c.normalise.ensures.0) refl

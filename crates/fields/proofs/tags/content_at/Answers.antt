@@ -74,5 +74,5 @@ returns-in-7 c = rw c.in-7.is (c.sized-in-7.ensures _ refl)
 pub returns-in_default : goal.returns-in_default
 returns-in_default c =
     let args = c.args in
-    let rest = c.in_default.rest in
+    let rest = c.in_default.in_default-own.rest in
     sym (unknown-said (indicators_of args.kind) args.tag args.size args.bytes.now args.at (unlisted args.kind args.tag (not_listed args.tag rest.0.0.0.0.0.0.1 rest.0.0.0.0.0.1 rest.0.0.0.0.1 rest.0.0.0.1 rest.0.0.1 rest.0.1 rest.1)))

@@ -14,7 +14,7 @@ pub returns-then-not-takes_interruptions : goal.returns-then-not-takes_interrupt
 unfolding has_tag is_known tags
 returns-then-not-takes_interruptions c =
     let args = c.args in
-    sym (unknown-said (indicators_of args.kind) 3 args.size args.bytes.now args.at (denied c.takes_interruptions.ensures c.if-not-takes_interruptions.true))
+    sym (unknown-said (indicators_of args.kind) 3 args.size args.bytes.now args.at (denied c.takes_interruptions.ensures c.if-not-takes_interruptions.true-raw))
 
 pub sized-requires : goal.sized-requires
 unfolding is_known tagged tags
@@ -22,4 +22,4 @@ sized-requires c = (refl, refl, c.requires)
 
 pub returns : goal.returns
 unfolding has_tag is_known tags
-returns c = c.sized.ensures _ (granted c.takes_interruptions.ensures c.if-not-takes_interruptions.false)
+returns c = c.sized.ensures _ (granted c.takes_interruptions.ensures c.if-not-takes_interruptions.false-raw)

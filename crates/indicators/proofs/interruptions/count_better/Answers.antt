@@ -17,13 +17,13 @@ pub is_better-requires : goal.is_better-requires
 is_better-requires c = c.requires.0 c.loop-i.i
 
 pub overflow_add-g : goal.overflow_add-g
-overflow_add-g c = omega (arith, count-le c.loop-i.i (is_better c.args.mask c.args.t2))
+overflow_add-g c = omega (arith, count-le c.loop-i.i (is_better c.args.mask c.args.scores))
 
 pub loop-i-preserved : goal.loop-i-preserved
 unfolding is_better
 loop-i-preserved c =
     let here = c.loop-i in
-    let test = is_better c.args.mask c.args.t2 in
+    let test = is_better c.args.mask c.args.scores in
     let found : c.is_better.result ≡ test here.i = rw c.requires.1 at c.is_better.ensures in
     ⊎_elim
     (λ w. (omega arith, w.1 ∙ (rw (count-more here.i test, ← found, w.0.taken) (omega arith))))
@@ -34,4 +34,4 @@ pub returns : goal.returns
 returns c =
     let here = c.loop-i in
     let last : here.i ≡ 16 = omega arith in
-    (rw last at here.invariant.1, omega (arith, count-le here.i (is_better c.args.mask c.args.t2)))
+    (rw last at here.invariant.1, omega (arith, count-le here.i (is_better c.args.mask c.args.scores)))

@@ -23,7 +23,7 @@ bounds-table-thousandths c = omega (arith, c.requires c.loop-i.i)
 pub loop-i-preserved : goal.loop-i-preserved
 loop-i-preserved c =
     let here = c.loop-i in
-    let k = get_or c.args.t1 here.i 0 in
+    let k = get_or c.args.thousandths here.i 0 in
     filling-more _ _ here.invariant (omega arith) (c.all_weights-table.ensures k (c.requires here.i))
 
 pub returns : goal.returns

@@ -21,7 +21,7 @@ levelled_at mask sums own operator = cond (has mask operator) (levelled (is_bett
 
 pub sum_of-sum-requires : goal.sum_of-sum-requires
 sum_of-sum-requires c =
-    let sums = c.args.t2 in
+    let sums = c.args.sums in
     let long : length sums ≡ 16 = search rules in
     omega (arith, rw long at (sum_bound sums score_most (λ k lt. c.requires.sums_within k)))
 
@@ -48,7 +48,7 @@ pub loop-i-preserved : goal.loop-i-preserved
 unfolding levelled is_better
 loop-i-preserved c =
     let here = c.loop-i in
-    let f = levelled_at c.args.mask c.args.t2 c.args.t3 in
+    let f = levelled_at c.args.mask c.args.sums c.args.own in
     let value : c.levelled_weight.result ≡ f here.i =
     rw (
       c.sum_of-sum.ensures,

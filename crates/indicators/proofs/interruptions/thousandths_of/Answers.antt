@@ -19,7 +19,7 @@ loop-i-init c = filling-none _ _ refl
 pub normalise-requires : goal.normalise-requires
 normalise-requires c =
     let i = c.loop-i.i in
-    let sums = c.args.t1 in
+    let sums = c.args.sums in
     omega (arith, largest-ge sums i, largest-le sums score_most c.requires, c.largest_of-top.ensures)
 
 pub loop-i-preserved : goal.loop-i-preserved

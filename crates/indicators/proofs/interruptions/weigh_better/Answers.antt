@@ -27,16 +27,16 @@ pub loop-i-preserved : goal.loop-i-preserved
 unfolding is_better
 loop-i-preserved c =
     let here = c.loop-i in
-    let f = counted c.args.mask c.args.t2 c.args.t4 in
+    let f = counted c.args.mask c.args.scores c.args.own in
     let value : c.weight_if_better.result ≡ f here.i = rw c.requires.total_is at c.weight_if_better.ensures in
     filling-more _ _ here.invariant (omega arith) value
 
 pub sum_of-requires : goal.sum_of-requires
 sum_of-requires c =
     let here = c.loop-i in
-    let f = counted c.args.mask c.args.t2 c.args.t4 in
+    let f = counted c.args.mask c.args.scores c.args.own in
     rw (filling-each here.invariant (omega arith))
-    (omega (arith, sum-each-le f first_weight (λ k lt. cond-le (is_better c.args.mask c.args.t2 k) (c.requires.own_most k) zero-le)))
+    (omega (arith, sum-each-le f first_weight (λ k lt. cond-le (is_better c.args.mask c.args.scores k) (c.requires.own_most k) zero-le)))
 
 pub returns : goal.returns
 returns c =

@@ -17,7 +17,7 @@ loop-i-init c = (omega arith, omega arith)
 
 pub loop-i-preserved : goal.loop-i-preserved
 loop-i-preserved c =
-    let list = c.args.t1 in
+    let list = c.args.list in
     let long : length list ≡ 16 = search rules in
     let here = c.loop-i in
     (omega arith, rw c.larger-top.ensures (sym (largest-from list here.i here.top (omega arith)) ∙ here.invariant.1))
@@ -25,7 +25,7 @@ loop-i-preserved c =
 pub returns : goal.returns
 unfolding largest
 returns c =
-    let list = c.args.t1 in
+    let list = c.args.list in
     let long : length list ≡ 16 = search rules in
     let here = c.loop-i in
     let last : here.i ≡ 16 = omega arith in

@@ -25,17 +25,17 @@ loop-i-init c = filling-none _ _ refl
 pub linear_weight-requires : goal.linear_weight-requires
 linear_weight-requires c =
     let i = c.loop-i.i in
-    let scores = c.args.t2 in
+    let scores = c.args.scores in
     omega (arith, largest-ge scores i, largest-le scores score_most c.requires, c.largest_of-top.ensures)
 
 pub loop-i-preserved : goal.loop-i-preserved
 unfolding normalised
 loop-i-preserved c =
-    let f = linear_at c.args.mask c.args.t2 in
+    let f = linear_at c.args.mask c.args.scores in
     let here = c.loop-i in
     let value : c.linear_weight.result ≡ f here.i = rw c.largest_of-top.ensures at c.linear_weight.ensures in
     filling-more _ _ here.invariant (omega arith) value
 
 pub returns : goal.returns
 returns c =
-    λ measure linear. filling-each c.loop-i.invariant (omega arith) ∙ sym (linear-same c.args.mask c.args.t2 measure linear)
+    λ measure linear. filling-each c.loop-i.invariant (omega arith) ∙ sym (linear-same c.args.mask c.args.scores measure linear)

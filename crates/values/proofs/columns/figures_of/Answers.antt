@@ -15,7 +15,7 @@ pub figure_slot-requires : goal.figure_slot-requires
 figure_slot-requires c = record { operator_known = omega arith; year_known = c.requires.0; figure_known = c.requires.1 }
 
 pub loop-operator-preserved : goal.loop-operator-preserved
-loop-operator-preserved c = rw c.before.figure-slot.ensures.0 (filling-more _ _ c.before.before.before.loop.invariant (omega arith) refl)
+loop-operator-preserved c = rw c.figure_slot.ensures.0 (filling-more _ _ c.loop-operator.invariant (omega arith) refl)
 
 pub returns : goal.returns
 unfolding figure_of

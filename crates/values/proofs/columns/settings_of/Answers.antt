@@ -15,7 +15,7 @@ pub setting_slot-requires : goal.setting_slot-requires
 setting_slot-requires c = (omega arith, c.requires)
 
 pub loop-operator-preserved : goal.loop-operator-preserved
-loop-operator-preserved c = rw c.before.setting-slot.ensures.0 (filling-more _ _ c.before.before.before.loop.invariant (omega arith) refl)
+loop-operator-preserved c = rw c.setting_slot.ensures.0 (filling-more _ _ c.loop-operator.invariant (omega arith) refl)
 
 pub returns : goal.returns
 unfolding setting_of

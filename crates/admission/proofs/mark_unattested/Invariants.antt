@@ -1,0 +1,17 @@
+-- `admission::mark_unattested` meets its contract. The loop's invariant: the first masks have the operator, the others are as
+-- they were.
+-- Assumes nothing.
+use mathlib.Core.Path.{◌≡◌, refl, ◌∙◌}
+use Prim.Native.Nat.{◌-◌}
+use native.Mathlib.Omega.{arith}
+use lib.ListN.{length, length-set}
+use Rattle.calls.specs.Indicators.{indicators_of}
+use borrow.Author.Rules.{rules}
+use Rattle.ledger.proofs.UnattestedLaws.{MarkedTo, marked-none, marked_more, marked_all}
+use Rattle.admission.proofs.mark_unattested.Given as goal
+
+abbrev pub invariant-loop-indicator : goal.invariant-loop-indicator
+invariant-loop-indicator l = MarkedTo (indicators_of l.kind) l.initial.marks l.operator l.indicator l.marks × (length l.marks ≡ length l.initial.marks)
+
+abbrev pub decreases-loop-indicator : goal.decreases-loop-indicator
+decreases-loop-indicator l = length l.marks - l.indicator

@@ -1,0 +1,7 @@
+-- `output::output_gas` meets its contract: its core does, at gas.
+-- Assumes nothing.
+use borrow.Author.Rules.{rules}
+use Rattle.output.proofs.output_gas.Goals as goal
+
+pub returns : goal.returns
+returns c = c.output_as.ensures

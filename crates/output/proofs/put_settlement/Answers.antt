@@ -1,0 +1,28 @@
+-- `output::put_settlement` meets its contract.
+-- Assumes nothing.
+use mathlib.Core.Path.{◌≡◌, sym, ap, subst, ◌∙◌}
+use lib.ListN.{length}
+use Rattle.calls.specs.Indicators.{indicators_of}
+use Rattle.text.specs.Buffer.{put_into}
+use Rattle.text.specs.Buffer.{filled_said}
+use Rattle.output.specs.Output.{refused_line, settlement_text_as}
+use Rattle.output.proofs.SettlementLaws.{Told, told}
+use borrow.Author.Rules.{rules}
+use Rattle.output.proofs.put_settlement.Goals as goal
+
+pub returns-in-Bytes : goal.returns-in-Bytes
+returns-in-Bytes c =
+    let old = c.args.out.now in
+    let printed = c.report_as.ensures in
+    let whole = subst (Told c.args.kind c.args.b old) (sym printed.0 ∙ ap filled_said c.in-Bytes.is) (told c.args.kind c.args.b old c.requires) in
+    (whole.0, printed.1 ∙ whole.1)
+
+pub returns-in-Refused : goal.returns-in-Refused
+returns-in-Refused c =
+    let old = c.args.out.now in
+    let printed = c.report_as.ensures in
+    let line = c.put_refused_line.ensures in
+    let whole = subst (Told c.args.kind c.args.b old) (sym printed.0 ∙ ap filled_said c.in-Refused.is) (told c.args.kind c.args.b old c.requires) in
+    let number = c.number_of in
+    let text : refused_line number.result ≡ settlement_text_as (indicators_of c.args.kind) c.args.b = ap refused_line number.ensures ∙ whole.0 in
+    (line.0 ∙ ap length text, line.1 ∙ (λ i. put_into ((printed.1 ∙ whole.1) i) (text i)))

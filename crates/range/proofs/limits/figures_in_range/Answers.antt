@@ -1,0 +1,34 @@
+-- `range::limits::figures_in_range` meets its contract: every figure of the operators passed is within its limit.
+-- Assumes nothing.
+use borrow.Author.Rules.{rules}
+use mathlib.Core.Path.{◌≡◌, sym}
+use mathlib.Core.Bool.{true, cond}
+use Prim.Native.Nat.{ℕ, ◌+◌, ◌-◌, ◌*◌, ◌≤◌, ◌<◌}
+use native.Mathlib.Omega.{arith}
+use lib.Dec.{leb}
+use lib.ListN.{get_or}
+use borrow.Author.Count.{below_more}
+use Rattle.calls.specs.Limits.{operators, operator_figures, figure_limit}
+use Rattle.calls.specs.Masks.{has}
+use Rattle.calls.proofs.Flags.{denied, granted}
+use Rattle.book.specs.Book.{every}
+use Rattle.book.proofs.FlatRange.{figures-hold, figures-fail}
+use Rattle.range.proofs.limits.figures_in_range.Goals as goal
+
+pub loop-operator-init : goal.loop-operator-init
+loop-operator-init c = (omega arith, λ o lt. absurd (omega (arith, lt)))
+
+pub returns-then-not-all_within : goal.returns-then-not-all_within
+returns-then-not-all_within c =
+    let here = c.loop-operator in
+    sym (figures-fail _ here.operator (omega arith) (rw c.most_allowed-most.ensures at (denied c.all_within.ensures c.if-not-all_within.true-raw)))
+
+pub loop-operator-preserved : goal.loop-operator-preserved
+loop-operator-preserved c =
+    let here = c.loop-operator in
+    (omega arith, below_more _ here.operator here.invariant.1 (rw c.most_allowed-most.ensures at (granted c.all_within.ensures c.if-not-all_within.false-raw)))
+
+pub returns : goal.returns
+returns c =
+    let here = c.loop-operator in
+    sym (figures-hold _ (λ o lt. here.invariant.1 o (omega (arith, lt))))

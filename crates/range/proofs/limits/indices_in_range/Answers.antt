@@ -1,0 +1,35 @@
+-- `range::limits::indices_in_range` meets its contract: every index passed is within.
+-- Assumes nothing.
+use borrow.Author.Rules.{rules}
+use mathlib.Core.Path.{◌≡◌, sym}
+use mathlib.Core.Bool.{true, ◌&&◌}
+use Prim.Native.Nat.{ℕ, ◌-◌, ◌≤◌, ◌<◌}
+use native.Mathlib.Omega.{arith}
+use lib.Dec.{leb}
+use lib.ListN.{get_or}
+use Rattle.calls.specs.Limits.{index_count, index_least, index_most}
+use Rattle.calls.proofs.Flags.{denied, granted}
+use borrow.Author.Count.{below_more}
+use Rattle.book.specs.Book.{index_of, indices_in_range}
+use Rattle.book.proofs.EveryLaws.{every-of-each, every-fails}
+use Rattle.range.proofs.limits.indices_in_range.Goals as goal
+
+pub loop-i-init : goal.loop-i-init
+loop-i-init c = (omega arith, λ k lt. absurd (omega (arith, lt)))
+
+pub returns-then-not-index_within : goal.returns-then-not-index_within
+unfolding indices_in_range index_of
+returns-then-not-index_within c =
+    let here = c.loop-i in
+    sym (every-fails 4 _ here.i (omega arith) (denied c.index_within.ensures c.if-not-index_within.true-raw))
+
+pub loop-i-preserved : goal.loop-i-preserved
+loop-i-preserved c =
+    let here = c.loop-i in
+    (omega arith, below_more _ here.i here.invariant.1 (granted c.index_within.ensures c.if-not-index_within.false-raw))
+
+pub returns : goal.returns
+unfolding indices_in_range index_of
+returns c =
+    let here = c.loop-i in
+    sym (every-of-each 4 _ (λ k lt. here.invariant.1 k (omega (arith, lt))))

@@ -1,0 +1,33 @@
+-- `range::taken::marks_taken` meets its contract: every place passed is taken or 0.
+-- Assumes nothing.
+use borrow.Author.Rules.{rules}
+use mathlib.Core.Path.{◌≡◌, sym}
+use mathlib.Core.Bool.{true, ◌||◌}
+use Prim.Native.Nat.{ℕ, ◌-◌, ◌≤◌, ◌<◌}
+use native.Mathlib.Omega.{arith}
+use lib.Dec.{eqb}
+use lib.ListN.{get_or}
+use borrow.Author.Count.{below_more}
+use Rattle.calls.specs.Limits.{indicator_count}
+use Rattle.calls.specs.Indicators.{indicators_of, takes_mark}
+use Rattle.calls.proofs.Flags.{denied, granted}
+use Rattle.book.proofs.TakenLaws.{marks-taken, marks-not-taken}
+use Rattle.range.proofs.taken.marks_taken.Goals as goal
+
+pub loop-i-init : goal.loop-i-init
+loop-i-init c = (omega arith, λ k lt. absurd (omega (arith, lt)))
+
+pub returns-then-not-taken_or_zero : goal.returns-then-not-taken_or_zero
+returns-then-not-taken_or_zero c =
+    let here = c.loop-i in
+    sym (marks-not-taken _ _ here.i (omega arith) (rw (← c.takes_mark.ensures) (denied c.taken_or_zero.ensures c.if-not-taken_or_zero.true-raw)))
+
+pub loop-i-preserved : goal.loop-i-preserved
+loop-i-preserved c =
+    let here = c.loop-i in
+    (omega arith, below_more _ here.i here.invariant.1 (rw (← c.takes_mark.ensures) (granted c.taken_or_zero.ensures c.if-not-taken_or_zero.false-raw)))
+
+pub returns : goal.returns
+returns c =
+    let here = c.loop-i in
+    sym (marks-taken _ _ (λ k lt. here.invariant.1 k (omega (arith, lt))))

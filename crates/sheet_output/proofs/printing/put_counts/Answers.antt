@@ -1,0 +1,24 @@
+-- `sheet_output::printing::put_counts` meets its contract.
+-- Assumes nothing.
+use native.Mathlib.Omega.{arith}
+use lib.ListN.{get_or}
+use Rattle.text.specs.Text.{bytes_of}
+use Rattle.output.proofs.RefusalLaws.{at_front}
+use Rattle.sheet_output.specs.SheetOutput.{count_line, count_lines}
+use Rattle.sheet_output.proofs.CountLaws.{put_five}
+use borrow.Author.Rules.{rules}
+use Rattle.sheet_output.proofs.printing.put_counts.Goals as goal
+
+pub returns : goal.returns
+unfolding count_lines bytes_of
+returns c =
+    let counts = c.args.counts in
+    let one = c.before.before.before.before.before.before.before.before.before.before.before.before.before.before.before.before.before.before.before.before.before.before.put_count.ensures in
+    let two = c.before.before.before.before.before.before.before.before.before.before.before.before.before.before.before.before.before.put-count2.ensures in
+    let three = c.before.before.before.before.before.before.before.before.before.before.before.before.put-count3.ensures in
+    let four = c.before.before.before.before.before.before.before.put-count4.ensures in
+    let five = c.put_count.ensures in
+    at_front c.args.out.now (count_lines counts)
+    (put_five c.args.out.now (count_line (bytes_of "counted ") (get_or counts 0 0)) (count_line (bytes_of "short ") (get_or counts 1 0)) (count_line (bytes_of "planned ") (get_or counts 2 0)) (count_line (bytes_of "coupled ") (get_or counts 3 0)) (count_line (bytes_of "exceptional ") (get_or counts 4 0)) c.requires
+    one.0 two.0 three.0 four.0 five.0
+    (omega (arith, one.0.1, one.1)) (omega (arith, two.0.1, two.1)) (omega (arith, three.0.1, three.1)) (omega (arith, four.0.1, four.1)) (omega (arith, five.0.1, five.1)))

@@ -1,0 +1,41 @@
+-- `sheet_output::printing::sheet_output` meets its contract.
+-- Assumes nothing.
+use Prim.Native.Nat.{ℕ}
+use mathlib.Core.Path.{refl}
+use mathlib.Core.List.{List}
+use native.Mathlib.Omega.{arith}
+use Rattle.book.specs.declared.Book.{Book}
+use Rattle.calls.specs.Indicators.{electricity}
+use Rattle.text.specs.Text.{bytes_of}
+use Rattle.calls.proofs.SaidLaws.{told-accepted}
+use Rattle.output.proofs.RefusalLaws.{at_front}
+use Rattle.output.proofs.OutputLaws.{printed-long, at_field, at_end, as-printed}
+use Rattle.sheet_output.specs.SheetOutput.{sheet_text, sheet_output_of}
+use borrow.Author.Rules.{rules}
+use Rattle.sheet_output.proofs.printing.sheet_output.Goals as goal
+
+-- what is printed of a book
+abbrev sheet_asked : tie.Start → Book → List ℕ
+sheet_asked begun = sheet_text begun.args.operator begun.args.year
+
+-- too long
+pub returns-then-filing-gt-LONGEST_FILING : goal.returns-then-filing-gt-LONGEST_FILING
+unfolding bytes_of sheet_output_of
+returns-then-filing-gt-LONGEST_FILING c =
+    as-printed c.args.out.now (at_front c.args.out.now (bytes_of "too long\n") c.put_word.ensures) (printed-long electricity (sheet_asked begun) c.args.filing.now (omega arith))
+
+-- a field is refused
+pub returns-in-Refused : goal.returns-in-Refused
+unfolding sheet_output_of
+returns-in-Refused c =
+    let reading = c.read_fresh-reading in
+    as-printed c.args.out.now c.put_refused_field.ensures
+    (at_field electricity (sheet_asked begun) c.args.filing.now (omega (arith, c.if-filing-gt-LONGEST_FILING.false)) reading.result reading.ensures _ _ refl c.in-Refused.is c.number_of.ensures)
+
+-- read to its end
+pub returns-in_default : goal.returns-in_default
+unfolding sheet_output_of
+returns-in_default c =
+    let reading = c.read_fresh-reading in
+    as-printed c.args.out.now c.put_sheet.ensures
+    (at_end electricity (sheet_asked begun) c.args.filing.now (omega (arith, c.if-filing-gt-LONGEST_FILING.false)) reading.result reading.ensures (told-accepted reading.result.progress.answer c.in_default.in_default-own.keys2))

@@ -1,0 +1,21 @@
+-- `writer::put_entries` meets its contract.
+-- Assumes nothing.
+use Prim.Native.Nat.{◌+◌, ◌*◌, ◌-◌, ◌≤◌}
+use mathlib.Core.Path.{◌≡◌, refl, ◌∙◌}
+use native.Mathlib.Omega.{arith}
+use lib.ListN.{length}
+use borrow.Author.Rules.{rules}
+use Rattle.calls.specs.Indicators.{indicators_of}
+use Rattle.book.specs.Book.{book_with}
+use Rattle.text.proofs.WrittenLaws.{Put, put-nothing, put_then, room_after}
+use Rattle.text.proofs.FittingLaws.{written-front}
+use Rattle.writing.specs.Written.{written_as}
+use Rattle.entries.specs.Entries.{places}
+use Rattle.writer.proofs.SoFarLaws.{so_far, so-far-none, so-far-all, so-far-entry, room-more}
+use Rattle.writer.proofs.put_entries.Given as goal
+
+abbrev pub invariant-loop-place : goal.invariant-loop-place
+invariant-loop-place l = (l.place ≤ places) × Put l.initial.out 0 (so_far (indicators_of l.kind) (book_with l.joined l.marks l.settings l.figures l.pot_rate l.cap_rate l.indices) l.place) l.out l.at × (length l.out ≡ length l.initial.out)
+
+abbrev pub decreases-loop-place : goal.decreases-loop-place
+decreases-loop-place l = places - l.place

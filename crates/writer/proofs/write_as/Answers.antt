@@ -1,0 +1,28 @@
+-- `writer::write_as` meets its contract.
+-- Assumes nothing.
+use mathlib.Core.Path.{◌∙◌}
+use native.Mathlib.Omega.{arith}
+use Rattle.calls.proofs.Flags.{denied, granted}
+use Rattle.writer.proofs.AnswerLaws.{write-out-of-range, write-too-short, write-fits}
+use borrow.Author.Rules.{rules}
+use Rattle.writer.proofs.write_as.Goals as goal
+
+-- refused by 5
+pub returns-then-not-in_range : goal.returns-then-not-in_range
+returns-then-not-in_range c =
+    write-out-of-range _ c.args.b c.args.buffer.now (denied c.before.within_range.ensures c.if-not-in_range.true-raw)
+
+-- refused by 13
+pub returns-then-buffer-size : goal.returns-then-buffer-size
+returns-then-buffer-size c =
+    write-too-short _ c.args.b c.args.buffer.now (granted c.before.before.before.within_range.ensures c.if-not-in_range.false-raw) (omega (arith, c.written_size-size.ensures))
+
+pub put_entries-requires : goal.put_entries-requires
+put_entries-requires c = omega (arith, c.written_size-size.ensures)
+
+-- written
+pub returns : goal.returns
+returns c =
+    let size = c.written_size-size.ensures in
+    let whole = write-fits _ c.args.b c.args.buffer.now (granted c.before.before.before.before.before.before.before.within_range.ensures c.if-not-in_range.false-raw) (omega (arith, size, c.if-buffer-size.false)) in
+    (rw size whole.0, c.put_entries.ensures ∙ whole.1)
