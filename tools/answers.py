@@ -27,13 +27,14 @@ class Function:
     """The steps of a function, as the older kit and as today's names them."""
 
     def __init__(self, entry):
-        self.parent, self.step, self.arms, self.labels = {}, {}, {}, {}
+        self.parent, self.step, self.arms, self.labels, self.lent = {}, {}, {}, {}, {}
         for place, arms in zip(entry["places"], entry["arms"]):
             name, parent, step = place[0], place[1], place[2]
             self.parent[name] = parent
             self.step[name] = step
             self.arms[name] = arms
             self.labels[name] = {old: new for old, new in place[4]}
+            self.lent[name] = entry["params"].get(place[3], [])
         self.needs = [(old, new) for old, new in entry["needs"]]
         self.asked_at = [old for old, _ in entry["asked_at"]]
         self.loops = [(names[0], names[1], variables, changed) for (names, variables), changed in zip(entry["loops"], entry["changed"])]
@@ -61,7 +62,7 @@ class Function:
     def field(self, place, name):
         """Today's path of a field of the record of a place; None if it is no step of it."""
         step = self.step.get(place)
-        if step and step[0] and dashed(step[0]) == dashed(name):
+        if step and step[0] and dashed(step[0]) in (dashed(name), dashed(name).removesuffix("-lem")):
             return step[1]
         if name in ("args", "requires", "ranges", "well_formed", "utf8", "type_inv"):
             return name
@@ -133,6 +134,9 @@ class Turned:
                 after[0] = self.function.parameters[number - 1]
         if new == "args" and after:
             after[0] = self.function.spelled(after[0])
+        lent = self.function.lent.get(place, [])
+        if len(after) > 1 and after[0] in ("auto", "new", "kept", "last") and after[1].isdigit() and int(after[1]) < len(lent):
+            after[1] = lent[int(after[1])]
         if after:
             after[0] = self.function.labels.get(place, {}).get(after[0], after[0])
         if after and new.startswith(("if-", "loop-")) and (new.startswith("if-") or new.endswith("-test")):

@@ -24,7 +24,7 @@ loop-operator-preserved c =
     let here = c.loop-operator in (
       omega arith,
       rw (lines_more c.args.b c.args.s here.operator) (put_then c.args.out.now c.args.at (operator_lines c.args.b c.args.s here.operator) (addition c.args.b c.args.s here.operator) (omega (arith, c.requires.1, lines-within c.args.b c.args.s here.operator (omega arith))) here.invariant.1 c.put_if_joined-next.ensures),
-      c.put_if_joined-next.auto.0 ∙ here.invariant.2,
+      c.put_if_joined-next.auto.out ∙ here.invariant.2,
     )
 
 pub returns : goal.returns

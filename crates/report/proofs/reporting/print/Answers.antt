@@ -19,11 +19,11 @@ returns-then-buffer-count c =
 
 pub slice_bounds-text-end : goal.slice_bounds-text-end
 slice_bounds-text-end c =
-    omega (arith, c.put_lines-count.ensures.1, c.put_lines-count.auto.0, printed-length c.args.b c.args.s c.requires)
+    omega (arith, c.put_lines-count.ensures.1, c.put_lines-count.auto.out, printed-length c.args.b c.args.s c.requires)
 
 pub slice_bounds-put_word-end : goal.slice_bounds-put_word-end
 slice_bounds-put_word-end c =
-    rw length-take (omega (arith, c.put_lines-count.ensures.1, c.put_lines-count.auto.0, printed-length c.args.b c.args.s c.requires))
+    rw length-take (omega (arith, c.put_lines-count.ensures.1, c.put_lines-count.auto.out, printed-length c.args.b c.args.s c.requires))
 
 pub put_word-requires : goal.put_word-requires
 put_word-requires c =
@@ -32,6 +32,6 @@ put_word-requires c =
 pub returns : goal.returns
 returns c =
     let count : c.put_lines-count.result ≡ length (printed c.args.b c.args.s) = omega (arith, c.put_lines-count.ensures.1) in
-    let front : take (length (printed c.args.b c.args.s)) c.put_lines-count.new.0 ≡ (printed c.args.b c.args.s) = rw c.put_lines-count.ensures.0 (take-front _ _) in
+    let front : take (length (printed c.args.b c.args.s)) c.put_lines-count.new.out ≡ (printed c.args.b c.args.s) = rw c.put_lines-count.ensures.0 (take-front _ _) in
     let done = fits c.args.buffer.now (printed c.args.b c.args.s) (omega (arith, count, c.if-buffer-count.false)) in
     (rw count done.0, c.put_word.ensures.0 ∙ rw (count, front) (written-front _ _) ∙ done.1)

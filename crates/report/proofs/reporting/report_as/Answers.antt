@@ -15,20 +15,20 @@ use Rattle.report.proofs.reporting.report_as.Goals as goal
 
 pub print-requires : goal.print-requires
 print-requires c =
-    let settling = c.before.before.before.settle_as_lem in
+    let settling = c.settle_as-settled in
     let yes : (settled_by c.args.b (indicators_of c.args.kind)).said ≡ accepted yes_said = settled-yes (indicators_of c.args.kind) c.args.b (ap is_refused (sym settling.ensures.0) ∙ told-accepted settling.result.answer c.in_default.in_default-own.keys2) in
     subst Printable (sym settling.ensures.1) (printable c.args.b c.args.kind yes)
 
 -- refused by the settlement
 pub returns-in-Refused : goal.returns-in-Refused
 returns-in-Refused c =
-    report-refused _ c.args.b c.args.buffer.now _ (sym c.before.before.before.before.settle_as_lem.ensures.0 ∙ ap said c.in-Refused.is)
+    report-refused _ c.args.b c.args.buffer.now _ (sym c.settle_as-settled.ensures.0 ∙ ap said c.in-Refused.is)
 
 -- printed, or 13
 pub returns-in_default : goal.returns-in_default
 unfolding text_as
 returns-in_default c =
-    let settling = c.before.before.before.before.before.before.settle_as_lem in
+    let settling = c.settle_as-settled in
     let yes : (settled_by c.args.b (indicators_of c.args.kind)).said ≡ accepted yes_said = settled-yes (indicators_of c.args.kind) c.args.b (ap is_refused (sym settling.ensures.0) ∙ told-accepted settling.result.answer c.in_default.in_default-own.keys2) in
     let whole = report-accepted (indicators_of c.args.kind) c.args.b c.args.buffer.now yes in
     let printed = rw settling.ensures.1 at c.print.ensures in
