@@ -15,7 +15,8 @@ put_lines-count-requires c =
 
 pub returns-then-buffer-count : goal.returns-then-buffer-count
 returns-then-buffer-count c =
-    too_short_lem c.args.buffer.now (printed c.args.b c.args.s) (omega (arith, c.put_lines-count.ensures.1, c.if-buffer-count.true))
+    let done = too_short_lem c.args.buffer.now (printed c.args.b c.args.s) (omega (arith, c.put_lines-count.ensures.1, c.if-buffer-count.true)) in
+    record { result_value = done.0; buffer_after = done.1 }
 
 pub slice_bounds-text-end : goal.slice_bounds-text-end
 slice_bounds-text-end c =
@@ -34,4 +35,4 @@ returns c =
     let count : c.put_lines-count.result ≡ length (printed c.args.b c.args.s) = omega (arith, c.put_lines-count.ensures.1) in
     let front : take (length (printed c.args.b c.args.s)) c.put_lines-count.new.out ≡ (printed c.args.b c.args.s) = rw c.put_lines-count.ensures.0 (take-front _ _) in
     let done = fits c.args.buffer.now (printed c.args.b c.args.s) (omega (arith, count, c.if-buffer-count.false)) in
-    (rw count done.0, c.put_word.ensures.0 ∙ rw (count, front) (written-front _ _) ∙ done.1)
+    record { result_value = rw count done.0; buffer_after = c.put_word.ensures.0 ∙ rw (count, front) (written-front _ _) ∙ done.1 }

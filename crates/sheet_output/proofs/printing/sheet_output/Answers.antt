@@ -7,6 +7,7 @@ use native.Mathlib.Omega.{arith}
 use Rattle.book.specs.declared.Book.{Book}
 use Rattle.calls.specs.Indicators.{electricity}
 use Rattle.text.specs.Text.{bytes_of}
+use borrow.Enum.Refused.{opened}
 use Rattle.calls.proofs.SaidLaws.{told-accepted}
 use Rattle.output.proofs.RefusalLaws.{at_front}
 use Rattle.output.proofs.OutputLaws.{printed-long, at_field, at_end, as-printed}
@@ -38,4 +39,4 @@ unfolding sheet_output_of
 returns-in_default c =
     let reading = c.read_fresh-reading in
     as-printed c.args.out.now c.put_sheet.ensures
-    (at_end electricity (sheet_asked begun) c.args.filing.now (omega (arith, c.if-filing-gt-LONGEST_FILING.false)) reading.result reading.ensures (told-accepted reading.result.progress.answer c.in_default.in_default-own.keys2))
+    (at_end electricity (sheet_asked begun) c.args.filing.now (omega (arith, c.if-filing-gt-LONGEST_FILING.false)) reading.result reading.ensures (told-accepted reading.result.progress.answer (opened c.in_default.in_default-own.keys2)))
