@@ -62,7 +62,7 @@ class Function:
     def field(self, place, name):
         """Today's path of a field of the record of a place; None if it is no step of it."""
         step = self.step.get(place)
-        if step and step[0] and dashed(step[0]) in (dashed(name), dashed(name).removesuffix("-lem")):
+        if step and step[0] and dashed(step[0]) in (dashed(name).lower(), dashed(name).lower().removesuffix("-lem")):
             return step[1]
         if name in ("args", "requires", "ranges", "well_formed", "utf8", "type_inv"):
             return name
@@ -123,7 +123,13 @@ class Turned:
             return m.group() if ups or root == "c" else m.group()
         new = self.function.field(place, fields[0])
         if new is None:
-            return m.group()
+            # the older kit had fewer steps on the way: the nearest step of that name
+            place = self.alias[root]
+            while place is not None and self.function.field(place, fields[0]) is None:
+                place = self.function.parent.get(place)
+            if place is None:
+                return m.group()
+            new = self.function.field(place, fields[0])
         for old, path, arm, label in sorted(arm_paths(self.function, place), key=lambda it: -len(it[1])):
             if dashed(fields[0]) == old and [dashed(f) for f in fields[1:1 + len(path)]] == [dashed(p) for p in path] and len(fields) > 1:
                 return ".".join(["c", arm, label, *fields[1 + len(path):]])

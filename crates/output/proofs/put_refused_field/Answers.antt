@@ -26,9 +26,10 @@ returns c =
     let most = room old (refused_field number offset) 53 c.requires (field-length number small offset (omega arith)) (omega arith) in
     let parts = refused_by_number number ++ bytes_of " at " ++ decimal offset in
     let three = room-first old 0 parts (bytes_of "\n") most in
-    let last = c.before.before.before.before.before.before.before.put-decimal in
-    at_front old (refused_field number offset)
-    (put_then old 0 parts (bytes_of "\n") most (put_three old 0 (refused_by_number number) (bytes_of " at ") (decimal offset) three c.before.before.before.before.before.before.before.before.before.before.before.before.before.before.before.before.Put-refused.ensures c.before.before.before.before.before.before.before.before.before.before.before.put_word.ensures {after = last.result} last.ensures) c.put_word.ensures)
+    let last = c.put_decimal-last in
+    let done = at_front old (refused_field number offset)
+    (put_then old 0 parts (bytes_of "\n") most (put_three old 0 (refused_by_number number) (bytes_of " at ") (decimal offset) three c.put_refused-first.ensures c.put_word-second.ensures {after = last.result} last.ensures) c.put_word.ensures) in
+    record { value = done.0; out_after = done.1 }
 
 pub put_word-second-requires : goal.put_word-second-requires
 unfolding refused_field bytes_of
@@ -40,7 +41,7 @@ put_word-second-requires c =
     let most = room old (refused_field number offset) 53 c.requires (field-length number small offset (omega arith)) (omega arith) in
     let parts = refused_by_number number ++ bytes_of " at " ++ decimal offset in
     let three = room-first old 0 parts (bytes_of "\n") most in
-    three-second old 0 (refused_by_number number) (bytes_of " at ") (decimal offset) three c.before.before.before.before.Put-refused.ensures
+    three-second old 0 (refused_by_number number) (bytes_of " at ") (decimal offset) three c.put_refused-first.ensures
 
 pub put_decimal-last-requires : goal.put_decimal-last-requires
 unfolding refused_field bytes_of
@@ -52,7 +53,7 @@ put_decimal-last-requires c =
     let most = room old (refused_field number offset) 53 c.requires (field-length number small offset (omega arith)) (omega arith) in
     let parts = refused_by_number number ++ bytes_of " at " ++ decimal offset in
     let three = room-first old 0 parts (bytes_of "\n") most in
-    three_third old 0 (refused_by_number number) (bytes_of " at ") (decimal offset) three c.before.before.before.before.before.before.before.before.Put-refused.ensures c.put_word-second.ensures
+    three_third old 0 (refused_by_number number) (bytes_of " at ") (decimal offset) three c.put_refused-first.ensures c.put_word-second.ensures
 
 pub put_word-requires : goal.put_word-requires
 unfolding refused_field bytes_of
@@ -64,4 +65,4 @@ put_word-requires c =
     let most = room old (refused_field number offset) 53 c.requires (field-length number small offset (omega arith)) (omega arith) in
     let parts = refused_by_number number ++ bytes_of " at " ++ decimal offset in
     let three = room-first old 0 parts (bytes_of "\n") most in
-    room_after old 0 parts (bytes_of "\n") most (put_three old 0 (refused_by_number number) (bytes_of " at ") (decimal offset) three c.before.before.before.before.before.before.before.before.before.before.before.before.before.Put-refused.ensures c.before.before.before.before.before.before.before.before.put_word.ensures c.before.before.before.before.put-decimal.ensures)
+    room_after old 0 parts (bytes_of "\n") most (put_three old 0 (refused_by_number number) (bytes_of " at ") (decimal offset) three c.put_refused-first.ensures c.put_word-second.ensures c.put_decimal-last.ensures)

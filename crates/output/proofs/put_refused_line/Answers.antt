@@ -19,7 +19,7 @@ put_word-requires c =
     let number = c.args.number in
     let old = c.args.out.now in
     let small : number < 2 ^ 64 = omega arith in
-    room_after old 0 (refused_by_number number) (bytes_of "\n") (room old (refused_line number) 29 c.requires (line-length number small) (omega arith)) c.before.before.before.before.Put-refused.ensures
+    room_after old 0 (refused_by_number number) (bytes_of "\n") (room old (refused_line number) 29 c.requires (line-length number small) (omega arith)) c.put_refused-last.ensures
 
 pub returns : goal.returns
 unfolding refused_line bytes_of
@@ -27,4 +27,5 @@ returns c =
     let number = c.args.number in
     let old = c.args.out.now in
     let small : number < 2 ^ 64 = omega arith in
-    at_front old (refused_line number) (put_then old 0 (refused_by_number number) (bytes_of "\n") (room old (refused_line number) 29 c.requires (line-length number small) (omega arith)) c.before.before.before.before.before.before.before.Put-refused.ensures c.put_word.ensures)
+    let done = at_front old (refused_line number) (put_then old 0 (refused_by_number number) (bytes_of "\n") (room old (refused_line number) 29 c.requires (line-length number small) (omega arith)) c.put_refused-last.ensures c.put_word.ensures) in
+    record { value = done.0; out_after = done.1 }

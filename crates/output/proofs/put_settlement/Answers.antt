@@ -14,15 +14,15 @@ pub returns-in-Bytes : goal.returns-in-Bytes
 returns-in-Bytes c =
     let old = c.args.out.now in
     let printed = c.report_as.ensures in
-    let whole = subst (Told c.args.kind c.args.b old) (sym printed.0 ∙ ap filled_said c.in-Bytes.is) (told c.args.kind c.args.b old c.requires) in
-    (whole.0, printed.1 ∙ whole.1)
+    let whole = subst (Told c.args.kind c.args.b old) (sym printed.result_value ∙ ap filled_said c.in-Bytes.is) (told c.args.kind c.args.b old c.requires) in
+    record { value = whole.0; out_after = printed.buffer_after ∙ whole.1 }
 
 pub returns-in-Refused : goal.returns-in-Refused
 returns-in-Refused c =
     let old = c.args.out.now in
     let printed = c.report_as.ensures in
     let line = c.put_refused_line.ensures in
-    let whole = subst (Told c.args.kind c.args.b old) (sym printed.0 ∙ ap filled_said c.in-Refused.is) (told c.args.kind c.args.b old c.requires) in
+    let whole = subst (Told c.args.kind c.args.b old) (sym printed.result_value ∙ ap filled_said c.in-Refused.is) (told c.args.kind c.args.b old c.requires) in
     let number = c.number_of in
     let text : refused_line number.result ≡ settlement_text_as (indicators_of c.args.kind) c.args.b = ap refused_line number.ensures ∙ whole.0 in
-    (line.0 ∙ ap length text, line.1 ∙ (λ i. put_into ((printed.1 ∙ whole.1) i) (text i)))
+    record { value = line.value ∙ ap length text; out_after = line.out_after ∙ (λ i. put_into ((printed.buffer_after ∙ whole.1) i) (text i)) }
