@@ -25,10 +25,10 @@ put_decimal-end-requires c =
 pub put_word-requires : goal.put_word-requires
 unfolding count_line bytes_of
 put_word-requires c =
-    three_third c.args.out.now c.args.at c.args.word.now (decimal c.args.count) (bytes_of "\n") (room start) c.before.before.before.before.before.before.before.before.put_word.ensures c.before.before.before.before.put-decimal.ensures
+    three_third c.args.out.now c.args.at c.args.word.now (decimal c.args.count) (bytes_of "\n") (room start) c.put_word-digits.ensures c.put_decimal-end.ensures
 
 pub returns : goal.returns
 unfolding count_line bytes_of
 returns c =
-    let line = put_three c.args.out.now c.args.at c.args.word.now (decimal c.args.count) (bytes_of "\n") (room start) c.before.before.before.before.before.before.before.before.before.before.before.put_word.ensures c.before.before.before.before.before.before.before.put-decimal.ensures c.put_word.ensures in
+    let line = put_three c.args.out.now c.args.at c.args.word.now (decimal c.args.count) (bytes_of "\n") (room start) c.put_word-digits.ensures c.put_decimal-end.ensures c.put_word.ensures in
     (line, omega (arith, line.1, short start))

@@ -13,10 +13,10 @@ pub returns : goal.returns
 unfolding count_lines bytes_of
 returns c =
     let counts = c.args.counts in
-    let one = c.before.before.before.before.before.before.before.before.before.before.before.before.before.before.before.before.before.before.before.before.before.before.put_count.ensures in
-    let two = c.before.before.before.before.before.before.before.before.before.before.before.before.before.before.before.before.before.put-count2.ensures in
-    let three = c.before.before.before.before.before.before.before.before.before.before.before.before.put-count3.ensures in
-    let four = c.before.before.before.before.before.before.before.put-count4.ensures in
+    let one = c.put_count-second.ensures in
+    let two = c.put_count-third.ensures in
+    let three = c.put_count-fourth.ensures in
+    let four = c.put_count-fifth.ensures in
     let five = c.put_count.ensures in
     at_front c.args.out.now (count_lines counts)
     (put_five c.args.out.now (count_line (bytes_of "counted ") (get_or counts 0 0)) (count_line (bytes_of "short ") (get_or counts 1 0)) (count_line (bytes_of "planned ") (get_or counts 2 0)) (count_line (bytes_of "coupled ") (get_or counts 3 0)) (count_line (bytes_of "exceptional ") (get_or counts 4 0)) c.requires
