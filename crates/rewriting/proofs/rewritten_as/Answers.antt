@@ -28,7 +28,7 @@ unfolding bytes_of
 returns-then-filing-gt-LONGEST_FILING c =
     let front = at_front c.args.out.now (bytes_of "too long\n") c.put_word-count.ensures in
     let text = printout-long (indicators_of c.args.kind) c.args.filing.now (omega arith) in
-    ((λ i. (Error, front.0 i)) ∙ ap told_of text, front.1 ∙ ap (λ (p : Printout). put_into c.args.out.now p.text) text)
+    record { count_value = (λ i. (Error, front.0 i)) ∙ ap told_of text; out_after = front.1 ∙ ap (λ (p : Printout). put_into c.args.out.now p.text) text }
 
 pub put_book-requires : goal.put_book-requires
 put_book-requires c =
@@ -49,7 +49,7 @@ returns-in-Refused c =
     let line = c.put_refused_field.ensures in
     let text : on_stream Error (refused_field c.number_of.result reading.result.progress.offset) ≡ _ =
     (λ i. on_stream Error (refused_field (number i) (same i).offset)) ∙ printout-refused (indicators_of c.args.kind) filing (omega (arith, c.if-filing-gt-LONGEST_FILING.false)) _ refused in
-    ((λ i. (Error, line.0 i)) ∙ ap told_of text, line.1 ∙ ap (λ (p : Printout). put_into c.args.out.now p.text) text)
+    record { count_value = (λ i. (Error, line.value i)) ∙ ap told_of text; out_after = line.out_after ∙ ap (λ (p : Printout). put_into c.args.out.now p.text) text }
 
 -- read to its end
 pub returns-in_default : goal.returns-in_default
@@ -60,4 +60,4 @@ returns-in_default c =
     let fine = ap (λ (r : Reached). is_refused r.said) (sym same) ∙ told-accepted reading.result.progress.answer (opened c.in_default.in_default-own.keys2) in
     let bytes = c.put_book.ensures in
     let text = ap (λ (r : Reached). on_stream Output (written_as (indicators_of c.args.kind) r.book)) same ∙ printout-read (indicators_of c.args.kind) filing (omega (arith, c.if-filing-gt-LONGEST_FILING.false)) fine in
-    ((λ i. (Output, bytes.0 i)) ∙ ap told_of text, bytes.1 ∙ ap (λ (p : Printout). put_into c.args.out.now p.text) text)
+    record { count_value = (λ i. (Output, bytes.count_value i)) ∙ ap told_of text; out_after = bytes.out_after ∙ ap (λ (p : Printout). put_into c.args.out.now p.text) text }
