@@ -15,7 +15,7 @@ pub returns-in-Bytes : goal.returns-in-Bytes
 returns-in-Bytes c =
     let wrote = c.write_as in
     let counted = sym (ap filled_said c.in-Bytes.is) ∙ wrote-all (indicators_of c.args.kind) c.args.b c.args.out.now c.requires.0 c.requires.1 wrote.result wrote.ensures.result_value in
-    record { count_value = cc; out_after = wrote.ensures.buffer_after ∙ sym (write-fits (indicators_of c.args.kind) c.args.b c.args.out.now c.requires.0 c.requires.1).1 }
+    record { value = cc; out_after = wrote.ensures.buffer_after ∙ sym (write-fits (indicators_of c.args.kind) c.args.b c.args.out.now c.requires.0 c.requires.1).1 }
 
 -- refused, which cannot be
 pub returns-in-Refused : goal.returns-in-Refused

@@ -60,4 +60,4 @@ returns-in_default c =
     let fine = ap (λ (r : Reached). is_refused r.said) (sym same) ∙ told-accepted reading.result.progress.answer (opened c.in_default.in_default-own.keys2) in
     let bytes = c.put_book.ensures in
     let text = ap (λ (r : Reached). on_stream Output (written_as (indicators_of c.args.kind) r.book)) same ∙ printout-read (indicators_of c.args.kind) filing (omega (arith, c.if-filing-gt-LONGEST_FILING.false)) fine in
-    record { count_value = (λ i. (Output, bytes.count_value i)) ∙ ap told_of text; out_after = bytes.out_after ∙ ap (λ (p : Printout). put_into c.args.out.now p.text) text }
+    record { count_value = (λ i. (Output, bytes.value i)) ∙ ap told_of text; out_after = bytes.out_after ∙ ap (λ (p : Printout). put_into c.args.out.now p.text) text }

@@ -10,20 +10,6 @@ use Rattle.sheet_output.proofs.ArgumentLaws.{digit-range}
 use borrow.Author.Rules.{rules}
 use Rattle.sheet_output.proofs.arguments.of_digits.Goals as goal
 
--- all three are digits
-module _ (m : tie.Else3) where
-  abbrev begun : tie.Start
-  begun = m.before.before.before.before.before.before
-
-  first : is_digit begun.args.hundreds ≡ true
-  first = granted m.before.before.before.before.before.is_digit.ensures m.before.before.before.before.if1.left
-
-  second : is_digit begun.args.tens ≡ true
-  second = granted m.before.before.before.is-digit2.ensures m.before.before.if2.left
-
-  third : is_digit begun.args.ones ≡ true
-  third = granted m.before.is-digit3.ensures m.if3.left
-
 -- the first is no digit
 pub returns-then-not-is_digit : goal.returns-then-not-is_digit
 unfolding of_digits
@@ -47,21 +33,21 @@ returns-then-not-is_digit-3 c =
     refl
 
 pub overflow_sub-value : goal.overflow_sub-value
-overflow_sub-value c = omega (arith, (digit-range _ (first c)).0)
+overflow_sub-value c = omega (arith, (digit-range _ (granted c.is_digit.ensures c.if-not-is_digit.false-raw)).0)
 
 pub overflow_sub-value-2 : goal.overflow_sub-value-2
-overflow_sub-value-2 c = omega (arith, (digit-range _ (second c)).0)
+overflow_sub-value-2 c = omega (arith, (digit-range _ (granted c.is_digit-2.ensures c.if-not-is_digit-2.false-raw)).0)
 
 pub overflow_sub-value-3 : goal.overflow_sub-value-3
-overflow_sub-value-3 c = omega (arith, (digit-range _ (third c)).0)
+overflow_sub-value-3 c = omega (arith, (digit-range _ (granted c.is_digit-3.ensures c.if-not-is_digit-3.false-raw)).0)
 
 -- above 255
 pub returns-then-value-gt255 : goal.returns-then-value-gt255
 unfolding of_digits value_of
 returns-then-value-gt255 c =
-    rw (first m, second m, third m, lt-leb (value_of (begun m).args.hundreds (begun m).args.tens (begun m).args.ones) 255 c.if-value-gt255.true) refl
+    rw (granted c.is_digit.ensures c.if-not-is_digit.false-raw, granted c.is_digit-2.ensures c.if-not-is_digit-2.false-raw, granted c.is_digit-3.ensures c.if-not-is_digit-3.false-raw, lt-leb (value_of c.args.hundreds c.args.tens c.args.ones) 255 c.if-value-gt255.true) refl
 
 pub returns : goal.returns
 unfolding of_digits value_of
 returns c =
-    rw (first m, second m, third m, le-leb (value_of (begun m).args.hundreds (begun m).args.tens (begun m).args.ones) 255 (omega (arith, c.if-value-gt255.false))) refl
+    rw (granted c.is_digit.ensures c.if-not-is_digit.false-raw, granted c.is_digit-2.ensures c.if-not-is_digit-2.false-raw, granted c.is_digit-3.ensures c.if-not-is_digit-3.false-raw, le-leb (value_of c.args.hundreds c.args.tens c.args.ones) 255 (omega (arith, c.if-value-gt255.false))) refl

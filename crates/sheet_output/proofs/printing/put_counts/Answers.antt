@@ -18,7 +18,9 @@ returns c =
     let three = c.put_count-fourth.ensures in
     let four = c.put_count-fifth.ensures in
     let five = c.put_count.ensures in
+    let done =
     at_front c.args.out.now (count_lines counts)
     (put_five c.args.out.now (count_line (bytes_of "counted ") (get_or counts 0 0)) (count_line (bytes_of "short ") (get_or counts 1 0)) (count_line (bytes_of "planned ") (get_or counts 2 0)) (count_line (bytes_of "coupled ") (get_or counts 3 0)) (count_line (bytes_of "exceptional ") (get_or counts 4 0)) c.requires
-    one.0 two.0 three.0 four.0 five.0
-    (omega (arith, one.0.1, one.1)) (omega (arith, two.0.1, two.1)) (omega (arith, three.0.1, three.1)) (omega (arith, four.0.1, four.1)) (omega (arith, five.0.1, five.1)))
+    one.out_after two.out_after three.out_after four.out_after five.out_after
+    (omega (arith, one.out_after.1, one.upper_bound)) (omega (arith, two.out_after.1, two.upper_bound)) (omega (arith, three.out_after.1, three.upper_bound)) (omega (arith, four.out_after.1, four.upper_bound)) (omega (arith, five.out_after.1, five.upper_bound))) in
+    record { value = done.0; out_after = done.1 }

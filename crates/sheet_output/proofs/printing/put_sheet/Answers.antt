@@ -16,16 +16,16 @@ use Rattle.sheet_output.proofs.printing.put_sheet.Goals as goal
 pub returns-in-Refused : goal.returns-in-Refused
 returns-in-Refused c =
     let asked = c.sheet-asked in
-    let refused = sym asked.ensures.0 ∙ ap said c.in-Refused.is in
+    let refused = sym asked.ensures.answer_value ∙ ap said c.in-Refused.is in
     let line = c.put_refused_line.ensures in
     let text = ap refused_line c.number_of.ensures ∙ sheet-refused c.args.operator c.args.year c.args.b _ refused in
-    (line.0 ∙ ap length text, line.1 ∙ ap (put_into _) text)
+    record { value = line.value ∙ ap length text; out_after = line.out_after ∙ ap (put_into _) text }
 
 -- the five figures
 pub returns-in_default : goal.returns-in_default
 returns-in_default c =
     let asked = c.sheet-asked in
-    let fine = ap is_refused (sym asked.ensures.0) ∙ told-accepted asked.result.answer (opened c.in_default.in_default-own.keys2) in
+    let fine = ap is_refused (sym asked.ensures.answer_value) ∙ told-accepted asked.result.answer (opened c.in_default.in_default-own.keys2) in
     let lines = c.put_counts.ensures in
-    let text = ap count_lines asked.ensures.1 ∙ sheet-given c.args.operator c.args.year c.args.b fine in
-    (lines.0 ∙ ap length text, lines.1 ∙ ap (put_into _) text)
+    let text = ap count_lines asked.ensures.counts_value ∙ sheet-given c.args.operator c.args.year c.args.b fine in
+    record { value = lines.value ∙ ap length text; out_after = lines.out_after ∙ ap (put_into _) text }
