@@ -16,8 +16,8 @@ unfolding tagged tags
 returns c =
     let bytes = c.args.bytes.now in
     let at = c.args.at in
-    let start_fits : SFits w64 c.signed_at.result = record { sfits = c.signed_at.type-inv } in
-    let end_fits : SFits w64 c.signed_at-2.result = record { sfits = c.signed_at-2.type-inv } in
+    let start_fits : SFits w64 c.signed_at.result = record { sfits = c.signed_at.type_inv } in
+    let end_fits : SFits w64 c.signed_at-2.result = record { sfits = c.signed_at-2.type_inv } in
     let byte = byte-in bytes at 24 in
     let unsigned = unsigned-in bytes at 24 in
     let signed = signed-in bytes at 24 in

@@ -11,5 +11,5 @@ use Rattle.contents.proofs.numbers.signed_at.Goals as goal
 pub returns : goal.returns
 unfolding signed
 returns c =
-    let fits : SFits w64 c.Signed-of.result = record { sfits = c.Signed-of.type-inv } in
-    back fits ∙ c.Signed-of.ensures ∙ ap twos_complement c.eight_at.ensures
+    let fits : SFits w64 c.signed_of.result = record { sfits = c.signed_of.type_inv } in
+    back fits ∙ c.signed_of.ensures ∙ ap twos_complement c.eight_at.ensures
