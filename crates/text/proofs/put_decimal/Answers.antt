@@ -8,10 +8,6 @@ use borrow.Author.Rules.{rules}
 use Rattle.text.proofs.StoredDigits.{Storing, storing-none, storing-room, storing-more, storing-last}
 use Rattle.text.proofs.put_decimal.Goals as goal
 
--- NOT TURNED
-same_length : tie.Need-same-length invariant-loop decreases-loop
-same_length c = simp length-set c.before.loop.invariant.1
-
 pub loop-rest-init : goal.loop-rest-init
 loop-rest-init c = (rw c.digit_count-count.ensures (storing-none c.requires), refl)
 

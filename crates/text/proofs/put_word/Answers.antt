@@ -15,8 +15,7 @@ loop-i-init c = (omega arith, paste-zero c.args.out.now c.args.at c.args.word.no
 
 pub loop-i-preserved : goal.loop-i-preserved
 loop-i-preserved c =
-    let here = c.loop-i in
-    (
+    let here = c.loop-i in (
       omega arith,
       rw (here.invariant.1, add-one here.i) (paste-suc c.args.out.now c.args.at c.args.word.now here.i 0 (omega arith) (omega arith)),
       simp length-set here.invariant.2,
