@@ -31,7 +31,7 @@ loop-place-preserved c =
       omega arith,
       rw (so-far-entry (indicators_of c.args.kind) c.args.b here.place entry)
           (put_then c.args.out.now 0 (so_far (indicators_of c.args.kind) c.args.b here.place) _ (room-more (indicators_of c.args.kind) c.args.b here.place entry c.args.out.now (omega arith) c.requires) here.invariant.1 put.ensures),
-      put.auto.0 ∙ here.invariant.2,
+      put.auto.out ∙ here.invariant.2,
     )
 
 pub returns : goal.returns

@@ -1,8 +1,7 @@
 -- `writer::write_as` meets its contract.
 -- Assumes nothing.
-use mathlib.Core.Path.{◌∙◌}
+use mathlib.Core.Path.{sym, ◌∙◌}
 use native.Mathlib.Omega.{arith}
-use Rattle.calls.proofs.Flags.{denied, granted}
 use Rattle.writer.proofs.AnswerLaws.{write-out-of-range, write-too-short, write-fits}
 use borrow.Author.Rules.{rules}
 use Rattle.writer.proofs.write_as.Goals as goal
@@ -10,12 +9,14 @@ use Rattle.writer.proofs.write_as.Goals as goal
 -- refused by 5
 pub returns-then-not-in_range : goal.returns-then-not-in_range
 returns-then-not-in_range c =
-    write-out-of-range _ c.args.b c.args.buffer.now (denied c.before.within_range.ensures c.if-not-in_range.true-raw)
+    let leaves = write-out-of-range _ c.args.b c.args.buffer.now (sym c.in_range.ensures ∙ c.if-not-in_range.true) in
+    record { result_value = leaves.0; buffer_after = leaves.1 }
 
 -- refused by 13
 pub returns-then-buffer-size : goal.returns-then-buffer-size
 returns-then-buffer-size c =
-    write-too-short _ c.args.b c.args.buffer.now (granted c.before.before.before.within_range.ensures c.if-not-in_range.false-raw) (omega (arith, c.written_size-size.ensures))
+    let leaves = write-too-short _ c.args.b c.args.buffer.now (sym c.in_range.ensures ∙ c.if-not-in_range.false) (omega (arith, c.written_size-size.ensures)) in
+    record { result_value = leaves.0; buffer_after = leaves.1 }
 
 pub put_entries-requires : goal.put_entries-requires
 put_entries-requires c = omega (arith, c.written_size-size.ensures)
@@ -24,5 +25,5 @@ put_entries-requires c = omega (arith, c.written_size-size.ensures)
 pub returns : goal.returns
 returns c =
     let size = c.written_size-size.ensures in
-    let whole = write-fits _ c.args.b c.args.buffer.now (granted c.before.before.before.before.before.before.before.within_range.ensures c.if-not-in_range.false-raw) (omega (arith, size, c.if-buffer-size.false)) in
-    (rw size whole.0, c.put_entries.ensures ∙ whole.1)
+    let whole = write-fits _ c.args.b c.args.buffer.now (sym c.in_range.ensures ∙ c.if-not-in_range.false) (omega (arith, size, c.if-buffer-size.false)) in
+    record { result_value = rw size whole.0; buffer_after = c.put_entries.ensures ∙ whole.1 }

@@ -17,15 +17,15 @@ pub size_of-size-requires : goal.size_of-size-requires
 size_of-size-requires c = c.entry_at.ensures.short
 
 pub overflow_add-size : goal.overflow_add-size
-overflow_add-size c = record { fits = omega (arith, c.entry_at.ensures.short, c.type_size.ensures, c.loop-place.invariant.0, c.loop-place.invariant.2) }
+overflow_add-size c = record { fits = omega (arith, c.entry_at.ensures.short, c.size_of-size.ensures, c.loop-place.invariant.0, c.loop-place.invariant.2) }
 
 pub loop-place-preserved : goal.loop-place-preserved
 loop-place-preserved c =
     let here = c.loop-place in
     let entry = c.entry_at.ensures in (
       omega arith,
-      rw (here.invariant.1, c.type_size.ensures) (size-more _ _ here.place entry),
-      omega (arith, entry.short, c.type_size.ensures, here.invariant.2),
+      rw (here.invariant.1, c.size_of-size.ensures) (size-more _ _ here.place entry),
+      omega (arith, entry.short, c.size_of-size.ensures, here.invariant.2),
     )
 
 pub returns : goal.returns
