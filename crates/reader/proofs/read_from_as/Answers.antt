@@ -1,9 +1,8 @@
 -- `reader::read_from_as` meets its contract.
 -- Assumes nothing.
-use mathlib.Core.Path.{◌≡◌, refl}
+use mathlib.Core.Path.{◌≡◌, refl, sym, ◌∙◌}
 use mathlib.Core.Bool.{false}
 use Rattle.calls.specs.Indicators.{indicators_of}
-use Rattle.calls.proofs.Flags.{denied, granted}
 use Rattle.book.specs.Book.{in_range}
 use Rattle.filing.specs.Reader.{read_from_as}
 use borrow.Author.Rules.{rules}
@@ -14,11 +13,11 @@ pub returns-then-not-in_range : goal.returns-then-not-in_range
 unfolding read_from_as
 returns-then-not-in_range c =
     let start = c.args in
-    let none : in_range (indicators_of start.kind) start.b ≡ false = denied c.before.within_range.ensures c.if-not-in_range.true-raw in
+    let none : in_range (indicators_of start.kind) start.b ≡ false = sym c.in_range.ensures ∙ c.if-not-in_range.true in
     rw none refl
 
 pub read_fields-requires : goal.read_fields-requires
-read_fields-requires c = granted c.before.within_range.ensures c.if-not-in_range.false-raw
+read_fields-requires c = sym c.in_range.ensures ∙ c.if-not-in_range.false
 
 pub returns : goal.returns
 returns c = c.read_fields.ensures
