@@ -14,7 +14,7 @@ use Rattle.book.specs.Book.{in_range}
 use Rattle.ledger.specs.Calls.{apply, Outcome}
 use Rattle.history.proofs.Kept.{stays}
 use Rattle.fields.specs.Field.{Found, at_end, call_then, field_in}
-use Rattle.filing.specs.Reader.{Fields, field, followed, fields_from, Reached, reading, run}
+use Rattle.filing.specs.Reader.{Fields, followed, fields_from, Reached, reading, run}
 use Rattle.reader.specs.Steps.{Ready, Turned, stopped, advanced, stepped_on, stepped}
 use Rattle.fields.proofs.FieldLaws.{Stands, stands}
 use Rattle.filing.proofs.WalkLaws.{after, fields-next}

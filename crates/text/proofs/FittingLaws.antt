@@ -10,7 +10,6 @@ use borrow.Author.Tests.{lt-ltb, le-ltb}
 use Rattle.calls.specs.Answers.{refused_by, accepted, on_answer, first_of, number_of}
 use Rattle.calls.specs.Laws.{ToldApart}
 use Rattle.calls.proofs.SaidLaws.{numbers_apart}
-use Rattle.text.specs.declared.Filled.{Filled}
 use Rattle.text.specs.declared.Filled.TheVariants.{Bytes, Refused}
 use Rattle.text.specs.Buffer.{too_short, filled_said, put_into, buffer_after, fitting}
 use Rattle.text.specs.Steps.{with_text_at}

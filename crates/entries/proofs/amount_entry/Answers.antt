@@ -9,7 +9,6 @@ use Rattle.book.specs.Book.{figure_slot}
 use Rattle.entries.specs.Entries.{amount_at}
 use Rattle.entries.proofs.EntryLaws.{nothing-there, amount-there}
 use Prim.Native.Nat.{◌/◌, ◌%◌}
-use borrow.Author.Rules.{rules}
 use Rattle.entries.proofs.amount_entry.Goals as goal
 
 pub returns-then-value-eq0 : goal.returns-then-value-eq0

@@ -3,7 +3,6 @@
 use native.Mathlib.Omega.{arith}
 use Rattle.entries.proofs.PlaceLaws.{place-join, place-setting, place-amount, place-mark, place-index, place-rates}
 use Rattle.calls.specs.Indicators.{indicators_of}
-use borrow.Author.Rules.{rules}
 use Rattle.entries.proofs.entry_at.Goals as goal
 
 -- a join

@@ -6,7 +6,6 @@ use borrow.Author.Tests.{eq-eqb, ne_eqb}
 use Rattle.calls.specs.Limits.{fresh_index}
 use Rattle.entries.specs.Entries.{index_at}
 use Rattle.entries.proofs.EntryLaws.{nothing-there, index-there}
-use borrow.Author.Rules.{rules}
 use Rattle.entries.proofs.index_entry.Goals as goal
 
 pub returns-then-index-eq-FRESH_INDEX : goal.returns-then-index-eq-FRESH_INDEX

@@ -4,7 +4,6 @@ use mathlib.Core.Path.{◌≡◌, refl, sym, ◌∙◌}
 use mathlib.Core.Bool.{true, false}
 use Rattle.calls.specs.Masks.{has}
 use Rattle.calls.proofs.Flags.{and-true-right, and-false-right}
-use borrow.Author.Rules.{rules}
 use Rattle.entries.proofs.is_cleared.Goals as goal
 
 -- marked

@@ -3,7 +3,6 @@
 use mathlib.Core.Path.{refl, sym, ◌∙◌}
 use Rattle.entries.specs.Entries.{join_at}
 use Rattle.entries.proofs.EntryLaws.{nothing-there, join-there}
-use borrow.Author.Rules.{rules}
 use Rattle.entries.proofs.join_entry.Goals as goal
 
 pub returns-then-not-has_bit : goal.returns-then-not-has_bit

@@ -13,7 +13,6 @@ use Rattle.calls.specs.Indicators.{indicators_of, takes_mark}
 use Rattle.entries.specs.Entries.{mark_at}
 use Rattle.entries.proofs.EntryLaws.{nothing-there, mark-there}
 use Prim.Native.Nat.{ℕ, ◌/◌, ◌%◌}
-use borrow.Author.Rules.{rules}
 use Rattle.entries.proofs.mark_entry.Goals as goal
 use Rattle.entries.proofs.mark_entry.Goals.{After-is_cleared}
 

@@ -8,7 +8,6 @@ use Rattle.book.specs.Book.{setting_slot}
 use Rattle.entries.specs.Entries.{setting_at}
 use Rattle.entries.proofs.EntryLaws.{nothing-there, setting_there}
 use Prim.Native.Nat.{◌/◌, ◌%◌}
-use borrow.Author.Rules.{rules}
 use Rattle.entries.proofs.setting_entry.Goals as goal
 
 pub returns-then-value-eq0 : goal.returns-then-value-eq0

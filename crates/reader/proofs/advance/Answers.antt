@@ -2,7 +2,6 @@
 -- Assumes nothing.
 use mathlib.Core.Path.{◌≡◌, refl, sym, ap, ◌∙◌}
 use mathlib.Core.Bool.{true, false}
-use Rattle.book.specs.declared.Book.{Book}
 use Rattle.calls.specs.Answers.{is_refused}
 use Rattle.calls.specs.Indicators.{indicators_of}
 use Rattle.book.specs.Steps.{lent_book}
@@ -10,7 +9,6 @@ use Rattle.ledger.specs.Calls.{apply}
 use Rattle.filing.specs.Reader.{reached_by}
 use Rattle.reader.specs.Steps.{stopped, advanced}
 use Rattle.filing.proofs.WalkLaws.{refused-leaves}
-use borrow.Author.Rules.{rules}
 use Rattle.reader.proofs.advance.Goals as goal
 
 -- refused: the book stays

@@ -1,6 +1,5 @@
 -- `reader::is_refused` meets its contract.
 -- Assumes nothing.
-use borrow.Author.Rules.{rules}
 use mathlib.Core.Path.{refl}
 use Rattle.calls.specs.Answers.{on_answer, is_refused}
 use Rattle.reader.proofs.is_refused.Goals as goal

@@ -1,12 +1,12 @@
 -- `reader::read_fields` meets its contract.
 -- Assumes nothing.
 use Prim.Native.Nat.{◌<◌}
-use mathlib.Core.Path.{◌≡◌, refl, sym, ap, subst, ◌∙◌}
+use mathlib.Core.Path.{refl, sym, ap, subst, ◌∙◌}
 use Rattle.calls.specs.Indicators.{indicators_of}
 use Rattle.book.specs.Book.{book_with}
 use Rattle.filing.specs.Reader.{read_from_as}
 use Rattle.reader.specs.Steps.{Ready, Turned, told_turn}
-use Rattle.reader.proofs.StepLaws.{Continued, completed, remaining, remaining-more, completed-more, completed-stopped, step-completed, step_follows}
+use Rattle.reader.proofs.StepLaws.{completed, remaining, remaining-more, completed-more, completed-stopped, step-completed, step_follows}
 use borrow.Author.Rules.{rules}
 use Rattle.reader.proofs.read_fields.Goals as goal
 

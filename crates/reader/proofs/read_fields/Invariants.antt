@@ -1,13 +1,9 @@
 -- `reader::read_fields` meets its contract.
 -- Assumes nothing.
-use Prim.Native.Nat.{◌<◌}
-use mathlib.Core.Path.{◌≡◌, refl, sym, ap, subst, ◌∙◌}
 use Rattle.calls.specs.Indicators.{indicators_of}
 use Rattle.book.specs.Book.{book_with}
-use Rattle.filing.specs.Reader.{read_from_as}
-use Rattle.reader.specs.Steps.{Ready, Turned, told_turn}
-use Rattle.reader.proofs.StepLaws.{Continued, completed, remaining, remaining-more, completed-more, completed-stopped, step-completed, step_follows}
-use borrow.Author.Rules.{rules}
+use Rattle.reader.specs.Steps.{told_turn}
+use Rattle.reader.proofs.StepLaws.{Continued, remaining}
 use Rattle.reader.proofs.read_fields.Given as goal
 
 abbrev pub invariant-loop-turn : goal.invariant-loop-turn

@@ -5,7 +5,6 @@ use mathlib.Core.Bool.{false}
 use Rattle.calls.specs.Indicators.{indicators_of}
 use Rattle.book.specs.Book.{in_range}
 use Rattle.filing.specs.Reader.{read_from_as}
-use borrow.Author.Rules.{rules}
 use Rattle.reader.proofs.read_from_as.Goals as goal
 
 -- 5, of the book

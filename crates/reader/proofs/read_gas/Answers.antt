@@ -1,7 +1,6 @@
 -- `reader::read_gas` meets its contract.
 -- Assumes nothing.
 use Rattle.filing.specs.Reader.{read_as}
-use borrow.Author.Rules.{rules}
 use Rattle.reader.proofs.read_gas.Goals as goal
 
 pub returns : goal.returns

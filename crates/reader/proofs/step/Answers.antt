@@ -7,7 +7,6 @@ use Rattle.calls.specs.Answers.{on_answer}
 use Rattle.fields.specs.Field.{field_in, field_said}
 use Rattle.reader.specs.Steps.{stepped_on, stepped}
 use Rattle.fields.proofs.FieldLaws.{stands}
-use borrow.Author.Rules.{rules}
 use Rattle.reader.proofs.step.Goals as goal
 
 pub advance-requires : goal.advance-requires

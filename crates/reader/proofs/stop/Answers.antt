@@ -2,7 +2,6 @@
 -- Assumes nothing.
 use mathlib.Core.Path.{refl}
 use Rattle.reader.specs.Steps.{stopped}
-use borrow.Author.Rules.{rules}
 use Rattle.reader.proofs.stop.Goals as goal
 
 pub returns : goal.returns

@@ -1,7 +1,6 @@
 -- `text::magnitude` meets its contract.
 -- Assumes nothing.
 use Rattle.text.proofs.SignLaws.{opposite-fits, negative-size-fits, negative-size, other-size-fits}
-use borrow.Author.Rules.{rules}
 use Rattle.text.proofs.magnitude.Goals as goal
 
 pub overflow_sub-result : goal.overflow_sub-result

@@ -1,11 +1,8 @@
 -- `text::put_decimal` meets its contract. The loop's invariant: the last digits are stored, and those of the rest are to come.
 -- Assumes nothing.
-use mathlib.Core.Path.{◌≡◌, refl, ap}
-use Prim.Native.Nat.{ℕ, ◌+◌}
-use native.Mathlib.Omega.{arith}
-use lib.ListN.{length, length-set}
-use borrow.Author.Rules.{rules}
-use Rattle.text.proofs.StoredDigits.{Storing, storing-none, storing-room, storing-more, storing-last}
+use mathlib.Core.Path.{◌≡◌}
+use lib.ListN.{length}
+use Rattle.text.proofs.StoredDigits.{Storing}
 use Rattle.text.proofs.put_decimal.Given as goal
 
 abbrev pub invariant-loop-rest : goal.invariant-loop-rest

@@ -6,7 +6,6 @@ use lib.IntN.{nat_abs}
 use Rattle.text.specs.Text.{decimal}
 use Rattle.text.proofs.WrittenLaws.{room-first, room_after, put_then}
 use Rattle.text.proofs.SignLaws.{size-again, signed-negative, signed-other}
-use borrow.Author.Rules.{rules}
 use Rattle.text.proofs.put_signed.Goals as goal
 
 -- what is put stands first, so that a wrong byte is told before the room for it

@@ -1,12 +1,10 @@
 -- `text::put_word` meets its contract. The loop's invariant: the bytes passed are copied.
 -- Assumes nothing.
 use mathlib.Core.Path.{◌≡◌, refl, ◌∙◌}
-use Prim.Native.Nat.{◌-◌, ◌≤◌}
 use native.Mathlib.Numerals.{add-one}
 use native.Mathlib.Omega.{arith}
 use lib.ListN.{length, length-set}
-use lib.Seq.{paste, paste-zero, paste-suc}
-use borrow.Author.Rules.{rules}
+use lib.Seq.{paste-zero, paste-suc}
 use Rattle.text.proofs.WrittenLaws.{written-paste}
 use Rattle.text.proofs.put_word.Goals as goal
 

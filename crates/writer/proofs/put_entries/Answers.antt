@@ -1,13 +1,9 @@
 -- `writer::put_entries` meets its contract.
 -- Assumes nothing.
-use Prim.Native.Nat.{◌+◌, ◌*◌, ◌-◌, ◌≤◌}
 use mathlib.Core.Path.{◌≡◌, refl, ◌∙◌}
 use native.Mathlib.Omega.{arith}
-use lib.ListN.{length}
-use borrow.Author.Rules.{rules}
 use Rattle.calls.specs.Indicators.{indicators_of}
-use Rattle.book.specs.Book.{book_with}
-use Rattle.text.proofs.WrittenLaws.{Put, put-nothing, put_then, room_after}
+use Rattle.text.proofs.WrittenLaws.{put-nothing, put_then, room_after}
 use Rattle.text.proofs.FittingLaws.{written-front}
 use Rattle.writing.specs.Written.{written_as}
 use Rattle.entries.specs.Entries.{places}

@@ -1,17 +1,13 @@
 -- `writer::put_entries` meets its contract.
 -- Assumes nothing.
-use Prim.Native.Nat.{◌+◌, ◌*◌, ◌-◌, ◌≤◌}
-use mathlib.Core.Path.{◌≡◌, refl, ◌∙◌}
-use native.Mathlib.Omega.{arith}
+use Prim.Native.Nat.{◌-◌, ◌≤◌}
+use mathlib.Core.Path.{◌≡◌}
 use lib.ListN.{length}
-use borrow.Author.Rules.{rules}
 use Rattle.calls.specs.Indicators.{indicators_of}
 use Rattle.book.specs.Book.{book_with}
-use Rattle.text.proofs.WrittenLaws.{Put, put-nothing, put_then, room_after}
-use Rattle.text.proofs.FittingLaws.{written-front}
-use Rattle.writing.specs.Written.{written_as}
+use Rattle.text.proofs.WrittenLaws.{Put}
 use Rattle.entries.specs.Entries.{places}
-use Rattle.writer.proofs.SoFarLaws.{so_far, so-far-none, so-far-all, so-far-entry, room-more}
+use Rattle.writer.proofs.SoFarLaws.{so_far}
 use Rattle.writer.proofs.put_entries.Given as goal
 
 abbrev pub invariant-loop-place : goal.invariant-loop-place

@@ -1,7 +1,6 @@
 -- `writer::put_entry` meets its contract.
 -- Assumes nothing.
 use Rattle.text.proofs.WrittenLaws.{put-nothing}
-use borrow.Author.Rules.{rules}
 use Rattle.writer.proofs.put_entry.Goals as goal
 
 pub put_field-requires : goal.put_field-requires

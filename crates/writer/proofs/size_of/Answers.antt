@@ -1,6 +1,5 @@
 -- `writer::size_of` meets its contract.
 -- Assumes nothing.
-use borrow.Author.Rules.{rules}
 use Rattle.writer.proofs.size_of.Goals as goal
 
 pub field_size-requires : goal.field_size-requires

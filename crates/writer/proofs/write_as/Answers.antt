@@ -3,7 +3,6 @@
 use mathlib.Core.Path.{sym, ◌∙◌}
 use native.Mathlib.Omega.{arith}
 use Rattle.writer.proofs.AnswerLaws.{write-out-of-range, write-too-short, write-fits}
-use borrow.Author.Rules.{rules}
 use Rattle.writer.proofs.write_as.Goals as goal
 
 -- refused by 5

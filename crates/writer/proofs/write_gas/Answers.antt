@@ -1,6 +1,5 @@
 -- `writer::write_gas` meets its contract: its core does, at gas.
 -- Assumes nothing.
-use borrow.Author.Rules.{rules}
 use Rattle.writer.proofs.write_gas.Goals as goal
 
 pub returns : goal.returns

@@ -1,13 +1,9 @@
 -- `writer::written_size` meets its contract.
 -- Assumes nothing.
-use Prim.Native.Nat.{◌+◌, ◌*◌, ◌-◌, ◌≤◌}
 use mathlib.Core.Path.{◌≡◌, refl, ◌∙◌}
 use native.Mathlib.Omega.{arith}
-use lib.ListN.{length}
-use Rattle.calls.specs.Indicators.{indicators_of}
-use Rattle.book.specs.Book.{book_with}
 use Rattle.entries.specs.Entries.{places}
-use Rattle.writer.proofs.SoFarLaws.{so_far, so-far-none, so-far-all, size-more}
+use Rattle.writer.proofs.SoFarLaws.{so-far-none, so-far-all, size-more}
 use Rattle.writer.proofs.written_size.Goals as goal
 
 pub loop-place-init : goal.loop-place-init

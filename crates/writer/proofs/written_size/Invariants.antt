@@ -1,13 +1,12 @@
 -- `writer::written_size` meets its contract.
 -- Assumes nothing.
-use Prim.Native.Nat.{◌+◌, ◌*◌, ◌-◌, ◌≤◌}
-use mathlib.Core.Path.{◌≡◌, refl, ◌∙◌}
-use native.Mathlib.Omega.{arith}
+use Prim.Native.Nat.{◌*◌, ◌-◌, ◌≤◌}
+use mathlib.Core.Path.{◌≡◌}
 use lib.ListN.{length}
 use Rattle.calls.specs.Indicators.{indicators_of}
 use Rattle.book.specs.Book.{book_with}
 use Rattle.entries.specs.Entries.{places}
-use Rattle.writer.proofs.SoFarLaws.{so_far, so-far-none, so-far-all, size-more}
+use Rattle.writer.proofs.SoFarLaws.{so_far}
 use Rattle.writer.proofs.written_size.Given as goal
 
 abbrev pub invariant-loop-place : goal.invariant-loop-place

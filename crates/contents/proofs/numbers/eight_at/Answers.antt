@@ -3,7 +3,6 @@
 use Prim.Native.Nat.{◌+◌, ◌*◌}
 use mathlib.Core.Path.{◌∙◌}
 use Rattle.contents.proofs.NumberLaws.{unsigned-halves}
-use borrow.Author.Rules.{rules}
 use Rattle.contents.proofs.numbers.eight_at.Goals as goal
 
 pub returns : goal.returns

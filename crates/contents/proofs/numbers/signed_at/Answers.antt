@@ -5,7 +5,6 @@ use mir.Syntax.{w64}
 use mir.Val.{SFits}
 use Rattle.calls.proofs.Times.{back}
 use Rattle.contents.specs.Content.{twos_complement, signed}
-use borrow.Author.Rules.{rules}
 use Rattle.contents.proofs.numbers.signed_at.Goals as goal
 
 pub returns : goal.returns

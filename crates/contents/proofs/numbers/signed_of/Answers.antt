@@ -1,6 +1,5 @@
 -- `contents::numbers::signed_of` meets its contract.
 -- Assumes nothing.
-use borrow.Author.Rules.{rules}
 use native.Mathlib.Omega.{arith}
 use Rattle.contents.proofs.NumberLaws.{positive, negative_fits, negative-is}
 use Rattle.contents.proofs.numbers.signed_of.Goals as goal

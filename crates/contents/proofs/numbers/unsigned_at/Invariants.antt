@@ -1,12 +1,9 @@
 -- `contents::numbers::unsigned_at` meets its contract. The loop's invariant: the number is that of the bytes passed, and fits
 -- in as many bytes.
 -- Assumes nothing.
-use Prim.Native.Nat.{ℕ, ◌+◌, ◌-◌, ◌^◌, ◌≤◌, ◌<◌}
-use mathlib.Core.Path.{◌≡◌, refl}
-use native.Mathlib.Omega.{arith}
-use borrow.Author.Rules.{rules}
-use Rattle.contents.specs.Content.{big_endian, unsigned}
-use Rattle.contents.proofs.NumberLaws.{unsigned-more, power-more, power-fits}
+use Prim.Native.Nat.{◌-◌, ◌^◌, ◌≤◌, ◌<◌}
+use mathlib.Core.Path.{◌≡◌}
+use Rattle.contents.specs.Content.{unsigned}
 use Rattle.contents.proofs.numbers.unsigned_at.Given as goal
 
 abbrev pub invariant-loop-left : goal.invariant-loop-left

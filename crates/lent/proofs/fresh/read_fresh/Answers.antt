@@ -3,7 +3,6 @@
 use mathlib.Core.Path.{ap, ◌∙◌}
 use Rattle.book.specs.declared.Book.{Book}
 use Rattle.filing.specs.Reader.{read}
-use borrow.Author.Rules.{rules}
 use Rattle.lent.proofs.fresh.read_fresh.Goals as goal
 
 pub returns : goal.returns

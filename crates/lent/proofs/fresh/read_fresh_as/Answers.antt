@@ -2,7 +2,6 @@
 -- Assumes nothing.
 use mathlib.Core.Path.{sym, ◌∙◌}
 use Rattle.calls.proofs.KindLaws.{with-interruptions, without-interruptions}
-use borrow.Author.Rules.{rules}
 use Rattle.lent.proofs.fresh.read_fresh_as.Goals as goal
 
 pub returns-then-takes_interruptions : goal.returns-then-takes_interruptions
