@@ -6,8 +6,8 @@ use native.Mathlib.Omega.{arith}
 use Rattle.values.specs.Operators.{count}
 use Rattle.indicators.specs.Points.{is_better}
 use Rattle.values.proofs.CountLaws.{count-more, count-le}
-use mathlib.Core.Logic.{⊎_elim}
 use Rattle.indicators.proofs.interruptions.count_better.Goals as goal
+use Rattle.indicators.proofs.interruptions.count_better.Goals.{then-is_better, else-is_better}
 
 pub loop-i-init : goal.loop-i-init
 unfolding count
@@ -25,10 +25,10 @@ loop-i-preserved c =
     let here = c.loop-i in
     let test = is_better c.args.mask c.args.scores in
     let found : c.is_better.result ≡ test here.i = rw c.requires.1 at c.is_better.ensures in
-    ⊎_elim
-    (λ w. (omega arith, w.1 ∙ (rw (count-more here.i test, ← found, w.0.taken) (omega arith))))
-    (λ w. (omega arith, w.1 ∙ (rw (count-more here.i test, ← found, w.0.left) (omega arith))))
-    c.if-is_better.branch
+    elim c.if-is_better.branch [
+      | then-is_better w ↦ (omega arith, w.g-is ∙ (rw (count-more here.i test, ← found, w.if-is_better.true) (omega arith)))
+      | else-is_better w ↦ (omega arith, w.g-is ∙ (rw (count-more here.i test, ← found, w.if-is_better.false) (omega arith)))
+    ]
 
 pub returns : goal.returns
 returns c =

@@ -9,13 +9,14 @@ use Rattle.indicators.specs.Steps.{ScoresWithin}
 use Rattle.indicators.specs.Sequence.{thousandths, exponent_weights, levelled_weights, in_sequence}
 use Rattle.indicators.proofs.SequenceLaws.{thousandths-most, own_most}
 use Rattle.indicators.proofs.interruptions.interruption_weights.Goals as goal
+use Rattle.indicators.proofs.interruptions.interruption_weights.Goals.{After-yearly_values-values, After-sums_of_years-sums}
 
 -- what the results of the first two steps are within
-years-known : (m : tie.After-yearly-values) → YearsWithin m.yearly-values.result
-years-known m = lent-within m.before.requires.0 m.before.requires.1 m.yearly-values.ensures
+years-known : (m : After-yearly_values-values) → YearsWithin m.yearly_values-values.result
+years-known m = lent-within m.requires.0 m.requires.1 m.yearly_values-values.ensures
 
-sums-known : (m : tie.After-sums-of-years) → ScoresWithin m.sums-of-years.result
-sums-known m = rw m.sums-of-years.ensures (sums_within _ _ (years-known m.before))
+sums-known : (m : After-sums_of_years-sums) → ScoresWithin m.sums_of_years-sums.result
+sums-known m = rw m.sums_of_years-sums.ensures (sums_within _ _ (lent-within m.requires.0 m.requires.1 m.yearly_values-values.ensures))
 
 pub returns : goal.returns
 unfolding in_sequence
@@ -28,14 +29,14 @@ returns c =
     c.level.ensures ∙ (λ i. levelled_weights (taking i) (sums i) (own i))
 
 pub sums_of_years-sums-requires : goal.sums_of_years-sums-requires
-sums_of_years-sums-requires c = years-known c
+sums_of_years-sums-requires c = years-known (goal.at.sums_of_years-sums-requires c).After-yearly_values-values
 
 pub thousandths_of-thousandths-requires : goal.thousandths_of-thousandths-requires
-thousandths_of-thousandths-requires c = sums-known c
+thousandths_of-thousandths-requires c = sums-known (goal.at.thousandths_of-thousandths-requires c).After-sums_of_years-sums
 
 pub exponent_weights-weights-requires : goal.exponent_weights-weights-requires
 exponent_weights-weights-requires c = rw c.thousandths_of-thousandths.ensures (thousandths-most _)
 
 pub level-requires : goal.level-requires
 level-requires c =
-    record { sums_within = sums-known c.before.before; own_most = rw c.exponent_weights-weights.ensures (own_most _) }
+    record { sums_within = sums-known (goal.at.level-requires c).After-sums_of_years-sums; own_most = rw c.exponent_weights-weights.ensures (own_most _) }

@@ -13,11 +13,8 @@ use Rattle.values.specs.Bounds.{score_most}
 use Rattle.values.proofs.Tables.{Filling, filling-none, filling-more, filling-each}
 use Rattle.indicators.specs.Points.{is_better, levelled}
 use Rattle.indicators.specs.Sequence.{levelled_weights}
+use Rattle.indicators.proofs.interruptions.level.Invariants.{levelled_at}
 use Rattle.indicators.proofs.interruptions.level.Goals as goal
-
--- an operator's weight, and 0 for one that takes no part
-abbrev levelled_at : ℕ → List ℕ → List ℕ → ℕ → ℕ
-levelled_at mask sums own operator = cond (has mask operator) (levelled (is_better mask sums) (λ (other : ℕ). get_or own other 0) operator) 0
 
 pub sum_of-sum-requires : goal.sum_of-sum-requires
 sum_of-sum-requires c =

@@ -15,6 +15,10 @@ use Rattle.indicators.specs.Points.{is_better, levelled}
 use Rattle.indicators.specs.Sequence.{levelled_weights}
 use Rattle.indicators.proofs.interruptions.level.Given as goal
 
+-- an operator's weight, and 0 for one that takes no part
+abbrev pub levelled_at : ℕ → List ℕ → List ℕ → ℕ → ℕ
+levelled_at mask sums own operator = cond (has mask operator) (levelled (is_better mask sums) (λ (other : ℕ). get_or own other 0) operator) 0
+
 abbrev pub invariant-loop-i : goal.invariant-loop-i
 invariant-loop-i l = Filling (levelled_at l.mask l.sums l.own) l.i l.weights
 

@@ -11,11 +11,8 @@ use Rattle.values.proofs.Tables.{Filling, filling-none, filling-more, filling-ea
 use Rattle.exponent.specs.Weight.{first_weight}
 use Rattle.values.proofs.CountLaws.{cond-le}
 use mathlib.Core.List.{List}
+use Rattle.indicators.proofs.interruptions.weigh_better.Invariants.{counted}
 use Rattle.indicators.proofs.interruptions.weigh_better.Goals as goal
-
--- an operator's weight if it is better
-abbrev counted : ℕ → List ℕ → List ℕ → ℕ → ℕ
-counted mask scores own operator = cond (is_better mask scores operator) (get_or own operator 0) 0
 
 pub loop-i-init : goal.loop-i-init
 loop-i-init c = filling-none _ _ refl

@@ -13,6 +13,10 @@ use Rattle.values.proofs.CountLaws.{cond-le}
 use mathlib.Core.List.{List}
 use Rattle.indicators.proofs.interruptions.weigh_better.Given as goal
 
+-- an operator's weight if it is better
+abbrev pub counted : ℕ → List ℕ → List ℕ → ℕ → ℕ
+counted mask scores own operator = cond (is_better mask scores operator) (get_or own operator 0) 0
+
 abbrev pub invariant-loop-i : goal.invariant-loop-i
 invariant-loop-i l = Filling (counted l.mask l.scores l.own) l.i l.counted
 

@@ -13,11 +13,8 @@ use Rattle.calls.specs.Masks.{has}
 use Rattle.values.proofs.Tables.{Filling, filling-none, filling-more, filling-each}
 use Rattle.indicators.proofs.Largest.{largest-ge, largest-le}
 use Rattle.indicators.proofs.Weighting.{linear-same}
+use Rattle.indicators.proofs.weights.linear_weights.Invariants.{linear_at}
 use Rattle.indicators.proofs.weights.linear_weights.Goals as goal
-
--- an operator's weight, and 0 for one that takes no part
-abbrev linear_at : ℕ → List ℕ → ℕ → ℕ
-linear_at mask scores operator = cond (has mask operator) (linear_weight scores operator) 0
 
 pub loop-i-init : goal.loop-i-init
 loop-i-init c = filling-none _ _ refl

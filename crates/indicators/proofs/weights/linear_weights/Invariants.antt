@@ -15,6 +15,10 @@ use Rattle.indicators.proofs.Largest.{largest-ge, largest-le}
 use Rattle.indicators.proofs.Weighting.{linear-same}
 use Rattle.indicators.proofs.weights.linear_weights.Given as goal
 
+-- an operator's weight, and 0 for one that takes no part
+abbrev pub linear_at : ℕ → List ℕ → ℕ → ℕ
+linear_at mask scores operator = cond (has mask operator) (linear_weight scores operator) 0
+
 abbrev pub invariant-loop-i : goal.invariant-loop-i
 invariant-loop-i l = Filling (linear_at l.mask l.scores) l.i l.weights
 
