@@ -17,7 +17,7 @@ use Rattle.values.specs.Indicator.{reliable_mask, scores}
 use Rattle.values.specs.Sequence.{sums_of_years}
 use Rattle.values.proofs.Tables.{each_at, each_same, each-le}
 use Rattle.values.proofs.Scores.{scores-in-turn}
-use Rattle.indicators.specs.Points.{largest, normalised, exponent_weight, is_better, levelled, is_levelled, weights, points}
+use Rattle.indicators.specs.Points.{largest, normalised, exponent_weight, levelled, is_levelled, weights, points}
 use Rattle.indicators.specs.Sequence.{thousandths, exponent_weights, levelled_weights, in_sequence}
 use Rattle.indicators.specs.Laws.{sums_in, InSequence}
 use Rattle.indicators.proofs.WeightLaws.{over-most, normalised-most}

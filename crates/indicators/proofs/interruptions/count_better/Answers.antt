@@ -1,7 +1,6 @@
 -- `indicators::interruptions::count_better` meets its contract: g counts the better among the operators passed.
 -- Assumes nothing.
 use mathlib.Core.Path.{◌≡◌, refl, ◌∙◌}
-use Prim.Native.Nat.{◌-◌, ◌≤◌}
 use native.Mathlib.Omega.{arith}
 use Rattle.values.specs.Operators.{count}
 use Rattle.indicators.specs.Points.{is_better}

@@ -1,12 +1,9 @@
 -- `indicators::interruptions::count_better` meets its contract: g counts the better among the operators passed.
 -- Assumes nothing.
-use mathlib.Core.Path.{◌≡◌, refl, ◌∙◌}
+use mathlib.Core.Path.{◌≡◌}
 use Prim.Native.Nat.{◌-◌, ◌≤◌}
-use native.Mathlib.Omega.{arith}
 use Rattle.values.specs.Operators.{count}
 use Rattle.indicators.specs.Points.{is_better}
-use Rattle.values.proofs.CountLaws.{count-more, count-le}
-use mathlib.Core.Logic.{⊎_elim}
 use Rattle.indicators.proofs.interruptions.count_better.Given as goal
 
 abbrev pub invariant-loop-i : goal.invariant-loop-i

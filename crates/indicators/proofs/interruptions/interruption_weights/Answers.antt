@@ -1,6 +1,5 @@
 -- `indicators::interruptions::interruption_weights` meets its contract: each step's result is the defined one of the results before it.
 -- Assumes nothing.
-use borrow.Author.Rules.{rules}
 use mathlib.Core.Path.{◌∙◌, ap}
 use Rattle.values.specs.Sequence.{sums_of_years}
 use Rattle.values.specs.Steps.{YearsWithin}

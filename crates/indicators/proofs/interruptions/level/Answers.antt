@@ -2,15 +2,11 @@
 -- Assumes nothing.
 use borrow.Author.Rules.{rules}
 use mathlib.Core.Path.{◌≡◌, refl}
-use mathlib.Core.Bool.{cond}
-use mathlib.Core.List.{List}
-use Prim.Native.Nat.{ℕ, ◌-◌}
 use native.Mathlib.Omega.{arith}
-use lib.ListN.{length, get_or}
-use Rattle.calls.specs.Masks.{has}
+use lib.ListN.{length}
 use Rattle.apportion.proofs.Sums.{sum_bound}
 use Rattle.values.specs.Bounds.{score_most}
-use Rattle.values.proofs.Tables.{Filling, filling-none, filling-more, filling-each}
+use Rattle.values.proofs.Tables.{filling-none, filling-more, filling-each}
 use Rattle.indicators.specs.Points.{is_better, levelled}
 use Rattle.indicators.specs.Sequence.{levelled_weights}
 use Rattle.indicators.proofs.interruptions.level.Invariants.{levelled_at}

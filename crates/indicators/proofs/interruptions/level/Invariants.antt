@@ -1,18 +1,12 @@
 -- `indicators::interruptions::level` meets its contract: the operators passed have their weights.
 -- Assumes nothing.
-use borrow.Author.Rules.{rules}
-use mathlib.Core.Path.{◌≡◌, refl}
 use mathlib.Core.Bool.{cond}
 use mathlib.Core.List.{List}
 use Prim.Native.Nat.{ℕ, ◌-◌}
-use native.Mathlib.Omega.{arith}
-use lib.ListN.{length, get_or}
+use lib.ListN.{get_or}
 use Rattle.calls.specs.Masks.{has}
-use Rattle.apportion.proofs.Sums.{sum_bound}
-use Rattle.values.specs.Bounds.{score_most}
-use Rattle.values.proofs.Tables.{Filling, filling-none, filling-more, filling-each}
+use Rattle.values.proofs.Tables.{Filling}
 use Rattle.indicators.specs.Points.{is_better, levelled}
-use Rattle.indicators.specs.Sequence.{levelled_weights}
 use Rattle.indicators.proofs.interruptions.level.Given as goal
 
 -- an operator's weight, and 0 for one that takes no part

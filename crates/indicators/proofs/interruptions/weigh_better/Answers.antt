@@ -1,16 +1,13 @@
 -- `indicators::interruptions::weigh_better` meets its contract: the operators passed hold their weight if they are better.
 -- Assumes nothing.
 use mathlib.Core.Path.{◌≡◌, refl, ◌∙◌, ap}
-use Prim.Native.Nat.{ℕ, ◌-◌, zero-le}
+use Prim.Native.Nat.{zero-le}
 use native.Mathlib.Omega.{arith}
-use lib.ListN.{get_or}
-use mathlib.Core.Bool.{cond}
 use Rattle.apportion.specs.Sum.{sum}
 use Rattle.indicators.specs.Points.{is_better}
-use Rattle.values.proofs.Tables.{Filling, filling-none, filling-more, filling-each, sum-each-le}
+use Rattle.values.proofs.Tables.{filling-none, filling-more, filling-each, sum-each-le}
 use Rattle.exponent.specs.Weight.{first_weight}
 use Rattle.values.proofs.CountLaws.{cond-le}
-use mathlib.Core.List.{List}
 use Rattle.indicators.proofs.interruptions.weigh_better.Invariants.{counted}
 use Rattle.indicators.proofs.interruptions.weigh_better.Goals as goal
 

@@ -1,15 +1,10 @@
 -- `indicators::interruptions::weigh_better` meets its contract: the operators passed hold their weight if they are better.
 -- Assumes nothing.
-use mathlib.Core.Path.{◌≡◌, refl, ◌∙◌, ap}
-use Prim.Native.Nat.{ℕ, ◌-◌, zero-le}
-use native.Mathlib.Omega.{arith}
+use Prim.Native.Nat.{ℕ, ◌-◌}
 use lib.ListN.{get_or}
 use mathlib.Core.Bool.{cond}
-use Rattle.apportion.specs.Sum.{sum}
 use Rattle.indicators.specs.Points.{is_better}
-use Rattle.values.proofs.Tables.{Filling, filling-none, filling-more, filling-each, sum-each-le}
-use Rattle.exponent.specs.Weight.{first_weight}
-use Rattle.values.proofs.CountLaws.{cond-le}
+use Rattle.values.proofs.Tables.{Filling}
 use mathlib.Core.List.{List}
 use Rattle.indicators.proofs.interruptions.weigh_better.Given as goal
 

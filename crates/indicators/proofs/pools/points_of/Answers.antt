@@ -12,7 +12,6 @@ use Rattle.values.specs.Indicator.{numbered, reliable_mask, scores}
 use Rattle.values.proofs.InRange.{of-lent}
 use Rattle.indicators.specs.Points.{weights, points}
 use Rattle.indicators.proofs.WeightLaws.{levelled_most, weights-sum-most}
-use borrow.Author.Rules.{rules}
 use Rattle.indicators.proofs.pools.points_of.Goals as goal
 
 pub share-requires : goal.share-requires

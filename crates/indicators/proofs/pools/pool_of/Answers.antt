@@ -4,7 +4,6 @@ use mathlib.Core.Path.{refl, ◌∙◌}
 use native.Mathlib.Omega.{arith}
 use native.Mathlib.Nat.{mul-le-mul}
 use Rattle.values.specs.Indicator.{pool}
-use borrow.Author.Rules.{rules}
 use Rattle.indicators.proofs.pools.pool_of.Goals as goal
 
 pub overflow_mul-points_a_year-2 : goal.overflow_mul-points_a_year-2

@@ -1,7 +1,6 @@
 -- `indicators::pools::weights_of` meets its contract.
 -- Assumes nothing.
 use mathlib.Core.Path.{◌∙◌}
-use borrow.Author.Rules.{rules}
 use borrow.Author.Tests.{lt-ltb, le-ltb}
 use Rattle.book.specs.declared.Book.{Book}
 use Rattle.values.specs.Indicator.{numbered, scores}
