@@ -1,7 +1,6 @@
 -- The definitions of `values`, and of the crates that they rest on, opened by one name, for cases that are computed.
 -- Assumes nothing.
 use Rattle.exact.specs.Division.{over}
-use Rattle.calls.specs.Indicators.{electricity}
 use Rattle.values.specs.Indicator.{count_or_one, fee_divisor, yearly_value, three_years, reliable_mask, scores, pool, numbered, numbered_in}
 use Rattle.values.specs.Sequence.{values_by_year, sums_of_years}
 use Rattle.values.specs.Operators.{table, each, count, any}

@@ -2,11 +2,7 @@
 -- Assumes nothing.
 use native.Mathlib.Omega.{arith}
 use mathlib.Core.Path.{refl}
-use Prim.Native.Nat.{ℕ, ◌-◌}
-use lib.ListN.{get_or}
-use borrow.Author.Rules.{rules}
-use Rattle.values.specs.Indicator.{count_or_one}
-use Rattle.values.proofs.Tables.{Filling, filling-none, filling-more, filling-each}
+use Rattle.values.proofs.Tables.{filling-none, filling-more, filling-each}
 use Rattle.values.proofs.counts_or_one.Goals as goal
 
 pub loop-i-init : goal.loop-i-init

@@ -1,12 +1,9 @@
 -- `values::counts_or_one` meets its contract. The loop's invariant: the places passed hold their counts, or 1.
 -- Assumes nothing.
-use native.Mathlib.Omega.{arith}
-use mathlib.Core.Path.{refl}
 use Prim.Native.Nat.{ℕ, ◌-◌}
 use lib.ListN.{get_or}
-use borrow.Author.Rules.{rules}
 use Rattle.values.specs.Indicator.{count_or_one}
-use Rattle.values.proofs.Tables.{Filling, filling-none, filling-more, filling-each}
+use Rattle.values.proofs.Tables.{Filling}
 use Rattle.values.proofs.counts_or_one.Given as goal
 
 abbrev pub invariant-loop-i : goal.invariant-loop-i

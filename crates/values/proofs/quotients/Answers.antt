@@ -1,12 +1,8 @@
 -- `values::quotients` meets its contract. The loop's invariant: the places passed hold their quotients.
 -- Assumes nothing.
-use borrow.Author.Rules.{rules}
 use native.Mathlib.Omega.{arith}
-use Rattle.values.proofs.Tables.{Filling, filling-none, filling-more, filling-each}
+use Rattle.values.proofs.Tables.{filling-none, filling-more, filling-each}
 use mathlib.Core.Path.{refl}
-use Prim.Native.Nat.{ℕ, ◌*◌, ◌-◌}
-use lib.ListN.{get_or}
-use Rattle.exact.specs.Division.{over}
 use Rattle.values.proofs.quotients.Goals as goal
 
 pub loop-i-init : goal.loop-i-init

@@ -1,9 +1,6 @@
 -- `values::quotients` meets its contract. The loop's invariant: the places passed hold their quotients.
 -- Assumes nothing.
-use borrow.Author.Rules.{rules}
-use native.Mathlib.Omega.{arith}
-use Rattle.values.proofs.Tables.{Filling, filling-none, filling-more, filling-each}
-use mathlib.Core.Path.{refl}
+use Rattle.values.proofs.Tables.{Filling}
 use Prim.Native.Nat.{ℕ, ◌*◌, ◌-◌}
 use lib.ListN.{get_or}
 use Rattle.exact.specs.Division.{over}

@@ -4,7 +4,6 @@ use mathlib.Core.Path.{ap}
 use lib.Bits.{bit_and}
 use Rattle.values.specs.Indicator.{reliable_mask}
 use Rattle.values.proofs.Numbered.{number_of}
-use borrow.Author.Rules.{rules}
 use Rattle.values.proofs.reliable_mask.Goals as goal
 
 pub returns : goal.returns

@@ -1,6 +1,5 @@
 -- `values::scores_of` meets its contract: the first two steps in turn are the scores.
 -- Assumes nothing.
-use borrow.Author.Rules.{rules}
 use mathlib.Core.Path.{◌∙◌}
 use Rattle.values.specs.Indicator.{numbered}
 use Rattle.values.proofs.Scores.{lent-within, scores-in-turn}

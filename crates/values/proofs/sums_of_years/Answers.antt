@@ -2,12 +2,8 @@
 -- Assumes nothing.
 use native.Mathlib.Omega.{arith}
 use mathlib.Core.Path.{refl}
-use mathlib.Core.Bool.{cond}
-use Prim.Native.Nat.{ℕ, ◌+◌, ◌-◌}
-use lib.ListN.{get_or}
-use Rattle.calls.specs.Masks.{has}
 use Rattle.values.specs.Sequence.{sums_of_years}
-use Rattle.values.proofs.Tables.{Filling, filling-none, filling-more, filling-each}
+use Rattle.values.proofs.Tables.{filling-none, filling-more, filling-each}
 use Rattle.values.proofs.sums_of_years.Goals as goal
 
 pub loop-i-init : goal.loop-i-init

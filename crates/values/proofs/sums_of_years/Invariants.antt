@@ -1,13 +1,10 @@
 -- `values::sums_of_years` meets its contract. The loop's invariant: the places passed hold their sums.
 -- Assumes nothing.
-use native.Mathlib.Omega.{arith}
-use mathlib.Core.Path.{refl}
 use mathlib.Core.Bool.{cond}
 use Prim.Native.Nat.{ℕ, ◌+◌, ◌-◌}
 use lib.ListN.{get_or}
 use Rattle.calls.specs.Masks.{has}
-use Rattle.values.specs.Sequence.{sums_of_years}
-use Rattle.values.proofs.Tables.{Filling, filling-none, filling-more, filling-each}
+use Rattle.values.proofs.Tables.{Filling}
 use Rattle.values.proofs.sums_of_years.Given as goal
 
 abbrev pub invariant-loop-i : goal.invariant-loop-i

@@ -1,6 +1,5 @@
 -- `values::yearly_values` meets its contract.
 -- Assumes nothing.
-use borrow.Author.Rules.{rules}
 use Rattle.values.specs.Sequence.{values_by_year}
 use Rattle.values.proofs.yearly_values.Goals as goal
 

@@ -4,7 +4,6 @@ use mathlib.Core.Path.{refl}
 use native.Mathlib.Omega.{arith}
 use Rattle.calls.proofs.Flags.{denied, granted}
 use native.Mathlib.Nat.{mul-le-mul}
-use borrow.Author.Rules.{rules}
 use Rattle.weighing.proofs.is_better.Goals as goal
 
 pub returns-then-not-has_bit : goal.returns-then-not-has_bit

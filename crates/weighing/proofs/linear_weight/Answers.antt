@@ -2,7 +2,6 @@
 -- Assumes nothing.
 use mathlib.Core.Path.{refl}
 use Rattle.calls.proofs.Flags.{denied, granted}
-use borrow.Author.Rules.{rules}
 use Rattle.weighing.proofs.linear_weight.Goals as goal
 
 pub returns-then-not-has_bit : goal.returns-then-not-has_bit

@@ -6,7 +6,6 @@ use native.Mathlib.Omega.{arith}
 use borrow.Author.Tests.{eq-eqb, ne_eqb}
 use Rattle.exact.specs.Division.{over}
 use native.Mathlib.Nat.{mul-le-mul_left, div-le_of_le-mul}
-use borrow.Author.Rules.{rules}
 use Rattle.weighing.proofs.normalise.Goals as goal
 
 pub returns-then-top-eq0 : goal.returns-then-top-eq0

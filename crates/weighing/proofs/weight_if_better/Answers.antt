@@ -1,7 +1,6 @@
 -- `weighing::weight_if_better` meets its contract.
 -- Assumes nothing.
 use mathlib.Core.Path.{refl}
-use borrow.Author.Rules.{rules}
 use Rattle.weighing.proofs.weight_if_better.Goals as goal
 
 pub returns-then-is_better : goal.returns-then-is_better

@@ -1,11 +1,9 @@
 -- `values::columns::figures_of` meets its contract. The loop's invariant: the places passed hold their operator's value.
 -- Assumes nothing.
 use Prim.Native.Nat.{ℕ, ◌-◌}
-use mathlib.Core.Path.{refl}
-use native.Mathlib.Omega.{arith}
 use lib.ListN.{get_or}
-use Rattle.book.specs.Book.{figure_of, figure_slot}
-use Rattle.values.proofs.Tables.{Filling, filling-none, filling-more, filling-each}
+use Rattle.book.specs.Book.{figure_slot}
+use Rattle.values.proofs.Tables.{Filling}
 use Rattle.values.proofs.columns.figures_of.Given as goal
 
 abbrev pub invariant-loop-operator : goal.invariant-loop-operator
