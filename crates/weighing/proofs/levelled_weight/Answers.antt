@@ -1,19 +1,18 @@
 -- `weighing::levelled_weight` meets its contract.
 -- Assumes nothing.
-use mathlib.Core.Path.{refl}
+use mathlib.Core.Path.{refl, sym, ◌∙◌}
 use native.Mathlib.Omega.{arith}
 use borrow.Author.Tests.{eq-eqb, ne_eqb}
-use Rattle.calls.proofs.Flags.{denied, granted}
 use native.Mathlib.Nat.{mul-le-mul}
 use Rattle.weighing.proofs.levelled_weight.Goals as goal
 
 -- takes no part
 pub returns-then-not-has_bit : goal.returns-then-not-has_bit
-returns-then-not-has_bit c = rw (denied c.has_bit.ensures c.if-not-has_bit.true-raw) refl
+returns-then-not-has_bit c = rw (sym c.has_bit.ensures ∙ c.if-not-has_bit.true) refl
 
 -- nobody is better
 pub returns-then-g-eq0 : goal.returns-then-g-eq0
-returns-then-g-eq0 c = rw (granted c.has_bit.ensures c.if-not-has_bit.false-raw, eq-eqb _ _ c.if-g-eq0.true) refl
+returns-then-g-eq0 c = rw (sym c.has_bit.ensures ∙ c.if-not-has_bit.false, eq-eqb _ _ c.if-g-eq0.true) refl
 
 -- one of the better
 pub returns-then-is_better : goal.returns-then-is_better
@@ -21,7 +20,7 @@ returns-then-is_better c =
     rw (
       ← c.is_better.ensures,
       c.if-is_better.true,
-      granted c.has_bit.ensures c.if-not-has_bit.false-raw,
+      sym c.has_bit.ensures ∙ c.if-not-has_bit.false,
       ne_eqb _ _ c.if-g-eq0.false,
     )
     refl
@@ -37,7 +36,7 @@ returns c =
     rw (
       ← c.is_better.ensures,
       c.if-is_better.false,
-      granted c.has_bit.ensures c.if-not-has_bit.false-raw,
+      sym c.has_bit.ensures ∙ c.if-not-has_bit.false,
       ne_eqb _ _ c.if-g-eq0.false,
     )
     refl
