@@ -1,10 +1,8 @@
 -- `gathering::add` meets its contract: the operators passed hold their sums.
 -- Assumes nothing.
 use mathlib.Core.Path.{refl}
-use Prim.Native.Nat.{◌+◌, ◌-◌}
 use native.Mathlib.Omega.{arith}
-use lib.ListN.{get_or}
-use Rattle.values.proofs.Tables.{Filling, filling-none, filling-more, filling-each}
+use Rattle.values.proofs.Tables.{filling-none, filling-more, filling-each}
 use Rattle.gathering.proofs.add.Goals as goal
 
 pub loop-i-init : goal.loop-i-init

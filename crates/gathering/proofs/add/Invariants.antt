@@ -1,10 +1,8 @@
 -- `gathering::add` meets its contract: the operators passed hold their sums.
 -- Assumes nothing.
-use mathlib.Core.Path.{refl}
 use Prim.Native.Nat.{◌+◌, ◌-◌}
-use native.Mathlib.Omega.{arith}
 use lib.ListN.{get_or}
-use Rattle.values.proofs.Tables.{Filling, filling-none, filling-more, filling-each}
+use Rattle.values.proofs.Tables.{Filling}
 use Rattle.gathering.proofs.add.Given as goal
 
 abbrev pub invariant-loop-i : goal.invariant-loop-i

@@ -1,14 +1,10 @@
 -- `gathering::gather` meets its contract.
 -- Assumes nothing.
 use mathlib.Core.Path.{◌≡◌}
-use Prim.Native.Nat.{◌-◌, ◌≤◌}
 use native.Mathlib.Omega.{arith}
 use Rattle.calls.specs.Limits.{indicator_count}
-use Rattle.calls.specs.Indicators.{indicators_of}
-use Rattle.book.specs.declared.Book.{Book}
-use Rattle.values.specs.Parts.{HasMarks, HasMeasures}
 use Rattle.values.proofs.InRange.{lending, lending-marked, lending-measured}
-use Rattle.gathering.proofs.Gathering.{Gathers, gathers-none, gathers-more, gathers-all}
+use Rattle.gathering.proofs.Gathering.{gathers-none, gathers-more, gathers-all}
 use Rattle.gathering.proofs.gather.Goals as goal
 
 pub loop-number-init : goal.loop-number-init

@@ -10,7 +10,6 @@ use Rattle.values.specs.Bounds.{pool_most}
 use Rattle.values.proofs.InRange.{of-lent}
 use Rattle.indicators.specs.Points.{points_numbered}
 use Rattle.gathering.proofs.Gathering.{numbered-le}
-use borrow.Author.Rules.{rules}
 use Rattle.gathering.proofs.gather_one.Goals as goal
 
 pub add-totals-requires : goal.add-totals-requires

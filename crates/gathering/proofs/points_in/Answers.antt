@@ -3,17 +3,16 @@
 use mathlib.Core.Path.{sym, ◌∙◌}
 use mathlib.Core.Bool.{true, false}
 use borrow.Author.Rules.{rules}
-use Rattle.calls.proofs.Flags.{denied, granted}
 use Rattle.gathering.proofs.Gathering.{points-of-kind}
 use Rattle.gathering.proofs.points_in.Goals as goal
 
 pub returns-then-not-takes_mark : goal.returns-then-not-takes_mark
 returns-then-not-takes_mark c = λ b marked measured.
     let start = c.args in
-    sym (points-of-kind b start.kind start.number (search rules) false (denied c.takes_mark.ensures c.if-not-takes_mark.true-raw))
+    sym (points-of-kind b start.kind start.number (search rules) false (sym c.takes_mark.ensures ∙ c.if-not-takes_mark.true))
 
 pub returns : goal.returns
 returns c = λ b marked measured.
     let start = c.args in
     c.points_of.ensures b marked measured
-    ∙ sym (points-of-kind b start.kind start.number (search rules) true (granted c.takes_mark.ensures c.if-not-takes_mark.false-raw))
+    ∙ sym (points-of-kind b start.kind start.number (search rules) true (sym c.takes_mark.ensures ∙ c.if-not-takes_mark.false))

@@ -3,17 +3,16 @@
 use mathlib.Core.Path.{sym, ◌∙◌}
 use mathlib.Core.Bool.{true, false}
 use borrow.Author.Rules.{rules}
-use Rattle.calls.proofs.Flags.{denied, granted}
 use Rattle.gathering.proofs.Gathering.{pool-of-kind}
 use Rattle.gathering.proofs.pool_in.Goals as goal
 
 pub returns-then-not-takes_mark : goal.returns-then-not-takes_mark
 returns-then-not-takes_mark c = λ b marked.
     let start = c.args in
-    sym (pool-of-kind b start.kind start.number (search rules) false (denied c.takes_mark.ensures c.if-not-takes_mark.true-raw))
+    sym (pool-of-kind b start.kind start.number (search rules) false (sym c.takes_mark.ensures ∙ c.if-not-takes_mark.true))
 
 pub returns : goal.returns
 returns c = λ b marked.
     let start = c.args in
     c.pool_of.ensures.0 b marked
-    ∙ sym (pool-of-kind b start.kind start.number (search rules) true (granted c.takes_mark.ensures c.if-not-takes_mark.false-raw))
+    ∙ sym (pool-of-kind b start.kind start.number (search rules) true (sym c.takes_mark.ensures ∙ c.if-not-takes_mark.false))
