@@ -7,7 +7,6 @@ use Rattle.apportion.specs.Sum.{sum}
 use native.Mathlib.Omega.{arith}
 use Rattle.money.specs.Money.{balanced, adjusted_by}
 use Rattle.money.proofs.Amounts.{cut-sum-le, balanced-le}
-use borrow.Author.Rules.{rules}
 use Rattle.money.proofs.adjust.Goals as goal
 
 pub balanced_side-gains-requires : goal.balanced_side-gains-requires

@@ -6,7 +6,6 @@ use native.Mathlib.Omega.{arith}
 use borrow.Author.Tests.{lt-ltb, le-ltb}
 use Rattle.apportion.specs.Sum.{sum}
 use Rattle.money.specs.Money.{balanced}
-use borrow.Author.Rules.{rules}
 use Rattle.money.proofs.balanced_side.Goals as goal
 
 pub returns-then-smaller-sum_of : goal.returns-then-smaller-sum_of

@@ -1,12 +1,9 @@
 -- `money::capped_side` meets its contract. The loop's invariant: the places passed hold their cut amount.
 -- Assumes nothing.
-use borrow.Author.Rules.{rules}
 use mathlib.Core.Path.{refl}
-use Prim.Native.Nat.{ℕ, ◌-◌, min}
 use native.Mathlib.Omega.{arith}
-use lib.ListN.{get_or}
 use Rattle.money.specs.Money.{capped}
-use Rattle.values.proofs.Tables.{Filling, filling-none, filling-more, filling-each}
+use Rattle.values.proofs.Tables.{filling-none, filling-more, filling-each}
 use Rattle.money.proofs.capped_side.Goals as goal
 
 pub loop-operator-init : goal.loop-operator-init

@@ -1,12 +1,8 @@
 -- `money::capped_side` meets its contract. The loop's invariant: the places passed hold their cut amount.
 -- Assumes nothing.
-use borrow.Author.Rules.{rules}
-use mathlib.Core.Path.{refl}
 use Prim.Native.Nat.{ℕ, ◌-◌, min}
-use native.Mathlib.Omega.{arith}
 use lib.ListN.{get_or}
-use Rattle.money.specs.Money.{capped}
-use Rattle.values.proofs.Tables.{Filling, filling-none, filling-more, filling-each}
+use Rattle.values.proofs.Tables.{Filling}
 use Rattle.money.proofs.capped_side.Given as goal
 
 abbrev pub invariant-loop-operator : goal.invariant-loop-operator

@@ -2,7 +2,6 @@
 -- Assumes nothing.
 use native.Mathlib.Omega.{arith}
 use Rattle.money.proofs.Signs.{gained, lost-fits, lost-is}
-use borrow.Author.Rules.{rules}
 use Rattle.money.proofs.difference.Goals as goal
 
 pub returns-then-loss-gain : goal.returns-then-loss-gain

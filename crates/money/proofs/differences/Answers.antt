@@ -1,13 +1,9 @@
 -- `money::differences` meets its contract. The loop's invariant: the places passed hold their difference.
 -- Assumes nothing.
-use borrow.Author.Rules.{rules}
 use mathlib.Core.Path.{refl}
-use Prim.Native.Nat.{ℕ, ◌-◌}
 use native.Mathlib.Omega.{arith}
-use lib.IntN.{sub_ℕ}
-use lib.ListN.{get_or}
 use Rattle.money.proofs.Signs.{stored}
-use Rattle.values.proofs.Tables.{Filling, filling-none, filling-more, filling-all}
+use Rattle.values.proofs.Tables.{filling-none, filling-more, filling-all}
 use Rattle.money.proofs.differences.Goals as goal
 
 pub loop-operator-init : goal.loop-operator-init

@@ -1,13 +1,10 @@
 -- `money::limits_of` meets its contract. The loop's invariant: the places passed hold their limit.
 -- Assumes nothing.
-use borrow.Author.Rules.{rules}
 use mathlib.Core.Path.{refl}
-use Prim.Native.Nat.{ℕ, ◌*◌, ◌/◌, ◌-◌}
 use native.Mathlib.Omega.{arith}
-use lib.ListN.{get_or}
 use Rattle.money.proofs.InRange.{limit-product-le, limit-le}
 use Rattle.values.specs.Bounds.{limit_most}
-use Rattle.values.proofs.Tables.{Filling, filling-none, filling-more, filling-each, each-le}
+use Rattle.values.proofs.Tables.{filling-none, filling-more, filling-each, each-le}
 use Rattle.money.proofs.limits_of.Goals as goal
 
 pub loop-operator-init : goal.loop-operator-init

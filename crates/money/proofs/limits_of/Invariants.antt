@@ -1,13 +1,8 @@
 -- `money::limits_of` meets its contract. The loop's invariant: the places passed hold their limit.
 -- Assumes nothing.
-use borrow.Author.Rules.{rules}
-use mathlib.Core.Path.{refl}
 use Prim.Native.Nat.{ℕ, ◌*◌, ◌/◌, ◌-◌}
-use native.Mathlib.Omega.{arith}
 use lib.ListN.{get_or}
-use Rattle.money.proofs.InRange.{limit-product-le, limit-le}
-use Rattle.values.specs.Bounds.{limit_most}
-use Rattle.values.proofs.Tables.{Filling, filling-none, filling-more, filling-each, each-le}
+use Rattle.values.proofs.Tables.{Filling}
 use Rattle.money.proofs.limits_of.Given as goal
 
 abbrev pub invariant-loop-operator : goal.invariant-loop-operator

@@ -1,12 +1,9 @@
 -- `money::return_weights` meets its contract. The loop's invariant: the places passed hold their product.
 -- Assumes nothing.
-use borrow.Author.Rules.{rules}
 use mathlib.Core.Path.{refl}
-use Prim.Native.Nat.{ℕ, ◌*◌, ◌-◌}
 use native.Mathlib.Omega.{arith}
 use native.Mathlib.Nat.{mul-le-mul}
-use lib.ListN.{get_or}
-use Rattle.values.proofs.Tables.{Filling, filling-none, filling-more, filling-each}
+use Rattle.values.proofs.Tables.{filling-none, filling-more, filling-each}
 use Rattle.money.proofs.Amounts.{weights-sum}
 use Rattle.money.proofs.return_weights.Goals as goal
 

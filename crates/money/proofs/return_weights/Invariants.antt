@@ -1,13 +1,8 @@
 -- `money::return_weights` meets its contract. The loop's invariant: the places passed hold their product.
 -- Assumes nothing.
-use borrow.Author.Rules.{rules}
-use mathlib.Core.Path.{refl}
 use Prim.Native.Nat.{ℕ, ◌*◌, ◌-◌}
-use native.Mathlib.Omega.{arith}
-use native.Mathlib.Nat.{mul-le-mul}
 use lib.ListN.{get_or}
-use Rattle.values.proofs.Tables.{Filling, filling-none, filling-more, filling-each}
-use Rattle.money.proofs.Amounts.{weights-sum}
+use Rattle.values.proofs.Tables.{Filling}
 use Rattle.money.proofs.return_weights.Given as goal
 
 abbrev pub invariant-loop-operator : goal.invariant-loop-operator
