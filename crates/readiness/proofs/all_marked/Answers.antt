@@ -2,7 +2,7 @@
 -- Assumes nothing.
 use mathlib.Core.Path.{◌≡◌, refl, sym, ap, ◌∙◌}
 use mathlib.Core.Bool.{true, ◌&&◌}
-use Prim.Native.Nat.{ℕ, ◌+◌, ◌-◌, ◌≤◌, ◌<◌}
+use Prim.Native.Nat.{ℕ, ◌+◌, ◌<◌}
 use native.Mathlib.Omega.{arith}
 use borrow.Author.Tests.{eq-eqb, ne_eqb}
 use lib.Dec.{eqb}
@@ -10,7 +10,6 @@ use Rattle.calls.specs.Limits.{indicator_count}
 use Rattle.book.specs.declared.Book.{Book}
 use Rattle.book.specs.Book.{within_limits}
 use Rattle.readiness.specs.Readiness.{all_marked}
-use Rattle.values.specs.Parts.{HasMarks}
 use Rattle.values.proofs.Numbered.{numbered-at}
 use Rattle.readiness.proofs.MarkLaws.{marked-none, marked_more}
 use lib.ListN.{drop}
@@ -19,7 +18,6 @@ use lib.Seq.{drop-cons}
 use native.Mathlib.Numerals.{add-one}
 use Rattle.calls.specs.Indicators.{electricity}
 use Rattle.values.specs.Indicator.{numbered, reliable_mask}
-use borrow.Author.Rules.{rules}
 use Rattle.readiness.proofs.all_marked.Goals as goal
 
 -- the next indicator, and those after it

@@ -1,16 +1,11 @@
 -- `readiness::network_missing` meets its contract: no setting passed is asked for and missing.
 -- Assumes nothing.
-use mathlib.Core.Path.{◌≡◌, sym, ◌∙◌}
-use mathlib.Core.Bool.{false, ◌&&◌}
-use Prim.Native.Nat.{ℕ, ◌-◌, ◌≤◌, ◌<◌}
+use mathlib.Core.Path.{sym, ◌∙◌}
 use native.Mathlib.Omega.{arith}
 use Rattle.calls.specs.Limits.{setting_count}
-use Rattle.calls.specs.Indicators.{indicators_of, is_network}
-use Rattle.book.specs.declared.Book.{Book}
 use Rattle.values.proofs.AnyLaws.{none-of-each, any-passes}
-use Rattle.readiness.specs.Readiness.{setting_missing, network_missing}
+use Rattle.readiness.specs.Readiness.{network_missing}
 use borrow.Author.Count.{below_more}
-use borrow.Author.Rules.{rules}
 use Rattle.readiness.proofs.network_missing.Goals as goal
 
 pub loop-which-init : goal.loop-which-init
