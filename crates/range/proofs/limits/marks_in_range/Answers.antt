@@ -20,12 +20,12 @@ loop-i-init c = (omega arith, λ k lt. absurd (omega (arith, lt)))
 pub returns-then-not-only_of : goal.returns-then-not-only_of
 returns-then-not-only_of c =
     let here = c.loop-i in
-    sym (marks-fail _ here.i (omega arith) (denied c.before.Only-of.ensures c.if-not-only_of.true-raw))
+    sym (marks-fail _ here.i (omega arith) (denied c.only_of.ensures c.if-not-only_of.true-raw))
 
 pub loop-i-preserved : goal.loop-i-preserved
 loop-i-preserved c =
     let here = c.loop-i in
-    (omega arith, below_more _ here.i here.invariant.1 (granted c.before.Only-of.ensures c.if-not-only_of.false-raw))
+    (omega arith, below_more _ here.i here.invariant.1 (granted c.only_of.ensures c.if-not-only_of.false-raw))
 
 pub returns : goal.returns
 returns c =

@@ -9,18 +9,18 @@ use Rattle.range.proofs.taken.in_range.Goals as goal
 
 pub returns-then-not-within_limits : goal.returns-then-not-within_limits
 unfolding in_range
-returns-then-not-within_limits c = rw (denied c.before.stays_within_limits.ensures c.if-not-within_limits.true-raw) refl
+returns-then-not-within_limits c = rw (denied c.within_limits.ensures c.if-not-within_limits.true-raw) refl
 
 pub returns-then-takes_interruptions : goal.returns-then-takes_interruptions
 unfolding in_range
 returns-then-takes_interruptions c =
     let start = c.args in
     rw (
-      granted c.before.before.before.stays_within_limits.ensures c.if-not-within_limits.false-raw,
+      granted c.within_limits.ensures c.if-not-within_limits.false-raw,
       all-taken start.kind start.b (sym c.takes_interruptions.ensures ∙ c.if-takes_interruptions.true),
     )
     refl
 
 pub returns : goal.returns
 unfolding in_range
-returns c = rw (granted c.before.before.before.before.stays_within_limits.ensures c.if-not-within_limits.false-raw) c.only_taken.ensures
+returns c = rw (granted c.within_limits.ensures c.if-not-within_limits.false-raw) c.only_taken.ensures
