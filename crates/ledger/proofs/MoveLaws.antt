@@ -2,7 +2,7 @@
 -- Assumes nothing.
 use mathlib.Core.Path.{◌≡◌, refl, sym, ap, subst, ◌∙◌}
 use mathlib.Core.Logic.{◌≢◌}
-use mathlib.Core.Bool.{Bool, true, false, cond, not, ◌&&◌, ◌||◌}
+use mathlib.Core.Bool.{Bool, true, false, cond, not, ◌&&◌}
 use mathlib.Core.List.{List, [], ◌∷◌}
 use Prim.Native.Nat.{ℕ, ◌+◌, ◌-◌, ◌≤◌}
 use native.Mathlib.Omega.{arith}
@@ -13,7 +13,7 @@ use Rattle.book.specs.declared.Book.{Book}
 use Rattle.judging.specs.declared.Moved.{Moved}
 use Rattle.judging.specs.declared.Moved.TheVariants.{To, Above, Below}
 use Rattle.calls.specs.Limits.{figure_limit}
-use Rattle.calls.specs.Answers.{refused_by, accepted, on_answer, first_of, Acceptance}
+use Rattle.calls.specs.Answers.{on_answer, first_of, Acceptance}
 use Rattle.book.specs.Book.{with_figures, figure_slot, figure_of}
 use Rattle.calls.specs.Indicators.{some}
 use Rattle.calls.specs.Call.{Entry}
@@ -21,7 +21,7 @@ use Rattle.judging.specs.Figures.{moved_said, moved_by}
 use Rattle.calls.proofs.Flags.{and_left}
 use Rattle.judging.proofs.MovedLaws.{moved_saying, moved_back}
 use Rattle.ledger.specs.Table.{passes_limit, falls_below}
-use Rattle.ledger.specs.Calls.{Outcome, entered, enter_all, outcome_of}
+use Rattle.ledger.specs.Calls.{entered, enter_all, outcome_of}
 use Rattle.ledger.specs.Steps.{entering}
 use Rattle.ledger.proofs.AdmissionLaws.{refused_call, accepted_call}
 

@@ -11,7 +11,7 @@ use Rattle.calls.specs.declared.Call.{Call}
 use Rattle.calls.specs.declared.Call.TheVariants.{Join, Setting, Interruption, Amount, Mark, Rates, Index}
 use Rattle.calls.specs.declared.Answer.{Answer}
 use Rattle.calls.specs.Limits.{short_most}
-use Rattle.calls.specs.Answers.{Said, refused_by, accepted, first_of, Acceptance, yes_said, counted_in, left_out_as_short, left_out_under, said}
+use Rattle.calls.specs.Answers.{Said, refused_by, accepted, first_of, Acceptance, counted_in, left_out_as_short, left_out_under, said}
 use Rattle.calls.specs.Indicators.{Indicator}
 use Rattle.calls.specs.Call.{outcome, facts_of}
 use Rattle.calls.proofs.Flags.{both}

@@ -4,7 +4,6 @@ use mathlib.Core.Path.{refl}
 use Rattle.calls.specs.Call.{entry}
 use Rattle.book.specs.Book.{with_figures, figure_of}
 use Rattle.ledger.proofs.MoveLaws.{moved_as, one-moved, one-above, one_below}
-use borrow.Author.Rules.{rules}
 use Rattle.ledger.proofs.entries.enter.Goals as goal
 
 -- the figure moves

@@ -10,7 +10,6 @@ use Rattle.calls.specs.Answers.{counted_in}
 use Rattle.calls.specs.Call.{entry, measured_entries}
 use Rattle.ledger.proofs.MoveLaws.{moved_as, one-moved, first_above, first_below, slots_apart}
 use Rattle.ledger.proofs.LastEntry.{last-above, last-below, last-moved}
-use borrow.Author.Rules.{rules}
 use Rattle.ledger.proofs.entries.enter_measured.Goals as goal
 
 pub overflow_mul-weight : goal.overflow_mul-weight
