@@ -1,11 +1,7 @@
 -- `range::limits::all_within` meets its contract: every figure passed is within the limit.
 -- Assumes nothing.
-use mathlib.Core.Path.{◌≡◌, sym}
-use mathlib.Core.Bool.{true}
-use Prim.Native.Nat.{ℕ, ◌+◌, ◌-◌, ◌≤◌, ◌<◌}
+use mathlib.Core.Path.{sym}
 use native.Mathlib.Omega.{arith}
-use lib.Dec.{leb}
-use lib.ListN.{get_or}
 use borrow.Author.Tests.{lt-leb, le-leb}
 use borrow.Author.Count.{below_more}
 use Rattle.calls.specs.Limits.{operator_figures}

@@ -1,15 +1,11 @@
 -- `range::limits::all_within` meets its contract: every figure passed is within the limit.
 -- Assumes nothing.
-use mathlib.Core.Path.{◌≡◌, sym}
+use mathlib.Core.Path.{◌≡◌}
 use mathlib.Core.Bool.{true}
 use Prim.Native.Nat.{ℕ, ◌+◌, ◌-◌, ◌≤◌, ◌<◌}
-use native.Mathlib.Omega.{arith}
 use lib.Dec.{leb}
 use lib.ListN.{get_or}
-use borrow.Author.Tests.{lt-leb, le-leb}
-use borrow.Author.Count.{below_more}
 use Rattle.calls.specs.Limits.{operator_figures}
-use Rattle.book.proofs.EveryLaws.{every-of-each, every-fails}
 use Rattle.range.proofs.limits.all_within.Given as goal
 
 abbrev pub invariant-loop-i : goal.invariant-loop-i

@@ -1,17 +1,9 @@
 -- `range::limits::figures_in_range` meets its contract: every figure of the operators passed is within its limit.
 -- Assumes nothing.
-use borrow.Author.Rules.{rules}
-use mathlib.Core.Path.{◌≡◌, sym}
-use mathlib.Core.Bool.{true, cond}
-use Prim.Native.Nat.{ℕ, ◌+◌, ◌-◌, ◌*◌, ◌≤◌, ◌<◌}
+use mathlib.Core.Path.{sym}
 use native.Mathlib.Omega.{arith}
-use lib.Dec.{leb}
-use lib.ListN.{get_or}
 use borrow.Author.Count.{below_more}
-use Rattle.calls.specs.Limits.{operators, operator_figures, figure_limit}
-use Rattle.calls.specs.Masks.{has}
 use Rattle.calls.proofs.Flags.{denied, granted}
-use Rattle.book.specs.Book.{every}
 use Rattle.book.proofs.FlatRange.{figures-hold, figures-fail}
 use Rattle.range.proofs.limits.figures_in_range.Goals as goal
 

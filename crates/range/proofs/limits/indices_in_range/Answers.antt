@@ -1,13 +1,7 @@
 -- `range::limits::indices_in_range` meets its contract: every index passed is within.
 -- Assumes nothing.
-use borrow.Author.Rules.{rules}
-use mathlib.Core.Path.{◌≡◌, sym}
-use mathlib.Core.Bool.{true, ◌&&◌}
-use Prim.Native.Nat.{ℕ, ◌-◌, ◌≤◌, ◌<◌}
+use mathlib.Core.Path.{sym}
 use native.Mathlib.Omega.{arith}
-use lib.Dec.{leb}
-use lib.ListN.{get_or}
-use Rattle.calls.specs.Limits.{index_count, index_least, index_most}
 use Rattle.calls.proofs.Flags.{denied, granted}
 use borrow.Author.Count.{below_more}
 use Rattle.book.specs.Book.{index_of, indices_in_range}

@@ -1,17 +1,11 @@
 -- `range::limits::indices_in_range` meets its contract: every index passed is within.
 -- Assumes nothing.
-use borrow.Author.Rules.{rules}
-use mathlib.Core.Path.{◌≡◌, sym}
+use mathlib.Core.Path.{◌≡◌}
 use mathlib.Core.Bool.{true, ◌&&◌}
 use Prim.Native.Nat.{ℕ, ◌-◌, ◌≤◌, ◌<◌}
-use native.Mathlib.Omega.{arith}
 use lib.Dec.{leb}
 use lib.ListN.{get_or}
 use Rattle.calls.specs.Limits.{index_count, index_least, index_most}
-use Rattle.calls.proofs.Flags.{denied, granted}
-use borrow.Author.Count.{below_more}
-use Rattle.book.specs.Book.{index_of, indices_in_range}
-use Rattle.book.proofs.EveryLaws.{every-of-each, every-fails}
 use Rattle.range.proofs.limits.indices_in_range.Given as goal
 
 abbrev pub invariant-loop-i : goal.invariant-loop-i

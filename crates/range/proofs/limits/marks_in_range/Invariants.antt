@@ -1,17 +1,12 @@
 -- `range::limits::marks_in_range` meets its contract: every mark of the indicators passed is that of a joined operator.
 -- Assumes nothing.
-use borrow.Author.Rules.{rules}
-use mathlib.Core.Path.{◌≡◌, sym}
+use mathlib.Core.Path.{◌≡◌}
 use mathlib.Core.Bool.{true, not, ◌&&◌, ◌||◌}
 use Prim.Native.Nat.{ℕ, ◌-◌, ◌≤◌, ◌<◌}
-use native.Mathlib.Omega.{arith}
 use lib.ListN.{get_or}
 use Rattle.calls.specs.Limits.{operators, indicator_count}
 use Rattle.calls.specs.Masks.{has}
 use Rattle.book.specs.Book.{every, has_sixteen_bits}
-use Rattle.calls.proofs.Flags.{denied, granted}
-use borrow.Author.Count.{below_more}
-use Rattle.book.proofs.FlatRange.{marks-hold, marks-fail}
 use Rattle.range.proofs.limits.marks_in_range.Given as goal
 
 abbrev pub invariant-loop-i : goal.invariant-loop-i

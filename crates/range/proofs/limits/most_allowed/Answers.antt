@@ -1,7 +1,6 @@
 -- `range::limits::most_allowed` meets its contract.
 -- Assumes nothing.
 use mathlib.Core.Path.{refl}
-use borrow.Author.Rules.{rules}
 use Rattle.range.proofs.limits.most_allowed.Goals as goal
 
 pub returns-then-has_bit : goal.returns-then-has_bit

@@ -1,18 +1,13 @@
 -- `range::limits::settings_in_range` meets its contract: every setting passed is within its limit.
 -- Assumes nothing.
-use borrow.Author.Rules.{rules}
-use mathlib.Core.Path.{◌≡◌, sym}
+use mathlib.Core.Path.{◌≡◌}
 use mathlib.Core.Bool.{true}
 use Prim.Native.Nat.{ℕ, ◌-◌, ◌/◌, ◌%◌, ◌≤◌, ◌<◌}
-use native.Mathlib.Omega.{arith}
 use lib.Dec.{leb}
 use lib.ListN.{get_or}
-use borrow.Author.Tests.{lt-leb, le-leb}
 use Rattle.calls.specs.Masks.{has}
 use mathlib.Core.Bool.{cond}
-use borrow.Author.Count.{below_more}
 use Rattle.calls.specs.Limits.{setting_count, setting_places, setting_limit}
-use Rattle.book.proofs.FlatRange.{settings-hold, settings-fail}
 use Rattle.range.proofs.limits.settings_in_range.Given as goal
 
 abbrev pub invariant-loop-i : goal.invariant-loop-i

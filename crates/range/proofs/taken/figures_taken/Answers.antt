@@ -1,15 +1,8 @@
 -- `range::taken::figures_taken` meets its contract: every place passed is taken or 0.
 -- Assumes nothing.
-use borrow.Author.Rules.{rules}
-use mathlib.Core.Path.{◌≡◌, sym}
-use mathlib.Core.Bool.{true, ◌||◌}
-use Prim.Native.Nat.{ℕ, ◌-◌, ◌%◌, ◌≤◌, ◌<◌}
+use mathlib.Core.Path.{sym}
 use native.Mathlib.Omega.{arith}
-use lib.Dec.{eqb}
-use lib.ListN.{get_or}
 use borrow.Author.Count.{below_more}
-use Rattle.calls.specs.Limits.{figure_count, figure_places}
-use Rattle.calls.specs.Indicators.{indicators_of, takes_figure}
 use Rattle.calls.proofs.Flags.{denied, granted}
 use Rattle.book.proofs.TakenLaws.{figures-taken, figures-not-taken}
 use Rattle.range.proofs.taken.figures_taken.Goals as goal

@@ -1,7 +1,6 @@
 -- `range::taken::in_range` meets its contract.
 -- Assumes nothing.
 use mathlib.Core.Path.{refl, sym, ◌∙◌}
-use borrow.Author.Rules.{rules}
 use Rattle.calls.proofs.Flags.{denied, granted}
 use Rattle.book.specs.Book.{in_range}
 use Rattle.book.proofs.TakenLaws.{all-taken}

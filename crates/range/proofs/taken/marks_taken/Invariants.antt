@@ -1,17 +1,12 @@
 -- `range::taken::marks_taken` meets its contract: every place passed is taken or 0.
 -- Assumes nothing.
-use borrow.Author.Rules.{rules}
-use mathlib.Core.Path.{◌≡◌, sym}
+use mathlib.Core.Path.{◌≡◌}
 use mathlib.Core.Bool.{true, ◌||◌}
 use Prim.Native.Nat.{ℕ, ◌-◌, ◌≤◌, ◌<◌}
-use native.Mathlib.Omega.{arith}
 use lib.Dec.{eqb}
 use lib.ListN.{get_or}
-use borrow.Author.Count.{below_more}
 use Rattle.calls.specs.Limits.{indicator_count}
 use Rattle.calls.specs.Indicators.{indicators_of, takes_mark}
-use Rattle.calls.proofs.Flags.{denied, granted}
-use Rattle.book.proofs.TakenLaws.{marks-taken, marks-not-taken}
 use Rattle.range.proofs.taken.marks_taken.Given as goal
 
 abbrev pub invariant-loop-i : goal.invariant-loop-i

@@ -2,7 +2,6 @@
 -- Assumes nothing.
 use mathlib.Core.Bool.{false}
 use mathlib.Core.Path.{◌≡◌, refl}
-use borrow.Author.Rules.{rules}
 use Rattle.calls.proofs.Flags.{denied, granted}
 use Rattle.calls.specs.Indicators.{indicators_of}
 use Rattle.book.specs.Book.{settings_taken, figures_taken, only_taken}
