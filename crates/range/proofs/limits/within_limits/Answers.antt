@@ -1,7 +1,7 @@
 -- `range::limits::within_limits` meets its contract.
 -- Assumes nothing.
-use mathlib.Core.Path.{refl}
-use Rattle.calls.proofs.Flags.{denied, granted, and-true-right}
+use mathlib.Core.Path.{refl, sym, ◌∙◌}
+use Rattle.calls.proofs.Flags.{and-true-right}
 use Rattle.book.proofs.Bounds.{complete, sixteen-bits}
 use Rattle.book.specs.Book.{within_limits}
 use borrow.Author.Rules.{rules}
@@ -12,7 +12,7 @@ pub returns-then-not-settings_in_range : goal.returns-then-not-settings_in_range
 unfolding within_limits
 returns-then-not-settings_in_range c =
     rw
-    (denied c.settings_in_range.ensures c.if-not-settings_in_range.true-raw)
+    (sym c.settings_in_range.ensures ∙ c.if-not-settings_in_range.true)
     refl
 
 -- a figure is
@@ -20,8 +20,8 @@ pub returns-then-not-figures_in_range : goal.returns-then-not-figures_in_range
 unfolding within_limits
 returns-then-not-figures_in_range c =
     rw (
-      granted c.settings_in_range.ensures c.if-not-settings_in_range.false-raw,
-      denied c.figures_in_range.ensures c.if-not-figures_in_range.true-raw,
+      sym c.settings_in_range.ensures ∙ c.if-not-settings_in_range.false,
+      sym c.figures_in_range.ensures ∙ c.if-not-figures_in_range.true,
     )
     refl
 
@@ -30,9 +30,9 @@ pub returns-then-not-marks_in_range : goal.returns-then-not-marks_in_range
 unfolding within_limits
 returns-then-not-marks_in_range c =
     rw (
-      granted c.settings_in_range.ensures c.if-not-settings_in_range.false-raw,
-      granted c.figures_in_range.ensures c.if-not-figures_in_range.false-raw,
-      denied c.marks_in_range.ensures c.if-not-marks_in_range.true-raw,
+      sym c.settings_in_range.ensures ∙ c.if-not-settings_in_range.false,
+      sym c.figures_in_range.ensures ∙ c.if-not-figures_in_range.false,
+      sym c.marks_in_range.ensures ∙ c.if-not-marks_in_range.true,
     )
     refl
 
@@ -41,10 +41,10 @@ pub returns-then-not-rates_in_range : goal.returns-then-not-rates_in_range
 unfolding within_limits
 returns-then-not-rates_in_range c =
     rw (
-      granted c.settings_in_range.ensures c.if-not-settings_in_range.false-raw,
-      granted c.figures_in_range.ensures c.if-not-figures_in_range.false-raw,
-      granted c.marks_in_range.ensures c.if-not-marks_in_range.false-raw,
-      denied c.rates_in_range.ensures c.if-not-rates_in_range.true-raw,
+      sym c.settings_in_range.ensures ∙ c.if-not-settings_in_range.false,
+      sym c.figures_in_range.ensures ∙ c.if-not-figures_in_range.false,
+      sym c.marks_in_range.ensures ∙ c.if-not-marks_in_range.false,
+      sym c.rates_in_range.ensures ∙ c.if-not-rates_in_range.true,
     )
     refl
 
@@ -53,13 +53,11 @@ pub returns : goal.returns
 unfolding within_limits
 returns c =
     rw (
-      granted c.settings_in_range.ensures c.if-not-settings_in_range.false-raw,
-      granted c.figures_in_range.ensures c.if-not-figures_in_range.false-raw,
-      granted c.marks_in_range.ensures c.if-not-marks_in_range.false-raw,
-      granted c.rates_in_range.ensures c.if-not-rates_in_range.false-raw,
+      sym c.settings_in_range.ensures ∙ c.if-not-settings_in_range.false,
+      sym c.figures_in_range.ensures ∙ c.if-not-figures_in_range.false,
+      sym c.marks_in_range.ensures ∙ c.if-not-marks_in_range.false,
+      sym c.rates_in_range.ensures ∙ c.if-not-rates_in_range.false,
       complete c.args.b (search rules) (search rules) (search rules) (search rules),
       sixteen-bits {mask = c.args.b.joined} (search rules),
-      and-true-right,
-      and-true-right,
     )
-    c.indices_in_range.ensures
+    (simp and-true-right c.indices_in_range.ensures)

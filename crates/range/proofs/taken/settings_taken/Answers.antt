@@ -1,9 +1,8 @@
 -- `range::taken::settings_taken` meets its contract: every place passed is taken or 0.
 -- Assumes nothing.
-use mathlib.Core.Path.{sym}
+use mathlib.Core.Path.{sym, ◌∙◌}
 use native.Mathlib.Omega.{arith}
 use borrow.Author.Count.{below_more}
-use Rattle.calls.proofs.Flags.{denied, granted}
 use Rattle.book.proofs.TakenLaws.{settings-taken, settings-not-taken}
 use Rattle.range.proofs.taken.settings_taken.Goals as goal
 
@@ -13,12 +12,12 @@ loop-i-init c = (omega arith, λ k lt. absurd (omega (arith, lt)))
 pub returns-then-not-taken_or_zero : goal.returns-then-not-taken_or_zero
 returns-then-not-taken_or_zero c =
     let here = c.loop-i in
-    sym (settings-not-taken _ _ here.i (omega arith) (rw (← c.takes_setting.ensures) (denied c.taken_or_zero.ensures c.if-not-taken_or_zero.true-raw)))
+    sym (settings-not-taken _ _ here.i (omega arith) (rw (← c.takes_setting.ensures) (sym c.taken_or_zero.ensures ∙ c.if-not-taken_or_zero.true)))
 
 pub loop-i-preserved : goal.loop-i-preserved
 loop-i-preserved c =
     let here = c.loop-i in
-    (omega arith, below_more _ here.i here.invariant.1 (rw (← c.takes_setting.ensures) (granted c.taken_or_zero.ensures c.if-not-taken_or_zero.false-raw)))
+    (omega arith, below_more _ here.i here.invariant.1 (rw (← c.takes_setting.ensures) (sym c.taken_or_zero.ensures ∙ c.if-not-taken_or_zero.false)))
 
 pub returns : goal.returns
 returns c =
