@@ -1,12 +1,10 @@
 -- `admission::admit` meets its contract.
 -- Assumes nothing.
-use mathlib.Core.Path.{refl}
+use mathlib.Core.Path.{refl, sym, ◌∙◌}
 use native.Mathlib.Omega.{arith}
-use borrow.Author.Tests.{lt-leb, le-leb, not-true, not-false}
+use borrow.Author.Tests.{lt-leb, le-leb}
 use Rattle.calls.specs.Answers.{first_of}
-use Rattle.calls.proofs.Flags.{denied, granted}
 use Rattle.ledger.specs.Steps.{member_lines}
-use borrow.Author.Rules.{rules}
 use Rattle.admission.proofs.admit.Goals as goal
 
 -- 4
@@ -17,7 +15,7 @@ returns-then-operator-gt-LAST_OPERATOR c = rw (le-leb 16 c.args.operator c.if-op
 -- 5
 pub returns-then-not-valid : goal.returns-then-not-valid
 unfolding member_lines first_of
-returns-then-not-valid c = rw (lt-leb 16 c.args.operator (omega arith), not-true c.args.valid c.if-not-valid.true-raw) refl
+returns-then-not-valid c = rw (lt-leb 16 c.args.operator (omega arith), c.if-not-valid.true) refl
 
 -- 7
 pub returns-then-not-member : goal.returns-then-not-member
@@ -25,8 +23,8 @@ unfolding member_lines first_of
 returns-then-not-member c =
     rw (
       lt-leb 16 c.args.operator (omega arith),
-      not-false c.args.valid c.if-not-valid.false-raw,
-      denied c.has_bit-member.ensures c.if-not-member.true-raw,
+      c.if-not-valid.false,
+      sym c.has_bit-member.ensures ∙ c.if-not-member.true,
     )
     refl
 
@@ -36,7 +34,7 @@ unfolding member_lines first_of
 returns c =
     rw (
       lt-leb 16 c.args.operator (omega arith),
-      not-false c.args.valid c.if-not-valid.false-raw,
-      granted c.has_bit-member.ensures c.if-not-member.false-raw,
+      c.if-not-valid.false,
+      sym c.has_bit-member.ensures ∙ c.if-not-member.false,
     )
     refl

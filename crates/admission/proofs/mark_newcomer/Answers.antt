@@ -1,7 +1,6 @@
 -- `admission::mark_newcomer` meets its contract.
 -- Assumes nothing.
 use mathlib.Core.Path.{refl}
-use borrow.Author.Rules.{rules}
 use Rattle.admission.proofs.mark_newcomer.Goals as goal
 
 pub returns-then-taken : goal.returns-then-taken

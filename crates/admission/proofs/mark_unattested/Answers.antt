@@ -1,13 +1,10 @@
 -- `admission::mark_unattested` meets its contract. The loop's invariant: the first masks have the operator, the others are as
 -- they were.
 -- Assumes nothing.
-use mathlib.Core.Path.{◌≡◌, refl, ◌∙◌}
-use Prim.Native.Nat.{◌-◌}
+use mathlib.Core.Path.{refl, ◌∙◌}
 use native.Mathlib.Omega.{arith}
-use lib.ListN.{length, length-set}
-use Rattle.calls.specs.Indicators.{indicators_of}
-use borrow.Author.Rules.{rules}
-use Rattle.ledger.proofs.UnattestedLaws.{MarkedTo, marked-none, marked_more, marked_all}
+use lib.ListN.{length-set}
+use Rattle.ledger.proofs.UnattestedLaws.{marked-none, marked_more, marked_all}
 use Rattle.admission.proofs.mark_unattested.Goals as goal
 
 pub loop-indicator-init : goal.loop-indicator-init

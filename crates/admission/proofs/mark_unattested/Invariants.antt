@@ -1,13 +1,11 @@
 -- `admission::mark_unattested` meets its contract. The loop's invariant: the first masks have the operator, the others are as
 -- they were.
 -- Assumes nothing.
-use mathlib.Core.Path.{◌≡◌, refl, ◌∙◌}
+use mathlib.Core.Path.{◌≡◌}
 use Prim.Native.Nat.{◌-◌}
-use native.Mathlib.Omega.{arith}
-use lib.ListN.{length, length-set}
+use lib.ListN.{length}
 use Rattle.calls.specs.Indicators.{indicators_of}
-use borrow.Author.Rules.{rules}
-use Rattle.ledger.proofs.UnattestedLaws.{MarkedTo, marked-none, marked_more, marked_all}
+use Rattle.ledger.proofs.UnattestedLaws.{MarkedTo}
 use Rattle.admission.proofs.mark_unattested.Given as goal
 
 abbrev pub invariant-loop-indicator : goal.invariant-loop-indicator
