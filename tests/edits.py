@@ -9,10 +9,13 @@ it is refused, if that is not the false fact.
 """
 
 import argparse
+import re
 import sys
 from pathlib import Path
 
 KINDS = ["code", "definition", "contract"]
+# Where a clause of a contract begins, which may have a name: its text stands between this brace and the one that closes it.
+CLAUSE = re.compile(r"\b(?:requires|ensures)\*?(?:\s+\w+)?\s*\{")
 
 PAGE = """\
 # Refused edits
@@ -73,6 +76,18 @@ def pairs(lines):
             old = ""
 
 
+def clauses(text):
+    """The start and the end of each clause of a file's contracts: from requires or ensures to the brace that closes it."""
+    for found in CLAUSE.finditer(text):
+        if "//" in text[text.rfind("\n", 0, found.start()) + 1 : found.start()]:
+            continue
+        depth, end = 1, found.end()
+        while depth and end < len(text):
+            depth += {"{": 1, "}": -1}.get(text[end], 0)
+            end += 1
+        yield found.start(), end
+
+
 def changed_kind(name, text, old):
     """What a replacement of the old text in a file changes; nothing if that is an import of a contract's names."""
     parts = name.split("/")
@@ -82,8 +97,9 @@ def changed_kind(name, text, old):
         return "definition"
     if old.startswith("ghost use "):
         return None
-    before = text[: text.index(old)]
-    return "contract" if before.count("⌜") > before.count("⌝") or "⌜" in old else "code"
+    first = text.index(old)
+    is_contract = any(start < first + len(old) and first < end for start, end in clauses(text))
+    return "contract" if is_contract else "code"
 
 
 def fitted(crate, lines):
