@@ -12,8 +12,11 @@ from front.trouble import Trouble
 
 ROOT = Path(__file__).resolve().parent.parent
 SOURCES = ("src", "specs", "proofs")
-PROVED = re.compile(rb"rt: (\w+) proved \(")
-KIT = "the Rattle kit (rattle-kit-5b), whose command rt must be on the path; README.md says which versions are needed"
+# What rt prints of a crate: its name, then whether it is proved; and of a program that is proved and linked, right before it is run.
+CRATE = re.compile(rb"crate (\w+): modules ")
+PROVED = b"logic=proved "
+LINKED = b"rt: running "
+KIT = "the Rattle kit (rattle-kit-13f), whose command rt must be on the path; README.md says which versions are needed"
 UNBUILT = "the program could not be built"
 
 
@@ -37,7 +40,7 @@ class Builder:
         return self.found[name]
 
     def _ready(self, name):
-        program = self.root / "target" / "bin" / name
+        program = built(self.root, name)
         crates = needed(self.root, name)
         why = reason_to_build(self.root, program, crates)
         if why:
@@ -70,36 +73,47 @@ class Builder:
             return
         self.say(f"{why}: proving and building it, which takes some minutes")
         log = self.root / "target" / "front" / f"{name}.log"
-        status = self._proved(name, log, len(crates))
-        if status != 0:
+        linked, status = self._proved(name, log, crates)
+        if not linked:
             # A program that is there all the same must not be run the next time: it is to count as older than any source.
             if program.exists():
                 os.utime(program, (0, 0))
-            ended = f"rt check {name} ended with status {status}"
+            ended = f"rt run in crates/{name} ended with status {status}"
             raise Trouble(f"{name} could not be built: {ended}; what the prover said is in {log}", UNBUILT)
         if not program.exists():
-            raise Trouble(f"{name} is not built, although rt counts it as proved: remove the folder target and try again", UNBUILT)
+            raise Trouble(f"{name} is not built, although rt counts it as proved: remove the folder {program.parent} and try again", UNBUILT)
         # rt leaves a program as it is whose sources are the same bytes as before.
         os.utime(program)
 
-    def _proved(self, name, log, total):
-        """Runs rt and tells how far it is; answers its exit status."""
-        count = 0
-        command = ["rt", "check", name]
+    def _proved(self, name, log, crates):
+        """Has rt prove, build and run the program, and tells how far it is; answers whether it is proved and linked, and the exit status.
+
+        Nothing builds a program without a run of it. It is run in the folder of its crate, where no filing lies, so it says that of an empty
+        one; what it prints there, and the status that it ends with, count for nothing.
+        """
+        crate, linked = "", False
+        folder = self.root / "crates" / name
         with log.open("wb") as notes, subprocess.Popen(
-            command, cwd=self.root, stdin=subprocess.DEVNULL, stdout=subprocess.PIPE, stderr=subprocess.STDOUT
+            ["rt", "run"], cwd=folder, stdin=subprocess.DEVNULL, stdout=subprocess.PIPE, stderr=subprocess.STDOUT
         ) as prover:
             for line in prover.stdout:
                 notes.write(line)
-                found = PROVED.match(line)
+                found = CRATE.match(line)
                 if found:
-                    count += 1
-                    self.say(f"crate {count} of {total}: {found[1].decode()} proved")
-        return prover.returncode
+                    crate = found[1].decode()
+                elif line.startswith(PROVED) and crate in crates:
+                    self.say(f"crate {crates.index(crate) + 1} of {len(crates)}: {crate} proved")
+                linked = linked or line.startswith(LINKED)
+        return linked, prover.returncode
+
+
+def built(root, name):
+    """Where rt leaves a program."""
+    return root / "crates" / name / "out" / name
 
 
 def needed(root, name):
-    """The crates of the tree that a program is made of, itself the last."""
+    """The crates of the tree that a program is made of, each after those that it uses, as rt proves them: itself the last."""
     uses = {}
     for line in (root / "crates.txt").read_text(encoding="utf-8").splitlines():
         crate, colon, used = line.split("#")[0].partition(":")
@@ -107,21 +121,25 @@ def needed(root, name):
             uses[crate.strip()] = used.split()
     if name not in uses:
         raise Trouble(f"this tree has no program {name}: crates.txt does not list it", f"no program {name}")
-    wanted = {name}
-    # crates.txt is listed from the leaves up.
-    for crate in reversed(list(uses)):
-        if crate in wanted:
-            wanted.update(uses[crate])
-    return [crate for crate in uses if crate in wanted]
+    crates = []
+
+    def add(crate):
+        if crate in uses and crate not in crates:
+            for used in uses[crate]:
+                add(used)
+            crates.append(crate)
+
+    add(name)
+    return crates
 
 
 def reason_to_build(root, program, crates):
     """Why the program has to be built, or None if it is there and no source is newer."""
     if not os.access(program, os.X_OK):
         return f"the program {program.name} is not built"
-    built = program.stat().st_mtime_ns
+    made = program.stat().st_mtime_ns
     for source in _sources(root, crates):
-        if source.stat().st_mtime_ns > built:
+        if source.stat().st_mtime_ns > made:
             return f"{source.relative_to(root)} is newer than the program {program.name}"
     return None
 

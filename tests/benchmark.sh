@@ -1,7 +1,7 @@
 #!/usr/bin/env bash
 # Counts the instructions of the program and of the model on the same filings of 65,536 bytes, and prints both and their ratio; then those of
 # the program without a filing, and of one field of each kind.
-# It needs valgrind. Nothing here is held to a limit.
+# It needs valgrind. Nothing here is held to a limit. The figures of docs/SPEED.md are of programs that kit 5b built.
 set -euo pipefail
 . "$(dirname "$0")/common.sh"
 

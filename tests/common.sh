@@ -13,8 +13,9 @@ fail() { # MESSAGE
 
 # The path of a program that must be built.
 built() { # NAME
-    [ -x "target/bin/$1" ] || fail "the program isn't built: rt check $1"
-    echo "$PWD/target/bin/$1"
+    local program=$PWD/crates/$1/out/$1
+    [ -x "$program" ] || fail "the program isn't built: rt run in crates/$1"
+    echo "$program"
 }
 program=$(built quality)
 

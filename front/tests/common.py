@@ -9,13 +9,13 @@ import unittest
 from pathlib import Path
 from typing import NamedTuple
 
-from front import command
+from front import building, command
 from front.building import ROOT
 
 # Every warning of the command is an error.
 PYTHON = (sys.executable, "-W", "error")
-PROGRAM = ROOT / "target" / "bin" / "quality"
-GAS_PROGRAM = PROGRAM.with_name("quality_gas")
+PROGRAM = building.built(ROOT, "quality")
+GAS_PROGRAM = building.built(ROOT, "quality_gas")
 EXERCISE = Path(__file__).parent / "exercise"
 GAS_EXERCISE = Path(__file__).parent / "gas"
 

@@ -6,7 +6,7 @@ import subprocess
 import sys
 
 from front import building
-from front.tests.common import PROGRAM, PYTHON, ROOT, InFolder, settle
+from front.tests.common import PYTHON, ROOT, InFolder, settle
 
 COUNTS = "counted short planned coupled exceptional"
 CRATES = (
@@ -16,20 +16,28 @@ CRATES = (
 )
 PROGRAMS = ("quality", "rewrite", "outcomes", "sheet", "quality_gas", "rewrite_gas", "outcomes_gas")
 
-# It counts its runs, proves what crates.txt of this tree has, and builds the program anew where a source has changed.
+# It counts its runs, proves what crates.txt of this tree has, builds the program anew where a source has changed, and runs it.
 RT = """#!/bin/sh
-echo "$@" >>runs
+name=$(basename "$PWD")
+echo "$1 $name" >>../../runs
+cd ../..
 echo "a note of the prover"
 while [ -e held ]; do sleep 0.05; done
-for crate in leaf output; do echo "rt: $crate proved (1 s)"; done
-[ -e failing ] && { echo "rt: $2 NOT PROVED (exit 1, 1 s)"; exit 1; }
-echo "rt: $2 proved (unchanged since it was last proved)"
-mkdir -p target/bin
-[ -e unchanged ] || printf '#!/bin/sh\\n%s\\n' "$(cat "standing-in-for-$2")" >"target/bin/$2"
-chmod +x "target/bin/$2"
-[ -e failing-late ] && { echo "rt: $2 proved, and its run FAILED (0 s)"; exit 1; }
-[ -e forgetting ] && { rm "target/bin/$2"; exit 0; }
-echo "rt: $2 ran, and wrote what its file 'stdout' has (0 s)"
+proved() { echo "crate $1: modules loaded=2 checked=3"; echo "logic=proved functions=1 sum=0"; }
+for crate in leaf output; do proved $crate; done
+[ -e failing ] && { echo "crate $name: modules loaded=1 checked=4"; echo "logic=not-proved"; exit 1; }
+proved $name
+program=crates/$name/out/$name
+mkdir -p "$(dirname "$program")"
+[ -e unchanged ] || printf '#!/bin/sh\\n%s\\n' "$(cat "standing-in-for-$name")" >"$program"
+chmod +x "$program"
+[ -e failing-late ] && { echo "the program is not linked"; exit 1; }
+echo "rt: running out/$name; to give it other input, run that file yourself"
+cd "crates/$name"
+"out/$name"
+status=$?
+[ -e ../../forgetting ] && rm "out/$name"
+exit $status
 """
 
 
@@ -77,7 +85,7 @@ class Built(Tree):
     def test_a_program_that_is_not_there_is_built_and_how_far_is_told(self):
         run = self.settle()
         self.assertEqual((run.status, run.output), (0, b"operator\n\x01\x00\x01\x00"))
-        self.assertEqual(self.runs(), ["check quality"])
+        self.assertEqual(self.runs(), ["run quality"])
         self.assertEqual(
             run.said.splitlines(),
             [
@@ -121,6 +129,14 @@ class Built(Tree):
             self.file(f"tree/crates/{file}", "changed")
         self.assertEqual(self.settle().said, "")
 
+    def test_what_a_program_does_as_it_is_built_does_not_count(self):
+        self.file("tree/standing-in-for-quality", "[ -e filing.q ] || { echo 'logic=not-proved' >&2; exit 1; }; echo operator")
+        run = self.settle()
+        self.assertEqual((run.status, run.output), (0, b"operator\n"))
+        self.assertTrue(run.said.endswith("crate 3 of 3: quality proved\n"), run.said)
+        self.assertIn("logic=not-proved", (self.root / "target/front/quality.log").read_text())
+        self.assertEqual(self.settle().said, "")
+
     def test_a_source_that_is_touched_and_the_same_is_looked_at_once(self):
         self.settle()
         self.pass_time()
@@ -144,19 +160,19 @@ class Built(Tree):
                 answers = [first.communicate()[0], *second.communicate()]
         self.assertEqual(said, "another run is building here: waiting for it before quality is looked at again\n")
         self.assertEqual(answers, ["operator\n\x01\x00\x01\x00"] * 2 + [""])
-        self.assertEqual((first.returncode, second.returncode, self.runs()), (0, 0, ["check quality"]))
+        self.assertEqual((first.returncode, second.returncode, self.runs()), (0, 0, ["run quality"]))
 
     def test_what_the_notes_need_is_built_after_the_settlement(self):
         run = self.settle(self.filing)
         self.assertEqual((run.status, run.output), (0, b"operator\n\x01\x00\x01\x00"))
-        self.assertEqual(self.runs(), ["check quality", "check rewrite"])
+        self.assertEqual(self.runs(), ["run quality", "run rewrite"])
         self.assertIn("note: rates were never filed", run.said)
 
 
     def test_only_the_program_of_a_sheet_is_built_and_told_which(self):
         run = self.settle("--sheet", "12", "2019", self.filing)
         self.assertEqual((run.status, run.output.decode()), (0, "".join(f"{word} 122\n" for word in COUNTS.split())))
-        self.assertEqual(self.runs(), ["check sheet"])
+        self.assertEqual(self.runs(), ["run sheet"])
         self.assertIn("the program sheet is not built: proving and building it, which takes some minutes\n", run.said)
         self.assertEqual(self.settle("--sheet", "3", "0", self.filing).output[:11], b"counted 30\n")
 
@@ -169,7 +185,7 @@ class Built(Tree):
         interruption = bytes([3, 0, 24, *[0] * 23, 1])
         shown = self.settle("--gas", "--show", self.file("other.q", b"\x01\x00\x01\x00" + interruption)).output
         self.assertTrue(shown.endswith(b" 1 # refused 2\n"), shown)
-        self.assertEqual(self.runs(), ["check quality_gas", "check rewrite_gas", "check outcomes_gas"])
+        self.assertEqual(self.runs(), ["run quality_gas", "run rewrite_gas", "run outcomes_gas"])
 
     def test_the_examples_are_of_the_kind_that_their_folder_names(self):
         printed = {"course": "operator", "gas": "operator of gas", "gas-two": "operator of gas", "last": "operator"}
@@ -178,7 +194,7 @@ class Built(Tree):
             printed[name] = f"# {name}\n{heading}\n\x01\0\x01\0"
         run = self.settle("--quiet")
         self.assertEqual((run.status, run.output.decode()), (0, "".join(printed.values())))
-        self.assertEqual(self.runs(), ["check quality", "check quality_gas"])
+        self.assertEqual(self.runs(), ["run quality", "run quality_gas"])
         self.assertEqual(self.settle("--quiet", "--gas").output.decode(), printed["gas"] + printed["gas-two"])
 
 
@@ -188,9 +204,9 @@ class NotBuilt(Tree):
         run = self.settle("--quiet", self.filing, self.filing)
         log = self.root / "target/front/quality.log"
         self.assertEqual(run.status, 2)
-        self.assertEqual(run.said.count(f"rt check quality ended with status 1; what the prover said is in {log}"), 2)
-        self.assertIn("quality NOT PROVED", log.read_text())
-        self.assertEqual(self.runs(), ["check quality"])
+        self.assertEqual(run.said.count(f"rt run in crates/quality ended with status 1; what the prover said is in {log}"), 2)
+        self.assertIn("logic=not-proved", log.read_text())
+        self.assertEqual(self.runs(), ["run quality"])
         self.assertIn(f"# {self.filing}: trouble: the program could not be built", run.output.decode())
 
     def test_an_old_program_is_not_run_where_a_source_is_newer(self):
@@ -201,7 +217,7 @@ class NotBuilt(Tree):
         run = self.settle()
         self.assertEqual((run.status, run.output), (2, b""))
 
-    def test_a_program_that_failed_its_run_is_not_taken_the_next_time(self):
+    def test_a_program_that_a_failed_build_left_is_not_taken_the_next_time(self):
         self.file("tree/failing-late", "")
         for _ in range(2):
             run = self.settle()
@@ -212,7 +228,7 @@ class NotBuilt(Tree):
 
     def test_a_program_that_rt_does_not_build_again(self):
         self.file("tree/forgetting", "")
-        self.assertIn("remove the folder target and try again", self.settle().said)
+        self.assertIn(f"remove the folder {self.root}/crates/quality/out and try again", self.settle().said)
 
     def test_without_the_toolchain_it_is_said_what_to_install(self):
         tools = self.folder / "tools"
@@ -233,7 +249,7 @@ class NotBuilt(Tree):
     def test_a_refusal_stands_without_the_program_that_tells_the_figure(self):
         self.file("tree/standing-in-for-quality", "echo refused 9 at 4")
         self.settle()
-        (self.root / "target/bin/rewrite").unlink()
+        (self.root / "crates/rewrite/out/rewrite").unlink()
         self.file("tree/failing", "")
         run = self.settle(self.file("calls.txt", "join 0\namount 0 2017 fees withdraw 1\n"))
         self.assertEqual((run.status, run.output), (1, b"refused 9 at 4\n"))
@@ -257,8 +273,8 @@ class NotBuilt(Tree):
         self.file("tree/failing", "")
         run = self.settle("--sheet", "0", "2017", self.filing, self.filing)
         log = self.root / "target/front/sheet.log"
-        self.assertEqual((run.status, self.runs()), (2, ["check quality", "check sheet"]))
-        self.assertEqual(run.said.count(f"rt check sheet ended with status 1; what the prover said is in {log}"), 2)
+        self.assertEqual((run.status, self.runs()), (2, ["run quality", "run sheet"]))
+        self.assertEqual(run.said.count(f"rt run in crates/sheet ended with status 1; what the prover said is in {log}"), 2)
         self.assertTrue(run.output.endswith(f"# {self.filing}: trouble: the program could not be built\n".encode()))
         self.file("tree/crates.txt", CRATES.replace("sheet", "sheets"))
         run = self.settle("--sheet", "0", "2017", self.filing)
@@ -268,9 +284,9 @@ class NotBuilt(Tree):
         whole = f"for word in {COUNTS}; do echo $word 0; done"
         for printing, told in [
             ("true", ""),
-            ("exit 3", "/target/bin/sheet ended with status 3\n"),
+            ("exit 3", "/crates/sheet/out/sheet ended with status 3\n"),
             ("echo 'filing.q: Is a directory' >&2", "filing.q: Is a directory\n"),
-            (f"{whole}; exit 1", "/target/bin/sheet ended with status 1\n"),
+            (f"{whole}; exit 1", "/crates/sheet/out/sheet ended with status 1\n"),
             (f"{whole}; echo more", ""),
             (f"{whole} | head -n 4", ""),
             (f"{whole} | sed s/short/long/", ""),
@@ -318,7 +334,7 @@ class Written(Tree):
         run = self.written("cat filing.q; printf book")
         self.assertEqual((run.status, run.output), (0, b""))
         self.assertEqual((self.folder / "out.q").read_bytes(), b"\x01\x00\x01\x00book")
-        self.assertEqual(self.runs(), ["check rewrite"])
+        self.assertEqual(self.runs(), ["run rewrite"])
 
     def test_standard_output(self):
         self.assertEqual(self.written("printf book", "-").output, b"book")
@@ -360,5 +376,5 @@ class RealTree(InFolder):
         self.assertTrue({"exact", "calls", "output", "load"} <= set(crates))
         self.assertFalse({"io", "writing", "replay"} & set(crates))
         for name in PROGRAMS:
-            why = building.reason_to_build(ROOT, PROGRAM.with_name(name), building.needed(ROOT, name))
+            why = building.reason_to_build(ROOT, building.built(ROOT, name), building.needed(ROOT, name))
             self.assertIsNone(why, "tests/front.sh brings it up to date")

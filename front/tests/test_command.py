@@ -4,8 +4,9 @@ import os
 import subprocess
 import sys
 
+from front import building
 from front.kinds import kind_of_example
-from front.tests.common import PROGRAM, ROOT, InFolder, program_on, settle
+from front.tests.common import ROOT, InFolder, program_on, settle
 
 CASE_M = (ROOT / "examples" / "case-m" / "filing.q").read_bytes()
 SETTLED = program_on(CASE_M)
@@ -71,7 +72,7 @@ class Output(InFolder):
         expected = b""
         for example in sorted((ROOT / "examples").iterdir()):
             lines = (example / "calls.txt").read_bytes().splitlines(True)
-            program = PROGRAM.with_name(kind_of_example(example.name).settling)
+            program = building.built(ROOT, kind_of_example(example.name).settling)
             expected += b"".join(line for line in lines if line.startswith(b"#")) + program_on((example / "filing.q").read_bytes(), program)
         run = settle(cwd=self.folder)
         self.assertEqual((run.status, run.output), (0, expected))

@@ -3,7 +3,7 @@
 import csv
 from itertools import product
 
-from front import words
+from front import building, words
 from front.calls import BY_NAME, FIGURES, INDICATORS, YEARS, Call
 from front.filing import encode
 from front.kinds import ELECTRICITY, GAS, KINDS_OF_BOOK, kind_of_example
@@ -478,7 +478,7 @@ class Kinds(InFolder):
         joined = encode(Call(BY_NAME["join"], (1,)))
         for book_kind, text in product(KINDS_OF_BOOK, TRIED):
             call = words.read(text)[0][0].call
-            printed = program_on(joined + encode(call), GAS_PROGRAM.with_name(book_kind.settling))
+            printed = program_on(joined + encode(call), building.built(ROOT, book_kind.settling))
             taken = book_kind.takes(call) and not any(outside(number, call, book_kind) for number in CHECKS)
             self.assertEqual(b" at 4" not in printed, taken, (book_kind.name, text))
 
