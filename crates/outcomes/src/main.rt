@@ -3,6 +3,6 @@
 
 use calls::Kind;
 
-fn main() {
-    telling::print_outcomes(Kind::Electricity);
+fn main(rt: HostRuntime) {
+    telling::print_outcomes(&rt, Kind::Electricity);
 }

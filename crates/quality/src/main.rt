@@ -3,6 +3,6 @@
 
 use calls::Kind;
 
-fn main() {
-    settling::print_settlement(Kind::Electricity);
+fn main(rt: HostRuntime) {
+    settling::print_settlement(&rt, Kind::Electricity);
 }

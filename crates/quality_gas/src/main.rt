@@ -3,6 +3,6 @@
 
 use calls::Kind;
 
-fn main() {
-    settling::print_settlement(Kind::Gas);
+fn main(rt: HostRuntime) {
+    settling::print_settlement(&rt, Kind::Gas);
 }

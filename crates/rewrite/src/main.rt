@@ -3,6 +3,6 @@
 
 use calls::Kind;
 
-fn main() {
-    writing_out::print_book(Kind::Electricity);
+fn main(rt: HostRuntime) {
+    writing_out::print_book(&rt, Kind::Electricity);
 }

@@ -2,52 +2,50 @@
 // that its two arguments give. What is printed for them is `sheet_output`'s to say.
 #![tactic(auto)]
 
-use libc::{STDERR_FILENO, STDOUT_FILENO};
 use load::{Loaded, load_filing};
 use sheet_output::{Argument, argument_of, sheet_output};
+use std::fs::File;
+use std::rt::{Env, Files};
 
-fn main() {
-    match argument(1) {
-        Argument::Number(operator) => asked(operator),
-        Argument::Other => tell_usage(),
+fn main(rt: HostRuntime) {
+    match argument(&rt, 1) {
+        Argument::Number(operator) => asked(&rt, operator),
+        Argument::Other => tell_usage(&rt),
     }
 }
 
 // Once the operator is known.
-fn asked(operator: u8) {
-    match argument(2) {
-        Argument::Number(year) => print_sheet(operator, year),
-        Argument::Other => tell_usage(),
+fn asked<R: Env + Files<File = File> + Print + Eprint>(rt: &R, operator: u8) {
+    match argument(rt, 2) {
+        Argument::Number(year) => print_sheet(rt, operator, year),
+        Argument::Other => tell_usage(rt),
     }
 }
 
 // One that is missing, or longer than four bytes, comes as empty, which is no number.
-fn argument(i: usize) -> Argument {
+fn argument<R: Env>(rt: &R, i: usize) -> Argument {
     let mut text = [0u8; 4];
-    let length = os::arg(i, &mut text);
+    let length = rt.arg(i, &mut text).unwrap_or(0);
     argument_of(&text[..length])
 }
 
-fn print_sheet(operator: u8, year: u8) {
+fn print_sheet<R: Files<File = File> + Print + Eprint>(rt: &R, operator: u8, year: u8) {
     // One byte more than a filing may have, so that a longer one shows.
     let mut filing = [0u8; 65537];
-    match load_filing(&mut filing) {
-        Loaded::Bytes(length) => print_output(&filing[..length], operator, year),
+    match load_filing(rt, &mut filing) {
+        Loaded::Bytes(length) => print_output(rt, &filing[..length], operator, year),
         Loaded::Failed => {}
     }
 }
 
-fn print_output(filing: &[u8], operator: u8, year: u8) {
+fn print_output<R: Print + Eprint>(rt: &R, filing: &[u8], operator: u8, year: u8) {
     let mut text = [0u8; 2048];
     let count = sheet_output(filing, operator, year, &mut text);
-    if !io::write_all(STDOUT_FILENO, &text[..count]) {
-        os::fail(b"standard output");
+    if let Err(e) = rt.write_all(&text[..count]) {
+        let _ = eprintln!(rt; "standard output: {e}");
     }
 }
 
-fn tell_usage() {
-    io::write_all(
-        STDERR_FILENO,
-        b"usage: sheet OPERATOR YEAR, each a number from 0 to 255\n",
-    );
+fn tell_usage<R: Eprint>(rt: &R) {
+    let _ = eprintln!(rt; "usage: sheet OPERATOR YEAR, each a number from 0 to 255");
 }

@@ -5,8 +5,9 @@
 use book::Book;
 use calls::{Answer, Kind, Reason, Refusal};
 use fields::Field;
-use libc::STDOUT_FILENO;
 use load::{Loaded, load_filing};
+use std::fs::File;
+use std::rt::Files;
 
 // The book by now, and the offset of the next field.
 #[derive(Clone, Copy)]
@@ -15,18 +16,18 @@ struct Walk {
     offset: usize,
 }
 
-pub fn print_outcomes(kind: Kind) {
+pub fn print_outcomes<R: Files<File = File> + Print + Eprint>(rt: &R, kind: Kind) {
     // One byte more than a filing may have, so that a longer one shows.
     let mut filing = [0u8; 65537];
-    match load_filing(&mut filing) {
-        Loaded::Bytes(length) => tell(kind, &filing[..length]),
+    match load_filing(rt, &mut filing) {
+        Loaded::Bytes(length) => tell(rt, kind, &filing[..length]),
         Loaded::Failed => {}
     }
 }
 
-fn tell(kind: Kind, filing: &[u8]) {
+fn tell<R: Print>(rt: &R, kind: Kind, filing: &[u8]) {
     if 65536 < filing.len() {
-        put(b"too long\n");
+        put(rt, b"too long\n");
         return;
     }
     let book = book::fresh();
@@ -34,13 +35,13 @@ fn tell(kind: Kind, filing: &[u8]) {
     // A filing has fewer fields than bytes.
     let mut i = 0;
     while i < filing.len() {
-        walk = step(kind, walk, filing);
+        walk = step(rt, kind, walk, filing);
         i += 1;
     }
 }
 
 // One field; a refused one is followed by the end.
-fn step(kind: Kind, walk: Walk, filing: &[u8]) -> Walk {
+fn step<R: Print>(rt: &R, kind: Kind, walk: Walk, filing: &[u8]) -> Walk {
     let mut book = walk.book;
     let mut offset = filing.len();
     match fields::field_in(kind, filing, walk.offset) {
@@ -48,54 +49,54 @@ fn step(kind: Kind, walk: Walk, filing: &[u8]) -> Walk {
             let filed = bookkeeping::file_as(kind, book, filing_call);
             let answer = filed.answer;
             book = filed.book;
-            if put_answer(walk.offset, answer) {
+            if put_answer(rt, walk.offset, answer) {
                 offset = next;
             }
         }
         Field::End => {}
-        Field::Refused(refusal) => put_refusal(walk.offset, refusal),
+        Field::Refused(refusal) => put_refusal(rt, walk.offset, refusal),
     }
     Walk { book, offset }
 }
 
 // Whether a call was accepted, which is printed.
-fn put_answer(offset: usize, answer: Answer) -> bool {
+fn put_answer<R: Print>(rt: &R, offset: usize, answer: Answer) -> bool {
     match answer {
-        Answer::Yes => put_word(offset, b" yes\n"),
-        Answer::Counted { year } => put_numbered(offset, b" counted ", year),
-        Answer::LeftOut(reason) => put_reason(offset, reason),
+        Answer::Yes => put_word(rt, offset, b" yes\n"),
+        Answer::Counted { year } => put_numbered(rt, offset, b" counted ", year),
+        Answer::LeftOut(reason) => put_reason(rt, offset, reason),
         Answer::Refused(refusal) => {
-            put_refusal(offset, refusal);
+            put_refusal(rt, offset, refusal);
             return false;
         }
     }
     true
 }
 
-fn put_reason(offset: usize, reason: Reason) {
+fn put_reason<R: Print>(rt: &R, offset: usize, reason: Reason) {
     match reason {
-        Reason::Short => put_word(offset, b" short\n"),
-        Reason::Planned => put_word(offset, b" planned\n"),
-        Reason::Coupled => put_word(offset, b" coupled\n"),
-        Reason::Exceptional => put_word(offset, b" exceptional\n"),
+        Reason::Short => put_word(rt, offset, b" short\n"),
+        Reason::Planned => put_word(rt, offset, b" planned\n"),
+        Reason::Coupled => put_word(rt, offset, b" coupled\n"),
+        Reason::Exceptional => put_word(rt, offset, b" exceptional\n"),
     }
 }
 
-fn put_refusal(offset: usize, refusal: Refusal) {
-    put_numbered(offset, b" refused ", calls::number_of(refusal));
+fn put_refusal<R: Print>(rt: &R, offset: usize, refusal: Refusal) {
+    put_numbered(rt, offset, b" refused ", calls::number_of(refusal));
 }
 
-fn put_numbered(offset: usize, word: &[u8], number: u8) {
-    put_word(offset, word);
-    io::print_decimal(STDOUT_FILENO, number as u64);
-    put(b"\n");
+fn put_numbered<R: Print>(rt: &R, offset: usize, word: &[u8], number: u8) {
+    put_word(rt, offset, word);
+    let _ = rt.print(number);
+    put(rt, b"\n");
 }
 
-fn put_word(offset: usize, word: &[u8]) {
-    io::print_decimal(STDOUT_FILENO, offset as u64);
-    put(word);
+fn put_word<R: Print>(rt: &R, offset: usize, word: &[u8]) {
+    let _ = rt.print(offset);
+    put(rt, word);
 }
 
-fn put(text: &[u8]) {
-    io::write_all(STDOUT_FILENO, text);
+fn put<R: Print>(rt: &R, text: &[u8]) {
+    let _ = rt.write_all(text);
 }

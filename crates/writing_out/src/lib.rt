@@ -4,34 +4,33 @@
 #![tactic(auto)]
 
 use calls::Kind;
-use libc::{STDERR_FILENO, STDOUT_FILENO};
 use load::{Loaded, load_filing};
 use rewriting::{Stream, rewritten_as};
+use std::fs::File;
+use std::rt::Files;
 use writer::WRITTEN_MOST;
 
-pub fn print_book(kind: Kind) {
+pub fn print_book<R: Files<File = File> + Print + Eprint>(rt: &R, kind: Kind) {
     // One byte more than a filing may have, so that a longer one shows.
     let mut filing = [0u8; 65537];
-    match load_filing(&mut filing) {
-        Loaded::Bytes(length) => print_rewritten(kind, &filing[..length]),
+    match load_filing(rt, &mut filing) {
+        Loaded::Bytes(length) => print_rewritten(rt, kind, &filing[..length]),
         Loaded::Failed => {}
     }
 }
 
-fn print_rewritten(kind: Kind, filing: &[u8]) {
+fn print_rewritten<R: Print + Eprint>(rt: &R, kind: Kind, filing: &[u8]) {
     // The longest of either kind.
     let mut text = [0u8; WRITTEN_MOST];
     let printed = rewritten_as(kind, filing, &mut text);
     let count = printed.count;
-    let stream = printed.stream;
-    if !io::write_all(descriptor_of(stream), &text[..count]) {
-        os::fail(b"output");
-    }
-}
-
-fn descriptor_of(stream: Stream) -> i32 {
-    match stream {
-        Stream::Output => STDOUT_FILENO,
-        Stream::Error => STDERR_FILENO,
+    let bytes = &text[..count];
+    let put = match printed.stream {
+        Stream::Output => rt.write_all(bytes),
+        // A refusal's line is of ASCII letters, so it is text.
+        Stream::Error => rt.eprint(str::from_utf8(bytes).unwrap()),
+    };
+    if let Err(e) = put {
+        let _ = eprintln!(rt; "output: {e}");
     }
 }
