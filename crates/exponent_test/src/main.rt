@@ -1,17 +1,15 @@
 // Prints the 1001 exponent weights, one a line, from k = 0 on.
 #![tactic(auto)]
 
-use libc::STDOUT_FILENO;
+use std::io;
 
-fn main() {
-    let mut k = 0;
-    while k < 1001 {
-        print_line(exponent::weight(k));
-        k += 1;
+fn main(rt: HostRuntime) -> io::Result<()> {
+    for k in 0..1001 {
+        print_line(&rt, exponent::weight(k))?;
     }
+    Ok(())
 }
 
-fn print_line(n: u64) {
-    io::print_decimal(STDOUT_FILENO, n);
-    io::write_all(STDOUT_FILENO, b"\n");
+fn print_line(rt: &impl Print, n: u64) -> io::Result<()> {
+    println!(rt; "{n}")
 }

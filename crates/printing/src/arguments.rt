@@ -1,15 +1,16 @@
 // Prints the arguments of a filing call.
 use crate::print::{byte, number, signed};
 use calls::Call;
+use std::io;
 
-pub fn print(filing_call: Call) {
+pub fn print(rt: &impl Print, filing_call: Call) -> io::Result<()> {
     match filing_call {
-        Call::Join { operator } => byte(operator),
+        Call::Join { operator } => byte(rt, operator),
         Call::Setting {
             operator,
             which,
             value,
-        } => setting(operator, which, value),
+        } => setting(rt, operator, which, value),
         Call::Interruption {
             operator,
             sign,
@@ -18,56 +19,72 @@ pub fn print(filing_call: Call) {
             start,
             end,
             weight,
-        } => interruption(operator, sign, level, cause, start, end, weight),
+        } => interruption(rt, operator, sign, level, cause, start, end, weight),
         Call::Amount {
             operator,
             year,
             figure,
             sign,
             value,
-        } => amount(operator, year, figure, sign, value),
+        } => amount(rt, operator, year, figure, sign, value),
         Call::Mark {
             operator,
             indicator,
             mark,
-        } => bytes(operator, indicator, mark),
-        Call::Rates { pot, cap } => rates(pot, cap),
-        Call::Index { number, value } => index(number, value),
+        } => bytes(rt, operator, indicator, mark),
+        Call::Rates { pot, cap } => rates(rt, pot, cap),
+        Call::Index { number, value } => index(rt, number, value),
     }
 }
 
-fn bytes(first: u8, second: u8, third: u8) {
-    byte(first);
-    byte(second);
-    byte(third);
+fn bytes(rt: &impl Print, first: u8, second: u8, third: u8) -> io::Result<()> {
+    byte(rt, first)?;
+    byte(rt, second)?;
+    byte(rt, third)
 }
 
-fn setting(operator: u8, which: u8, value: u64) {
-    byte(operator);
-    byte(which);
-    number(value);
+fn setting(rt: &impl Print, operator: u8, which: u8, value: u64) -> io::Result<()> {
+    byte(rt, operator)?;
+    byte(rt, which)?;
+    number(rt, value)
 }
 
-fn interruption(operator: u8, sign: u8, level: u8, cause: u8, start: i64, end: i64, weight: u32) {
-    bytes(operator, sign, level);
-    byte(cause);
-    signed(start);
-    signed(end);
-    number(weight as u64);
+fn interruption(
+    rt: &impl Print,
+    operator: u8,
+    sign: u8,
+    level: u8,
+    cause: u8,
+    start: i64,
+    end: i64,
+    weight: u32,
+) -> io::Result<()> {
+    bytes(rt, operator, sign, level)?;
+    byte(rt, cause)?;
+    signed(rt, start)?;
+    signed(rt, end)?;
+    number(rt, weight as u64)
 }
 
-fn amount(operator: u8, year: u8, figure: u8, sign: u8, value: u64) {
-    bytes(operator, year, figure);
-    byte(sign);
-    number(value);
+fn amount(
+    rt: &impl Print,
+    operator: u8,
+    year: u8,
+    figure: u8,
+    sign: u8,
+    value: u64,
+) -> io::Result<()> {
+    bytes(rt, operator, year, figure)?;
+    byte(rt, sign)?;
+    number(rt, value)
 }
 
-fn rates(pot: u32, cap: u32) {
-    number(pot as u64);
-    number(cap as u64);
+fn rates(rt: &impl Print, pot: u32, cap: u32) -> io::Result<()> {
+    number(rt, pot as u64)?;
+    number(rt, cap as u64)
 }
 
-fn index(which: u8, value: u32) {
-    byte(which);
-    number(value as u64);
+fn index(rt: &impl Print, which: u8, value: u32) -> io::Result<()> {
+    byte(rt, which)?;
+    number(rt, value as u64)
 }

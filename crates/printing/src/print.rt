@@ -2,158 +2,143 @@
 use crate::words;
 use crate::words::{WIDTH, letter_of};
 use calls::{Answer, Reason};
-use libc::STDOUT_FILENO;
+use std::io;
 
-pub fn put(byte: u8) {
-    let one = [byte];
-    io::write_all(STDOUT_FILENO, &one);
+pub fn put(rt: &impl Print, byte: u8) -> io::Result<()> {
+    rt.write_all(&[byte])
 }
 
-pub fn word(k: u8) {
-    let mut i = 0;
-    while i < WIDTH {
-        letter(letter_of(k, i));
-        i += 1;
+pub fn word(rt: &impl Print, k: u8) -> io::Result<()> {
+    for i in 0..WIDTH {
+        letter(rt, letter_of(k, i))?;
     }
+    Ok(())
 }
 
-fn letter(byte: u8) {
+fn letter(rt: &impl Print, byte: u8) -> io::Result<()> {
     if byte != b' ' {
-        put(byte);
+        put(rt, byte)?;
     }
+    Ok(())
 }
 
 // A word or a number with a space before it.
-pub fn label(k: u8) {
-    put(b' ');
-    word(k);
+pub fn label(rt: &impl Print, k: u8) -> io::Result<()> {
+    put(rt, b' ')?;
+    word(rt, k)
 }
 
-pub fn number(n: u64) {
-    put(b' ');
-    io::print_decimal(STDOUT_FILENO, n);
+pub fn number(rt: &impl Print, n: u64) -> io::Result<()> {
+    print!(rt; " {n}")
 }
 
-pub fn byte(n: u8) {
-    number(n as u64);
+pub fn byte(rt: &impl Print, n: u8) -> io::Result<()> {
+    number(rt, n as u64)
 }
 
-pub fn signed(n: i64) {
-    put(b' ');
-    plain_signed(n);
+pub fn signed(rt: &impl Print, n: i64) -> io::Result<()> {
+    put(rt, b' ')?;
+    plain_signed(rt, n)
 }
 
-fn plain_signed(n: i64) {
-    if n < 0 {
-        put(b'-');
-        io::print_decimal(STDOUT_FILENO, (-1 - n) as u64 + 1);
-    } else {
-        io::print_decimal(STDOUT_FILENO, n as u64);
+fn plain_signed(rt: &impl Print, n: i64) -> io::Result<()> {
+    print!(rt; "{n}")
+}
+
+pub fn equals(rt: &impl Print) -> io::Result<()> {
+    print!(rt; " =")
+}
+
+pub fn numbers(rt: &impl Print, values: &[u64]) -> io::Result<()> {
+    for value in values {
+        number(rt, *value)?;
     }
-}
-
-pub fn equals() {
-    put(b' ');
-    put(b'=');
-}
-
-pub fn numbers(values: &[u64]) {
-    let mut i = 0;
-    while i < values.len() {
-        number(values[i]);
-        i += 1;
-    }
+    Ok(())
 }
 
 // The values of a list that are not 0, each with its place.
-pub fn list(values: &[u64]) {
-    bar();
-    let mut i = 0;
-    while i < values.len() {
-        entry(i, values[i]);
-        i += 1;
+pub fn list(rt: &impl Print, values: &[u64]) -> io::Result<()> {
+    bar(rt)?;
+    for (place, value) in values.iter().enumerate() {
+        entry(rt, place, *value)?;
     }
+    Ok(())
 }
 
-pub fn list_16(values: &[u16]) {
-    bar();
-    let mut i = 0;
-    while i < values.len() {
-        entry(i, of_16(values[i]));
-        i += 1;
+pub fn list_16(rt: &impl Print, values: &[u16]) -> io::Result<()> {
+    bar(rt)?;
+    for (place, value) in values.iter().enumerate() {
+        entry(rt, place, of_16(*value))?;
     }
+    Ok(())
 }
 
 fn of_16(n: u16) -> u64 {
     n as u64
 }
 
-pub fn list_32(values: &[u32]) {
-    bar();
-    let mut i = 0;
-    while i < values.len() {
-        entry(i, of_32(values[i]));
-        i += 1;
+pub fn list_32(rt: &impl Print, values: &[u32]) -> io::Result<()> {
+    bar(rt)?;
+    for (place, value) in values.iter().enumerate() {
+        entry(rt, place, of_32(*value))?;
     }
+    Ok(())
 }
 
 fn of_32(n: u32) -> u64 {
     n as u64
 }
 
-pub fn list_signed(values: &[i64]) {
-    bar();
-    let mut i = 0;
-    while i < values.len() {
-        signed_entry(i, values[i]);
-        i += 1;
+pub fn list_signed(rt: &impl Print, values: &[i64]) -> io::Result<()> {
+    bar(rt)?;
+    for (place, value) in values.iter().enumerate() {
+        signed_entry(rt, place, *value)?;
     }
+    Ok(())
 }
 
-fn bar() {
-    put(b' ');
-    put(b'|');
+fn bar(rt: &impl Print) -> io::Result<()> {
+    print!(rt; " |")
 }
 
-fn entry(place: usize, value: u64) {
+fn entry(rt: &impl Print, place: usize, value: u64) -> io::Result<()> {
     if 0 < value {
-        number(place as u64);
-        put(b':');
-        io::print_decimal(STDOUT_FILENO, value);
+        print!(rt; " {place}:{value}")?;
     }
+    Ok(())
 }
 
-fn signed_entry(place: usize, value: i64) {
+fn signed_entry(rt: &impl Print, place: usize, value: i64) -> io::Result<()> {
     if value != 0 {
-        number(place as u64);
-        put(b':');
-        plain_signed(value);
+        print!(rt; " {place}:")?;
+        plain_signed(rt, value)?;
     }
+    Ok(())
 }
 
-pub fn answered(answer: Answer) {
-    equals();
+pub fn answered(rt: &impl Print, answer: Answer) -> io::Result<()> {
+    equals(rt)?;
     match answer {
-        Answer::Yes => label(words::YES),
+        Answer::Yes => label(rt, words::YES),
         Answer::Counted { year } => {
-            label(words::COUNTED);
-            byte(year);
+            label(rt, words::COUNTED)?;
+            byte(rt, year)
         }
-        Answer::LeftOut(reason) => left_out(reason),
+        Answer::LeftOut(reason) => left_out(rt, reason),
         Answer::Refused(refusal) => {
-            label(words::REFUSED);
-            byte(calls::number_of(refusal));
+            label(rt, words::REFUSED)?;
+            byte(rt, calls::number_of(refusal))
         }
     }
 }
 
-fn left_out(reason: Reason) {
-    label(words::LEFT);
-    label(words::OUT);
+fn left_out(rt: &impl Print, reason: Reason) -> io::Result<()> {
+    label(rt, words::LEFT)?;
+    label(rt, words::OUT)?;
     match reason {
-        Reason::Short => label(words::SHORT),
-        Reason::Planned => label(words::PLANNED),
-        Reason::Coupled => label(words::COUPLED),
-        Reason::Exceptional => label(words::EXCEPTIONAL),
+        Reason::Short => label(rt, words::SHORT),
+        Reason::Planned => label(rt, words::PLANNED),
+        Reason::Coupled => label(rt, words::COUPLED),
+        Reason::Exceptional => label(rt, words::EXCEPTIONAL),
     }
 }

@@ -7,18 +7,16 @@ ghost use Rattle.calls.specs.Limits.{operators, setting_count};
 
 use book::Book;
 use calls::{Answer, FIGURE_PLACES, SETTING_PLACES, SETTINGS};
-use libc::STDOUT_FILENO;
+use std::{env, io};
 
-fn main() {
+fn main(rt: HostRuntime) -> io::Result<()> {
     let b = full_book();
-    let times = os::arg_count();
+    let times = env::args(&rt)?.len();
     let mut sum = 0u64;
-    let mut i = 0;
-    while i < times {
-        sum = std::num::wrapping_add_u64(sum, settled(b, i));
-        i += 1;
+    for i in 0..times {
+        sum = sum.wrapping_add(settled(b, i));
     }
-    io::print_decimal(STDOUT_FILENO, sum);
+    print!(rt; "{sum}")
 }
 
 // What operator 0 gets back from the book with one income changed.
@@ -52,10 +50,8 @@ fn full_book() -> Book {
 
 fn settings() -> [u64; SETTING_PLACES] {
     let mut list = [0u64; SETTING_PLACES];
-    let mut i = 0;
-    while i < SETTING_PLACES {
+    for i in 0..SETTING_PLACES {
         list[i] = setting((i / SETTINGS) as u64, (i % SETTINGS) as u64);
-        i += 1;
     }
     list
 }
@@ -73,10 +69,8 @@ fn setting(operator: u64, which: u64) -> u64
 
 fn figures() -> [u64; FIGURE_PLACES] {
     let mut list = [0u64; FIGURE_PLACES];
-    let mut i = 0;
-    while i < FIGURE_PLACES {
+    for i in 0..FIGURE_PLACES {
         list[i] = 100000000000 - 1234567 * i as u64;
-        i += 1;
     }
     list
 }

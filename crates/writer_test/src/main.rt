@@ -7,7 +7,7 @@ ghost use Rattle.std.specs.Prelude.{◌≤◌};
 use book::Book;
 use calls::number_of;
 use lent::read_fresh;
-use libc::STDOUT_FILENO;
+use std::io;
 use text::Filled;
 use writer::write;
 
@@ -24,49 +24,40 @@ const CASE_M: [u8; 251] = [
     0, 6, 0, 8, 0, 0, 19, 136, 0, 0, 39, 16,
 ];
 
-fn main() {
+fn main(rt: HostRuntime) -> io::Result<()> {
     let reading = read_fresh(&CASE_M);
     let b = reading.book;
-    show(b, 0);
-    show(b, 250);
-    show(b, 251);
-    show(b, 254);
+    show(&rt, b, 0)?;
+    show(&rt, b, 250)?;
+    show(&rt, b, 251)?;
+    show(&rt, b, 254)
 }
 
 // A buffer of 254 bytes, all 170, of which so many are lent.
-fn show(b: Book, length: usize)
+fn show(rt: &impl Print, b: Book, length: usize) -> io::Result<()>
     requires { length ≤ 254 }
 {
     let mut buffer = [170u8; 254];
     let answer = write(b, &mut buffer[..length]);
-    io::print_decimal(STDOUT_FILENO, length as u64);
-    io::write_all(STDOUT_FILENO, b" = ");
-    print_answer(answer);
-    print_bytes(&buffer);
+    print!(rt; "{length} = ")?;
+    print_answer(rt, answer)?;
+    print_bytes(rt, &buffer)
 }
 
-fn print_answer(answer: Filled) {
+fn print_answer(rt: &impl Print, answer: Filled) -> io::Result<()> {
     match answer {
-        Filled::Bytes(count) => {
-            io::print_decimal(STDOUT_FILENO, count as u64);
-        }
-        Filled::Refused(refusal) => {
-            io::write_all(STDOUT_FILENO, b"refused ");
-            io::print_decimal(STDOUT_FILENO, number_of(refusal) as u64);
-        }
+        Filled::Bytes(count) => print!(rt; "{count} "),
+        Filled::Refused(refusal) => print!(rt; "refused {} ", number_of(refusal)),
     }
-    io::write_all(STDOUT_FILENO, b" ");
 }
 
-fn print_bytes(bytes: &[u8; 254]) {
-    let mut i = 0;
-    while i < 254 {
-        print_byte(bytes[i]);
-        i += 1;
+fn print_bytes(rt: &impl Print, bytes: &[u8; 254]) -> io::Result<()> {
+    for byte in bytes {
+        print_byte(rt, *byte)?;
     }
-    io::write_all(STDOUT_FILENO, b"\n");
+    println!(rt)
 }
 
-fn print_byte(byte: u8) {
-    io::print_hex(STDOUT_FILENO, byte as u64, 2);
+fn print_byte(rt: &impl Print, byte: u8) -> io::Result<()> {
+    print!(rt; "{byte:02x}")
 }
