@@ -3,11 +3,12 @@ use book::Book;
 use calls::Call;
 use fields::Field;
 use printing::print::{answered, byte, numbers};
+use std::io;
 
 // The field inside the command is an amount's; of its numbers only operator and year are looked at.
-pub(crate) fn sheet(b: Book, field: Field) -> Book {
+pub(crate) fn sheet(rt: &impl Print, b: Book, field: Field) -> io::Result<Book> {
     let Field::CallThen { filing_call, next } = field else {
-        return b;
+        return Ok(b);
     };
     let Call::Amount {
         operator,
@@ -17,18 +18,18 @@ pub(crate) fn sheet(b: Book, field: Field) -> Book {
         value,
     } = filing_call
     else {
-        return b;
+        return Ok(b);
     };
-    byte(operator);
-    byte(year);
-    print_sheet(b, operator, year);
-    b
+    byte(rt, operator)?;
+    byte(rt, year)?;
+    print_sheet(rt, b, operator, year)?;
+    Ok(b)
 }
 
-fn print_sheet(b: Book, operator: u8, year: u8) {
+fn print_sheet(rt: &impl Print, b: Book, operator: u8, year: u8) -> io::Result<()> {
     let asked = sheets::sheet(b, operator, year);
     let answer = asked.answer;
-    answered(answer);
+    answered(rt, answer)?;
     let counts = asked.counts;
-    numbers(&counts);
+    numbers(rt, &counts)
 }

@@ -14,8 +14,9 @@ ghost use Rattle.std.specs.Prelude.{◌+◌, ◌≤◌, ◌<◌, length};
 use book::Book;
 use calls::Kind;
 use fields::{Field, field_at};
-use libc::STDIN_FILENO;
 use printing::print::{equals, put, word};
+use std::io;
+use std::io::Read;
 
 const FRESH: u8 = 208;
 
@@ -36,28 +37,29 @@ const ELECTRICITY: u8 = 214;
 // Tag and length.
 const HEADER: usize = 3;
 
-fn main() {
-    let mut bytes = io::large_buffer();
-    let count = io::read_full(STDIN_FILENO, &mut bytes);
-    replay(&bytes[..count]);
+fn main(rt: HostRuntime) -> io::Result<()> {
+    let mut bytes = Vec::new(rt.alloc());
+    rt.reader().read_to_end(&mut bytes)?;
+    replay(&rt, &bytes)
 }
 
-fn replay(bytes: &[u8]) {
-    run(bytes, false);
-    run(bytes, true);
+fn replay(rt: &impl Print, bytes: &[u8]) -> io::Result<()> {
+    run(rt, bytes, false)?;
+    run(rt, bytes, true)
 }
 
-fn run(bytes: &[u8], lends: bool) {
+fn run(rt: &impl Print, bytes: &[u8], lends: bool) -> io::Result<()> {
     let mut kind = Kind::Electricity;
     let mut b = book::fresh();
     let mut at = 0;
     while HEADER <= bytes.len() - at {
-        word(bytes[at] % 200);
+        word(rt, bytes[at] % 200)?;
         kind = kind_by(bytes[at], kind);
-        b = step(kind, b, lends, bytes, at);
-        put(b'\n');
+        b = step(rt, kind, b, lends, bytes, at)?;
+        put(rt, b'\n')?;
         at = after(bytes, at);
     }
+    Ok(())
 }
 
 // The kind that a command names, or the one before.
@@ -88,32 +90,39 @@ fn wide(byte: u8) -> usize
 }
 
 // One command; bytes that are none do nothing.
-fn step(kind: Kind, b: Book, lends: bool, bytes: &[u8], at: usize) -> Book
+fn step(
+    rt: &impl Print,
+    kind: Kind,
+    b: Book,
+    lends: bool,
+    bytes: &[u8],
+    at: usize,
+) -> io::Result<Book>
     requires { at + 3 ≤ length bytes.now }
 {
     match field_at(bytes, at) {
-        Field::CallThen { filing_call, next } => routes::filed(kind, b, lends, filing_call),
-        _ => other(kind, b, bytes, at),
+        Field::CallThen { filing_call, next } => routes::filed(rt, kind, b, lends, filing_call),
+        _ => other(rt, kind, b, bytes, at),
     }
 }
 
-fn other(kind: Kind, b: Book, bytes: &[u8], at: usize) -> Book
+fn other(rt: &impl Print, kind: Kind, b: Book, bytes: &[u8], at: usize) -> io::Result<Book>
     requires { at + 3 ≤ length bytes.now }
 {
     match bytes[at] {
-        FRESH => show::book(book::fresh()),
-        SHOW => show::book(b),
-        SETTLE => show::settled(kind, b),
-        STORE => stores::stored(b, field_at(bytes, at + HEADER)),
-        SHEET => asked::sheet(b, field_at(bytes, at + HEADER)),
-        GAS | ELECTRICITY => named(b),
-        _ => b,
+        FRESH => show::book(rt, book::fresh()),
+        SHOW => show::book(rt, b),
+        SETTLE => show::settled(rt, kind, b),
+        STORE => stores::stored(rt, b, field_at(bytes, at + HEADER)),
+        SHEET => asked::sheet(rt, b, field_at(bytes, at + HEADER)),
+        GAS | ELECTRICITY => named(rt, b),
+        _ => Ok(b),
     }
 }
 
 // Naming a kind has no answer, and leaves the book.
-fn named(b: Book) -> Book {
-    equals();
-    put(b' ');
-    b
+fn named(rt: &impl Print, b: Book) -> io::Result<Book> {
+    equals(rt)?;
+    put(rt, b' ')?;
+    Ok(b)
 }

@@ -6,26 +6,35 @@ use calls::{Call, Kind};
 use lent::held;
 use printing::arguments;
 use printing::print::answered;
+use std::io;
 
-pub(crate) fn filed(kind: Kind, b: Book, lends: bool, filing_call: Call) -> Book {
-    arguments::print(filing_call);
+pub(crate) fn filed(
+    rt: &impl Print,
+    kind: Kind,
+    b: Book,
+    lends: bool,
+    filing_call: Call,
+) -> io::Result<Book> {
+    arguments::print(rt, filing_call)?;
     if lends {
-        return told(match kind {
+        let after = match kind {
             Kind::Electricity => lent(b, filing_call),
             Kind::Gas => gas_routes::lent(b, filing_call),
-        });
+        };
+        return told(rt, after);
     }
-    told(match kind {
+    let after = match kind {
         Kind::Electricity => by_value(b, filing_call),
         Kind::Gas => gas_routes::by_value(b, filing_call),
-    })
+    };
+    told(rt, after)
 }
 
-fn told(after: Answered) -> Book {
+fn told(rt: &impl Print, after: Answered) -> io::Result<Book> {
     let answer = after.answer;
-    answered(answer);
+    answered(rt, answer)?;
     let next = after.book;
-    next
+    Ok(next)
 }
 
 fn by_value(b: Book, filing_call: Call) -> Answered {

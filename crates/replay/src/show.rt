@@ -3,53 +3,54 @@ use book::Book;
 use calls::Kind;
 use printing::print::{answered, equals, list, list_16, list_32, list_signed, number};
 use settlement::Settlement;
+use std::io;
 
 // Who has joined and the rates; marks, indices, settings and figures.
-pub(crate) fn book(b: Book) -> Book {
-    equals();
-    number(b.joined as u64);
-    number(b.pot_rate as u64);
-    number(b.cap_rate as u64);
-    lists(b);
-    b
+pub(crate) fn book(rt: &impl Print, b: Book) -> io::Result<Book> {
+    equals(rt)?;
+    number(rt, b.joined as u64)?;
+    number(rt, b.pot_rate as u64)?;
+    number(rt, b.cap_rate as u64)?;
+    lists(rt, b)?;
+    Ok(b)
 }
 
-fn lists(b: Book) {
+fn lists(rt: &impl Print, b: Book) -> io::Result<()> {
     let marks = b.marks;
-    list_16(&marks);
+    list_16(rt, &marks)?;
     let indices = b.indices;
-    list_32(&indices);
+    list_32(rt, &indices)?;
     let settings = b.settings;
-    list(&settings);
+    list(rt, &settings)?;
     let figures = b.figures;
-    list(&figures);
+    list(rt, &figures)
 }
 
-pub(crate) fn settled(kind: Kind, b: Book) -> Book {
+pub(crate) fn settled(rt: &impl Print, kind: Kind, b: Book) -> io::Result<Book> {
     let s = match kind {
         Kind::Electricity => settlement::settle(b),
         Kind::Gas => settlement::settle_gas(b),
     };
     let answer = s.answer;
-    answered(answer);
+    answered(rt, answer)?;
     let numbers = s.settlement;
-    whole(numbers);
-    b
+    whole(rt, numbers)?;
+    Ok(b)
 }
 
 // The pot; pools, points, contributions, returns, limits and adjustments.
-fn whole(s: Settlement) {
-    number(s.pot);
+fn whole(rt: &impl Print, s: Settlement) -> io::Result<()> {
+    number(rt, s.pot)?;
     let pools = s.pools;
-    list(&pools);
+    list(rt, &pools)?;
     let points = s.points;
-    list(&points);
+    list(rt, &points)?;
     let paid = s.contributions;
-    list(&paid);
+    list(rt, &paid)?;
     let received = s.returns;
-    list(&received);
+    list(rt, &received)?;
     let limits = s.limits;
-    list(&limits);
+    list(rt, &limits)?;
     let adjustments = s.adjustments;
-    list_signed(&adjustments);
+    list_signed(rt, &adjustments)
 }

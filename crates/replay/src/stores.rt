@@ -5,6 +5,7 @@ use calls::{Call, FIGURES, INDICATORS, INDICES, OPERATORS, SETTINGS, YEARS};
 use fields::Field;
 use printing::print::{byte, label, number};
 use printing::words;
+use std::io;
 
 // The kinds of values.
 const JOINED: u8 = 0;
@@ -22,9 +23,9 @@ const INDEX: u8 = 5;
 const SETTING: u8 = 6;
 
 // The field inside a store: in place of an amount's operator the kind, of year, figure and sign the place.
-pub(crate) fn stored(b: Book, field: Field) -> Book {
+pub(crate) fn stored(rt: &impl Print, b: Book, field: Field) -> io::Result<Book> {
     let Field::CallThen { filing_call, next } = field else {
-        return b;
+        return Ok(b);
     };
     let Call::Amount {
         operator,
@@ -34,28 +35,28 @@ pub(crate) fn stored(b: Book, field: Field) -> Book {
         value,
     } = filing_call
     else {
-        return b;
+        return Ok(b);
     };
-    print_store(operator, year, figure, sign);
-    number(value);
-    show::book(store(b, operator, year, figure, sign, value))
+    print_store(rt, operator, year, figure, sign)?;
+    number(rt, value)?;
+    show::book(rt, store(b, operator, year, figure, sign, value))
 }
 
-fn print_store(kind: u8, first: u8, second: u8, third: u8) {
+fn print_store(rt: &impl Print, kind: u8, first: u8, second: u8, third: u8) -> io::Result<()> {
     // A kind that there is not has some other word.
-    label(words::JOINED + kind % 64);
+    label(rt, words::JOINED + kind % 64)?;
     match kind {
-        JOINED | POT | CAP => {}
+        JOINED | POT | CAP => Ok(()),
         FIGURE => {
-            byte(first);
-            byte(second);
-            byte(third);
+            byte(rt, first)?;
+            byte(rt, second)?;
+            byte(rt, third)
         }
         SETTING => {
-            byte(first);
-            byte(second);
+            byte(rt, first)?;
+            byte(rt, second)
         }
-        _ => byte(first),
+        _ => byte(rt, first),
     }
 }
 
