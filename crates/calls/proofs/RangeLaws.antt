@@ -7,7 +7,7 @@ use native.Mathlib.Omega.{arith}
 use lib.Dec.{ltb, leb, eqb}
 use borrow.Author.Tests.{eqb-true, ltb-true, leb-true}
 use mathlib.Core.List.{List}
-use Rattle.calls.specs.Indicators.{Indicator, takes_interruptions, takes_setting, takes_figure, takes_mark}
+use Rattle.calls.specs.Indicators.{Indicator, takes_setting, takes_figure, takes_mark}
 use Rattle.calls.specs.declared.Call.{Call}
 use Rattle.calls.specs.declared.Call.TheVariants.{Join, Setting, Interruption, Amount, Mark, Rates, Index}
 use Rattle.calls.specs.Limits.{weight_limit, years, figure_count, setting_count, indicator_count, index_count, setting_limit, rate_limit, index_least, index_most}

@@ -3,7 +3,7 @@
 -- Assumes nothing.
 use Rattle.std.specs.Prelude.{ℕ, suc, ◌-◌, ◌<◌, ◌≡◌, ◌↔◌, Bool, true, false, cond, ◌&&◌, ◌||◌, List, [], ◌∷◌, map, eqb, ltb, get_or}
 use Rattle.calls.specs.declared.Refusal.{Refusal}
-use Rattle.calls.specs.Answers.{Said, refused_by, accepted, first_of, number_of}
+use Rattle.calls.specs.Answers.{refused_by, accepted, first_of, number_of}
 
 -- the numbers of the table in the order in which they are looked at: 01's, which is that of the numbers, and "4, 5, 14, 15, 6" (02, point 8)
 abbrev pub order : List ℕ

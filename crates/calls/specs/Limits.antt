@@ -1,6 +1,6 @@
 -- The ranges of document 01, "The book".
 -- Assumes nothing.
-use Rattle.std.specs.Prelude.{ℕ, zero, suc, ◌+◌, ◌*◌, ◌-◌}
+use Rattle.std.specs.Prelude.{ℕ, zero, suc, ◌+◌, ◌*◌}
 
 abbrev pub operators : ℕ
 operators = 16

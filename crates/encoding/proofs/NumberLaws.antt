@@ -1,6 +1,6 @@
 -- A number's bytes stored from the last to the first.
 -- Assumes nothing.
-use Prim.Native.Nat.{ℕ, zero, suc, ◌+◌, ◌*◌, ◌/◌, ◌%◌, ◌^◌, ◌≤◌}
+use Prim.Native.Nat.{ℕ, suc, ◌+◌, ◌/◌, ◌%◌, ◌^◌, ◌≤◌}
 use mathlib.Core.Path.{◌≡◌, refl, sym, ◌∙◌}
 use mathlib.Core.List.{List}
 use native.Mathlib.Nat.{pow-suc, div-div-eq-div-mul, div-one}
@@ -9,7 +9,6 @@ use lib.ListN.{length, set}
 use Rattle.text.specs.Steps.{with_text_at}
 use Rattle.text.proofs.WrittenLaws.{put-nothing, byte-before}
 use Rattle.fields.specs.Encoding.{in_bytes}
-use Rattle.fields.proofs.EncodingLaws.{bytes-length}
 
 -- bytes stored so far: the last of the number, up to a place
 pub record Storing (old : List ℕ) (at width number : ℕ) (new : List ℕ) (rest left : ℕ) : Type 0 where

@@ -9,7 +9,6 @@ use lib.Dec.{eqb}
 use lib.ListN.{drop_of_length-le}
 use borrow.Author.Tests.{eqb-true, eqb-false}
 use Rattle.calls.specs.declared.Call.{Call}
-use Rattle.fields.specs.declared.Field.{Field}
 use Rattle.fields.specs.declared.Field.TheVariants.{CallThen, End, Refused}
 use Rattle.calls.specs.Indicators.{Indicator}
 use Rattle.calls.specs.Answers.{Said, refused_by, accepted, first_of, number_of}

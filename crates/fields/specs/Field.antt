@@ -1,7 +1,6 @@
 -- A field of a filing: tag, length and content, and the call that it files (01, "The filing" and numbers 1, 2, 3).
 -- Assumes nothing.
-use Rattle.std.specs.Prelude.{ℕ, ◌+◌, ◌*◌, ◌-◌, ◌^◌, Bool, cond, not, ◌&&◌, ◌||◌, List, [], ◌∷◌, eqb, leb, ltb, ℤ, pos, length, get_or, take, drop}
-use Rattle.std.proofs.Math.IntN.{sub_ℕ}
+use Rattle.std.specs.Prelude.{ℕ, ◌+◌, ◌-◌, Bool, cond, not, ◌&&◌, ◌||◌, List, [], ◌∷◌, eqb, ltb, length, take, drop}
 use Rattle.calls.specs.declared.Call.{Call}
 use Rattle.calls.specs.Indicators.{Indicator, electricity, takes_interruptions}
 use Rattle.calls.specs.Answers.{Said, refused_by, accepted, first_of, number_of}

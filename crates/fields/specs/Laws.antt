@@ -1,6 +1,6 @@
 -- What is answered at every offset of every run of bytes, both ways. The proof is `field-answered` of proofs/FirstOfFields.antt.
 -- Assumes nothing.
-use Rattle.std.specs.Prelude.{ℕ, ◌<◌, ◌≡◌, ◌↔◌, true, false, List}
+use Rattle.std.specs.Prelude.{ℕ, ◌<◌, ◌≡◌, ◌↔◌, false, List}
 use Rattle.calls.specs.Indicators.{Indicator}
 use Rattle.calls.specs.Answers.{refused_by, accepted}
 use Rattle.calls.specs.Laws.{applies, IsFirst}

@@ -1,6 +1,6 @@
 -- What the program `sheet` prints for the bytes of a filing, an operator and a year.
 -- Assumes nothing.
-use Rattle.std.specs.Prelude.{ℕ, List, [], ◌∷◌, ◌++◌, get_or}
+use Rattle.std.specs.Prelude.{ℕ, List, ◌++◌, get_or}
 use Rattle.calls.specs.Answers.{on_answer, Acceptance}
 use Rattle.book.specs.declared.Book.{Book}
 use Rattle.sheets.specs.Sheet.{sheet_of}

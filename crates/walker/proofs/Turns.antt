@@ -1,6 +1,6 @@
 -- What the walk over a filing holds at each turn, how it goes on from one turn to the next, and what it has come to when the walker stays.
 -- Assumes nothing.
-use Rattle.std.proofs.Common.{ℕ, ◌<◌, ◌≤◌, ◌+◌, ◌≡◌, sym, ap, subst, ◌∙◌, List, length, arith}
+use Rattle.std.proofs.Common.{ℕ, ◌<◌, ◌≤◌, ◌+◌, ◌≡◌, sym, ap, subst, ◌∙◌, List, length}
 use Rattle.fields.specs.Field.{field_at, field_said}
 use Rattle.filing.specs.Reader.{fields_of}
 use Rattle.filing.specs.Laws.{calls_in}

@@ -7,7 +7,7 @@ use native.Mathlib.Omega.{arith}
 use lib.ListN.{get_or, length-set}
 use Rattle.apportion.specs.Share.{award}
 use Rattle.apportion.proofs.Sums.{element-le, sum-set}
-use Rattle.apportion.proofs.Awarded.{HandingOut, award-step}
+use Rattle.apportion.proofs.Awarded.{award-step}
 use Rattle.apportion.proofs.award_units.Goals as goal
 
 pub loop-left-init : goal.loop-left-init

@@ -1,13 +1,6 @@
 -- `apportion::award_units` meets its contract. The loop's invariant: handing out what is left now ends as handing out all at the start.
 -- Assumes nothing.
-use borrow.Author.Rules.{rules}
-use mathlib.Core.Path.{◌≡◌, refl, ◌∙◌}
-use Prim.Native.Nat.{◌+◌}
-use native.Mathlib.Omega.{arith}
-use lib.ListN.{get_or, length-set}
-use Rattle.apportion.specs.Share.{award}
-use Rattle.apportion.proofs.Sums.{element-le, sum-set}
-use Rattle.apportion.proofs.Awarded.{HandingOut, award-step}
+use Rattle.apportion.proofs.Awarded.{HandingOut}
 use Rattle.apportion.proofs.award_units.Given as goal
 
 abbrev pub invariant-loop-left : goal.invariant-loop-left

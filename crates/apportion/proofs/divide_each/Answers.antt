@@ -2,11 +2,10 @@
 -- Assumes nothing.
 use borrow.Author.Rules.{rules}
 use mathlib.Core.Path.{◌≡◌, refl, sym, ◌∙◌}
-use Prim.Native.Nat.{◌-◌, ◌<◌}
+use Prim.Native.Nat.{◌<◌}
 use native.Mathlib.Omega.{arith}
 use lib.ListN.{length}
-use Rattle.apportion.specs.Share.{floors, remainders}
-use Rattle.apportion.proofs.Fill.{FilledTo, filled_more, filled-all}
+use Rattle.apportion.proofs.Fill.{filled_more, filled-all}
 use Rattle.apportion.proofs.Sums.{element-le}
 use Rattle.apportion.proofs.Shared.{floor-at, remainder-at, length-floors, length-remainders}
 use Rattle.apportion.proofs.divide_each.Goals as goal

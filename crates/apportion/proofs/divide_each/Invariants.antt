@@ -1,14 +1,8 @@
 -- `apportion::divide_each` meets its contract. The loop's invariant: the places passed hold their floors and remainders.
 -- Assumes nothing.
-use borrow.Author.Rules.{rules}
-use mathlib.Core.Path.{◌≡◌, refl, sym, ◌∙◌}
-use Prim.Native.Nat.{◌-◌, ◌<◌}
-use native.Mathlib.Omega.{arith}
-use lib.ListN.{length}
+use Prim.Native.Nat.{◌-◌}
 use Rattle.apportion.specs.Share.{floors, remainders}
-use Rattle.apportion.proofs.Fill.{FilledTo, filled_more, filled-all}
-use Rattle.apportion.proofs.Sums.{element-le}
-use Rattle.apportion.proofs.Shared.{floor-at, remainder-at, length-floors, length-remainders}
+use Rattle.apportion.proofs.Fill.{FilledTo}
 use Rattle.apportion.proofs.divide_each.Given as goal
 
 abbrev pub invariant-loop-i : goal.invariant-loop-i

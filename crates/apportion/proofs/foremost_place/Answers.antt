@@ -1,12 +1,11 @@
 -- `apportion::foremost_place` meets its contract. The loop's invariant: best is the foremost of the places passed, and top is its remainder.
 -- Assumes nothing.
 use mathlib.Core.Path.{◌≡◌, refl, sym, ap, ◌∙◌}
-use mathlib.Core.Logic.{⊎_elim}
 use mathlib.Core.Bool.{true, false}
-use Prim.Native.Nat.{ℕ, ◌-◌}
+use Prim.Native.Nat.{ℕ}
 use native.Mathlib.Omega.{arith}
 use lib.ListN.{get_or}
-use Rattle.apportion.proofs.Order.{ForemostOf, foremost-one, foremost-more}
+use Rattle.apportion.proofs.Order.{foremost-one, foremost-more}
 use Rattle.apportion.proofs.foremost_place.Goals as goal
 use Rattle.apportion.proofs.foremost_place.Goals.{then-precedes, else-precedes}
 

@@ -4,7 +4,6 @@ use mathlib.Core.List.{[], ◌∷◌}
 use Rattle.text.specs.Text.{signed_decimal}
 use Rattle.text.proofs.WrittenLaws.{three-second, three_third, put_three}
 use Rattle.text.proofs.SignLaws.{again}
-use borrow.Author.Rules.{rules}
 use Rattle.columns.proofs.put_adjustment.Goals as goal
 
 pub put_signed-last-requires : goal.put_signed-last-requires

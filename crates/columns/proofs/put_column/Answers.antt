@@ -3,7 +3,6 @@
 use mathlib.Core.List.{[], ◌∷◌}
 use Rattle.text.specs.Text.{decimal}
 use Rattle.text.proofs.WrittenLaws.{put_then}
-use borrow.Author.Rules.{rules}
 use Rattle.columns.proofs.put_column.Goals as goal
 
 pub returns : goal.returns

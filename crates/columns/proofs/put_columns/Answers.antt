@@ -2,7 +2,6 @@
 -- Assumes nothing.
 use Rattle.columns.proofs.ColumnLaws.{points-room, out-room, received-room, adjustment-room, columns-put}
 use Rattle.text.proofs.SignLaws.{again}
-use borrow.Author.Rules.{rules}
 use Rattle.columns.proofs.put_columns.Goals as goal
 
 -- what is put stands first, so that a wrong column is told before the room for it

@@ -1,12 +1,11 @@
 -- `columns::total_points` meets its contract. The loop's invariant: t is the sum of the points passed.
 -- Assumes nothing.
 use mathlib.Core.Path.{◌≡◌, refl}
-use Prim.Native.Nat.{◌-◌, ◌≤◌}
 use native.Mathlib.Omega.{arith}
 use lib.ListN.{length}
 use borrow.Author.Rules.{rules}
 use Rattle.indicators.specs.Points.{point_places}
-use Rattle.columns.proofs.SumLaws.{Summing, summing-none, summing-most, summing-more, summing-all}
+use Rattle.columns.proofs.SumLaws.{summing-none, summing-most, summing-more, summing-all}
 use Rattle.columns.proofs.total_points.Goals as goal
 
 pub loop-i-init : goal.loop-i-init

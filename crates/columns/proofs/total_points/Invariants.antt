@@ -1,12 +1,8 @@
 -- `columns::total_points` meets its contract. The loop's invariant: t is the sum of the points passed.
 -- Assumes nothing.
-use mathlib.Core.Path.{◌≡◌, refl}
 use Prim.Native.Nat.{◌-◌, ◌≤◌}
-use native.Mathlib.Omega.{arith}
-use lib.ListN.{length}
-use borrow.Author.Rules.{rules}
 use Rattle.indicators.specs.Points.{point_places}
-use Rattle.columns.proofs.SumLaws.{Summing, summing-none, summing-most, summing-more, summing-all}
+use Rattle.columns.proofs.SumLaws.{Summing}
 use Rattle.columns.proofs.total_points.Given as goal
 
 abbrev pub invariant-loop-i : goal.invariant-loop-i

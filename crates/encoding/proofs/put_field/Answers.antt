@@ -1,7 +1,6 @@
 -- `encoding::put_field` meets its contract.
 -- Assumes nothing.
 use native.Mathlib.Omega.{arith}
-use borrow.Author.Rules.{rules}
 use Rattle.encoding.proofs.FieldLaws.{field-length, tag-room, length-room, front-room, value_room, field_put}
 use Rattle.encoding.proofs.put_field.Goals as goal
 

@@ -1,12 +1,11 @@
 -- `encoding::put_number` meets its contract. The loop's invariant: the last bytes are stored, and the rest of the number is to come.
 -- Assumes nothing.
 use mathlib.Core.Path.{◌≡◌, refl}
-use Prim.Native.Nat.{◌-◌, ◌≤◌}
+use Prim.Native.Nat.{◌-◌}
 use native.Mathlib.Omega.{arith}
-use lib.ListN.{length, length-set}
-use borrow.Author.Rules.{rules}
+use lib.ListN.{length-set}
 use Rattle.fields.proofs.EncodingLaws.{bytes-length}
-use Rattle.encoding.proofs.NumberLaws.{Storing, storing-none, storing-more, storing-all}
+use Rattle.encoding.proofs.NumberLaws.{storing-none, storing-more, storing-all}
 use Rattle.encoding.proofs.put_number.Goals as goal
 
 pub loop-left-init : goal.loop-left-init

@@ -1,12 +1,9 @@
 -- `encoding::put_number` meets its contract. The loop's invariant: the last bytes are stored, and the rest of the number is to come.
 -- Assumes nothing.
-use mathlib.Core.Path.{◌≡◌, refl}
-use Prim.Native.Nat.{◌-◌, ◌≤◌}
-use native.Mathlib.Omega.{arith}
-use lib.ListN.{length, length-set}
-use borrow.Author.Rules.{rules}
-use Rattle.fields.proofs.EncodingLaws.{bytes-length}
-use Rattle.encoding.proofs.NumberLaws.{Storing, storing-none, storing-more, storing-all}
+use mathlib.Core.Path.{◌≡◌}
+use Prim.Native.Nat.{◌≤◌}
+use lib.ListN.{length}
+use Rattle.encoding.proofs.NumberLaws.{Storing}
 use Rattle.encoding.proofs.put_number.Given as goal
 
 abbrev pub invariant-loop-left : goal.invariant-loop-left

@@ -4,7 +4,6 @@ use Prim.Native.Nat.{◌+◌, ◌*◌}
 use native.Mathlib.Nat.{mod-lt, div-add-mod'}
 use native.Mathlib.Omega.{arith}
 use Rattle.exact.proofs.Product.{parts_small, digits-small}
-use borrow.Author.Rules.{rules}
 use Rattle.exact.proofs.append_digit.Goals as goal
 
 pub overflow_mul-sum : goal.overflow_mul-sum

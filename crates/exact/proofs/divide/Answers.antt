@@ -5,7 +5,6 @@ use native.Mathlib.Omega.{arith}
 use native.Mathlib.Nat.{div-le_self}
 use borrow.Author.Tests.{ne_eqb}
 use Rattle.exact.specs.Division.{over}
-use borrow.Author.Rules.{rules}
 use Rattle.exact.proofs.divide.Goals as goal
 
 pub returns-then-divisor-eq0 : goal.returns-then-divisor-eq0

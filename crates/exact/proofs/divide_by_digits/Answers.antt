@@ -7,8 +7,7 @@ use native.Mathlib.Omega.{arith}
 use lib.Count.{count_leading_zeros, leading_le}
 use lib.Dec.{lit<}
 use lib.Pow.{pow_pos, shr_le}
-use Rattle.exact.proofs.Product.{CutOff, no_bits, two-free, digit_room, longer, appended, quotient_le, divided}
-use borrow.Author.Rules.{rules}
+use Rattle.exact.proofs.Product.{no_bits, two-free, digit_room, longer, appended, quotient_le, divided}
 use Rattle.exact.proofs.divide_by_digits.Goals as goal
 
 pub overflow_sub-width : goal.overflow_sub-width

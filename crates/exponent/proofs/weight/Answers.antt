@@ -1,6 +1,5 @@
 -- `exponent::weight` meets its contract.
 -- Assumes nothing.
-use borrow.Author.Rules.{rules}
 use Rattle.exponent.proofs.weight.Goals as goal
 
 pub returns : goal.returns

@@ -9,7 +9,6 @@ use borrow.Enum.Refused.{opened}
 use Rattle.calls.proofs.SaidLaws.{told-accepted}
 use Rattle.output.proofs.RefusalLaws.{at_front}
 use Rattle.output.proofs.OutputLaws.{printed-long, at_field, at_end, as-printed}
-use borrow.Author.Rules.{rules}
 use Rattle.output.proofs.output_as.Goals as goal
 
 -- too long

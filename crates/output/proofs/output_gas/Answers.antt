@@ -1,6 +1,5 @@
 -- `output::output_gas` meets its contract: its core does, at gas.
 -- Assumes nothing.
-use borrow.Author.Rules.{rules}
 use Rattle.output.proofs.output_gas.Goals as goal
 
 pub returns : goal.returns

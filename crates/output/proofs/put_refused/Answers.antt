@@ -6,11 +6,6 @@ use Rattle.text.specs.Text.{bytes_of, decimal}
 use Rattle.text.proofs.WrittenLaws.{room_after, put_then}
 use Rattle.output.specs.Output.{refused_by_number}
 use Rattle.output.proofs.RefusalLaws.{by_length, room}
-use borrow.Author.Rules.{rules}
-use Rattle.output.proofs.put_refused.Reads as reads
-use Rattle.output.proofs.put_refused.Lts as lts
-use Rattle.text.proofs.put_decimal.Reads as put-decimal-reads
-use Rattle.text.proofs.put_word.Reads as put-word-reads
 use Rattle.output.proofs.put_refused.Goals as goal
 
 pub put_decimal-requires : goal.put_decimal-requires

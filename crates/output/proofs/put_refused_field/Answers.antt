@@ -7,12 +7,6 @@ use Rattle.text.specs.Text.{bytes_of, decimal}
 use Rattle.text.proofs.WrittenLaws.{room-first, room_after, put_then, three-second, three_third, put_three}
 use Rattle.output.specs.Output.{refused_by_number, refused_field}
 use Rattle.output.proofs.RefusalLaws.{field-length, room, at_front}
-use borrow.Author.Rules.{rules}
-use Rattle.output.proofs.put_refused_field.Reads as reads
-use Rattle.output.proofs.put_refused_field.Lts as lts
-use Rattle.output.proofs.put_refused.Reads as put-refused-reads
-use Rattle.text.proofs.put_decimal.Reads as put-decimal-reads
-use Rattle.text.proofs.put_word.Reads as put-word-reads
 use Rattle.output.proofs.put_refused_field.Goals as goal
 
 -- what is put stands first, so that a wrong number is told before the room for it

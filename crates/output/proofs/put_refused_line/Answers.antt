@@ -6,11 +6,6 @@ use Rattle.text.specs.Text.{bytes_of}
 use Rattle.text.proofs.WrittenLaws.{room_after, put_then}
 use Rattle.output.specs.Output.{refused_by_number, refused_line}
 use Rattle.output.proofs.RefusalLaws.{line-length, room, at_front}
-use borrow.Author.Rules.{rules}
-use Rattle.output.proofs.put_refused_line.Reads as reads
-use Rattle.output.proofs.put_refused_line.Lts as lts
-use Rattle.output.proofs.put_refused.Reads as put-refused-reads
-use Rattle.text.proofs.put_word.Reads as put-word-reads
 use Rattle.output.proofs.put_refused_line.Goals as goal
 
 pub put_word-requires : goal.put_word-requires

@@ -7,7 +7,6 @@ use Rattle.text.specs.Buffer.{put_into}
 use Rattle.text.specs.Buffer.{filled_said}
 use Rattle.output.specs.Output.{refused_line, settlement_text_as}
 use Rattle.output.proofs.SettlementLaws.{Told, told}
-use borrow.Author.Rules.{rules}
 use Rattle.output.proofs.put_settlement.Goals as goal
 
 pub returns-in-Bytes : goal.returns-in-Bytes

@@ -7,7 +7,6 @@ use Rattle.calls.specs.Indicators.{indicators_of}
 use Rattle.text.specs.Buffer.{filled_said}
 use Rattle.writer.proofs.AnswerLaws.{write-fits}
 use Rattle.rewriting.proofs.PrintoutLaws.{wrote-all}
-use borrow.Author.Rules.{rules}
 use Rattle.rewriting.proofs.put_book.Goals as goal
 
 -- written

@@ -3,7 +3,6 @@
 use mathlib.Core.Path.{◌≡◌, sym, ap, ◌∙◌}
 use native.Mathlib.Omega.{arith}
 use mathlib.Core.Bool.{true}
-use lib.ListN.{length}
 use Rattle.calls.specs.Indicators.{indicators_of}
 use Rattle.book.specs.Book.{fresh_book, in_range}
 use Rattle.calls.specs.Answers.{is_refused, said}
@@ -19,7 +18,6 @@ use Rattle.writing.proofs.WrittenLaws.{written_out}
 use Rattle.rewriting.specs.declared.Stream.TheVariants.{Output, Error}
 use Rattle.rewriting.specs.Rewriting.{Printout, on_stream, told_of}
 use Rattle.rewriting.proofs.PrintoutLaws.{read-in-range, printout-long, printout-refused, printout-read}
-use borrow.Author.Rules.{rules}
 use Rattle.rewriting.proofs.rewritten_as.Goals as goal
 
 -- too long

@@ -5,7 +5,6 @@ use borrow.Author.Tests.{lt-ltb, le-ltb}
 use Rattle.calls.specs.Limits.{setting_count}
 use Rattle.calls.specs.Call.{facts_of}
 use Rattle.calls.proofs.Flags.{denied, granted}
-use borrow.Author.Rules.{rules}
 use Rattle.arguments.proofs.arguments.setting_in_range.Goals as goal
 
 pub returns-then-which-gt-LAST_SETTING : goal.returns-then-which-gt-LAST_SETTING

@@ -2,7 +2,6 @@
 -- Assumes nothing.
 use mathlib.Core.Path.{sym}
 use Rattle.calls.proofs.SettingLaws.{cabin-limit}
-use borrow.Author.Rules.{rules}
 use Rattle.arguments.proofs.arguments.setting_limit.Goals as goal
 
 -- cabins

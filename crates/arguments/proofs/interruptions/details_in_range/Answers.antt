@@ -2,7 +2,6 @@
 -- Assumes nothing.
 use borrow.Author.Tests.{lt-leb, le-leb}
 use Rattle.calls.specs.Call.{details_in_range}
-use borrow.Author.Rules.{rules}
 use Rattle.arguments.proofs.interruptions.details_in_range.Goals as goal
 
 -- no such sign

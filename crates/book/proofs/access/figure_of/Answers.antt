@@ -1,11 +1,9 @@
 -- `book::access::figure_of` meets its contract.
 -- Assumes nothing.
-use mathlib.Core.Path.{refl}
 use native.Mathlib.Omega.{arith}
 use borrow.Author.Tests.{lt-ltb, le-ltb}
 use Rattle.calls.specs.Limits.{operators, years, figure_count}
 use Rattle.book.specs.Book.{figure_of}
-use borrow.Author.Rules.{rules}
 use Rattle.book.proofs.access.figure_of.Goals as goal
 
 -- no such operator

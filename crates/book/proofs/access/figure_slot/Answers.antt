@@ -3,7 +3,6 @@
 use mathlib.Core.Path.{refl}
 use native.Mathlib.Omega.{arith}
 use Rattle.book.specs.Book.{figure_slot}
-use borrow.Author.Rules.{rules}
 use Rattle.book.proofs.access.figure_slot.Goals as goal
 
 pub returns : goal.returns

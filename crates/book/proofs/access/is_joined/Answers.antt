@@ -1,7 +1,6 @@
 -- `book::access::is_joined` meets its contract.
 -- Assumes nothing.
 use Rattle.book.specs.Book.{is_joined}
-use borrow.Author.Rules.{rules}
 use Rattle.book.proofs.access.is_joined.Goals as goal
 
 pub returns : goal.returns

@@ -1,11 +1,9 @@
 -- `book::access::setting_of` meets its contract.
 -- Assumes nothing.
-use mathlib.Core.Path.{refl}
 use native.Mathlib.Omega.{arith}
 use borrow.Author.Tests.{lt-ltb, le-ltb}
 use Rattle.calls.specs.Limits.{operators, setting_count}
 use Rattle.book.specs.Book.{setting_of}
-use borrow.Author.Rules.{rules}
 use Rattle.book.proofs.access.setting_of.Goals as goal
 
 -- no such operator

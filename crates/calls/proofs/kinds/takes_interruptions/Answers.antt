@@ -1,7 +1,6 @@
 -- `calls::kinds::takes_interruptions` meets its contract.
 -- Assumes nothing.
 use mathlib.Core.Path.{refl}
-use borrow.Author.Rules.{rules}
 use Rattle.calls.proofs.KindLaws.{kinds-opened}
 use Rattle.calls.proofs.kinds.takes_interruptions.Goals as goal
 

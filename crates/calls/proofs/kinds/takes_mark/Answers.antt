@@ -1,6 +1,6 @@
 -- `calls::kinds::takes_mark` meets its contract.
 -- Assumes nothing.
-use mathlib.Core.Path.{refl, sym, ◌∙◌}
+use mathlib.Core.Path.{refl}
 use borrow.Author.Rules.{rules}
 use Rattle.calls.proofs.KindLaws.{mark-taken}
 use Rattle.calls.proofs.kinds.takes_mark.Goals as goal

@@ -3,7 +3,6 @@
 use mathlib.Core.Path.{refl, sym}
 use native.Mathlib.Omega.{arith}
 use Rattle.calls.proofs.SettingLaws.{last-cabins}
-use borrow.Author.Rules.{rules}
 use Rattle.calls.proofs.limits.cabins_in.Goals as goal
 
 -- year 1

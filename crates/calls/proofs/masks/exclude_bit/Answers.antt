@@ -3,7 +3,6 @@
 use mathlib.Core.Path.{refl, sym, ◌∙◌}
 use Rattle.calls.specs.Masks.{excluding}
 use Rattle.calls.proofs.Bit.{shifted, has-le}
-use borrow.Author.Rules.{rules}
 use Rattle.calls.proofs.masks.exclude_bit.Goals as goal
 
 pub overflow_sub-result : goal.overflow_sub-result

@@ -4,7 +4,6 @@ use mathlib.Core.Path.{refl, sym}
 use native.Mathlib.Omega.{arith}
 use Rattle.calls.specs.Masks.{has}
 use Rattle.calls.proofs.Bit.{has-high}
-use borrow.Author.Rules.{rules}
 use Rattle.calls.proofs.masks.has_bit.Goals as goal
 
 pub returns-then-k-gt-LAST_OPERATOR : goal.returns-then-k-gt-LAST_OPERATOR

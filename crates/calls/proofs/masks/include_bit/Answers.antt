@@ -3,7 +3,6 @@
 use mathlib.Core.Path.{refl}
 use Rattle.calls.specs.Masks.{including}
 use Rattle.calls.proofs.Bit.{shifted}
-use borrow.Author.Rules.{rules}
 use Rattle.calls.proofs.masks.include_bit.Goals as goal
 
 pub returns : goal.returns

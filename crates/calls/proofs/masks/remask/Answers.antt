@@ -1,7 +1,6 @@
 -- `calls::masks::remask` meets its contract.
 -- Assumes nothing.
 use borrow.Author.Tests.{eq-eqb, ne_eqb}
-use borrow.Author.Rules.{rules}
 use Rattle.calls.specs.Masks.{remasked}
 use Rattle.calls.proofs.masks.remask.Goals as goal
 

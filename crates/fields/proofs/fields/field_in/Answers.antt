@@ -7,7 +7,6 @@ use lib.ListN.{length, get_or}
 use Rattle.calls.specs.Indicators.{indicators_of}
 use Rattle.fields.specs.Steps.{content_said}
 use Rattle.fields.proofs.FieldLaws.{passes-end, framed}
-use borrow.Author.Rules.{rules}
 use Rattle.fields.proofs.fields.field_in.Goals as goal
 
 pub returns-then-bytes-lt3 : goal.returns-then-bytes-lt3

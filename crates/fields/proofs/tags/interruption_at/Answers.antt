@@ -1,7 +1,6 @@
 -- `fields::tags::interruption_at` meets its contract.
 -- Assumes nothing.
 use mathlib.Core.Path.{refl, sym}
-use borrow.Author.Rules.{rules}
 use Rattle.calls.specs.Indicators.{indicators_of}
 use Rattle.calls.proofs.Flags.{denied, granted}
 use Rattle.contents.specs.Content.{is_known, tags, tagged}

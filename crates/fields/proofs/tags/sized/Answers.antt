@@ -8,7 +8,6 @@ use Rattle.calls.specs.Answers.{accepted}
 use Rattle.contents.specs.Content.{tagged}
 use Rattle.fields.specs.Field.{call_then}
 use Rattle.fields.proofs.ContentLaws.{missized-said, call-said}
-use borrow.Author.Rules.{rules}
 use Rattle.fields.proofs.tags.sized.Goals as goal
 
 -- 3

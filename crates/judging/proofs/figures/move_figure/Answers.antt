@@ -7,7 +7,6 @@ use borrow.Author.Tests.{lt-ltb, le-ltb, eq-eqb, ne_eqb}
 use Rattle.calls.specs.Limits.{figure_limit}
 use Rattle.calls.specs.Answers.{first_of}
 use Rattle.judging.specs.Figures.{moved_by}
-use borrow.Author.Rules.{rules}
 use Rattle.judging.proofs.figures.move_figure.Goals as goal
 
 -- the value alone passes the limit

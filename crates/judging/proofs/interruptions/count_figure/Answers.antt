@@ -2,7 +2,6 @@
 -- Assumes nothing.
 use mathlib.Core.Path.{refl}
 use Rattle.calls.specs.Call.{count_figure}
-use borrow.Author.Rules.{rules}
 use Rattle.judging.proofs.interruptions.count_figure.Goals as goal
 
 -- short

@@ -2,7 +2,6 @@
 -- Assumes nothing.
 use Rattle.calls.proofs.Flags.{denied, granted}
 use Rattle.text.proofs.WrittenLaws.{put-nothing}
-use borrow.Author.Rules.{rules}
 use Rattle.lines.proofs.lines.put_if_joined.Goals as goal
 
 pub returns-then-not-is_joined : goal.returns-then-not-is_joined

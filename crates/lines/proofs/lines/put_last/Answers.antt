@@ -4,7 +4,6 @@ use mathlib.Core.List.{[], ◌∷◌}
 use native.Mathlib.Omega.{arith}
 use Rattle.text.proofs.WrittenLaws.{room-first, room_after, put_then}
 use Rattle.lines.proofs.LineLaws.{last_columns, last-parts}
-use borrow.Author.Rules.{rules}
 use Rattle.lines.proofs.lines.put_last.Goals as goal
 
 -- what is put stands first, so that a wrong sum is told before the room for it

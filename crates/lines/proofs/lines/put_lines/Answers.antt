@@ -4,7 +4,6 @@ use Rattle.text.specs.Text.{bytes_of}
 use Rattle.columns.specs.Columns.{line}
 use Rattle.lines.specs.Lines.{header, operator_lines, last_line, printed}
 use Rattle.text.proofs.WrittenLaws.{three-first, three-second, three_third, put_three}
-use borrow.Author.Rules.{rules}
 use Rattle.lines.proofs.lines.put_lines.Goals as goal
 
 pub put_word-first-requires : goal.put_word-first-requires

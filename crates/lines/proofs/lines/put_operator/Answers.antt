@@ -8,7 +8,6 @@ use Rattle.text.specs.Text.{decimal}
 use Rattle.text.proofs.WrittenLaws.{room-first, room_after, put_then}
 use Rattle.text.proofs.SignLaws.{again}
 use Rattle.lines.proofs.LineLaws.{operator_columns, operator-parts}
-use borrow.Author.Rules.{rules}
 use Rattle.lines.proofs.lines.put_operator.Goals as goal
 
 pub put_decimal-next-requires : goal.put_decimal-next-requires

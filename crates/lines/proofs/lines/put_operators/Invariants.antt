@@ -1,13 +1,10 @@
 -- `lines::lines::put_operators` meets its contract. The loop's invariant: the lines of the operators passed are put.
 -- Assumes nothing.
-use mathlib.Core.Path.{◌≡◌, refl, ◌∙◌}
+use mathlib.Core.Path.{◌≡◌}
 use Prim.Native.Nat.{◌-◌, ◌≤◌}
-use native.Mathlib.Omega.{arith}
-use borrow.Author.Rules.{rules}
 use lib.ListN.{length}
 use Rattle.lines.specs.Lines.{operator_lines}
-use Rattle.text.proofs.WrittenLaws.{Put, put-nothing, room_after, put_then}
-use Rattle.lines.proofs.LineLaws.{addition, lines_more, lines-within}
+use Rattle.text.proofs.WrittenLaws.{Put}
 use Rattle.lines.proofs.lines.put_operators.Given as goal
 
 abbrev pub invariant-loop-operator : goal.invariant-loop-operator

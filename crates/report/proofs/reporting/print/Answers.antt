@@ -6,7 +6,6 @@ use lib.ListN.{length, take, length-take}
 use Rattle.lines.specs.Lines.{printed}
 use Rattle.report.proofs.PrintedLaws.{printed-length}
 use Rattle.text.proofs.FittingLaws.{written-front, take-front, too_short_lem, fits}
-use borrow.Author.Rules.{rules}
 use Rattle.report.proofs.reporting.print.Goals as goal
 
 pub put_lines-count-requires : goal.put_lines-count-requires

@@ -1,7 +1,6 @@
 -- `report::reporting::report_as` meets its contract.
 -- Assumes nothing.
 use mathlib.Core.Path.{◌≡◌, sym, ap, subst, ◌∙◌}
-use Rattle.settlement.specs.declared.Settlement.{Settlement}
 use Rattle.calls.specs.Indicators.{indicators_of}
 use Rattle.calls.specs.Answers.{accepted, is_refused, yes_said, said}
 use borrow.Enum.Refused.{opened}
@@ -11,7 +10,6 @@ use Rattle.settlement.specs.Settlement.{settled_by}
 use Rattle.report.specs.Report.{text_as}
 use Rattle.report.proofs.PrintedLaws.{printable}
 use Rattle.report.proofs.AnswerLaws.{settled-yes, report-accepted, report-refused}
-use borrow.Author.Rules.{rules}
 use Rattle.report.proofs.reporting.report_as.Goals as goal
 
 pub print-requires : goal.print-requires

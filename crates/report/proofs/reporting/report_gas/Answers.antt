@@ -1,6 +1,5 @@
 -- `report::reporting::report_gas` meets its contract: its core does, at gas.
 -- Assumes nothing.
-use borrow.Author.Rules.{rules}
 use Rattle.report.proofs.reporting.report_gas.Goals as goal
 
 pub returns : goal.returns

@@ -4,7 +4,6 @@ use mathlib.Core.Path.{◌≡◌, refl}
 use lib.ListN.{length, get_or}
 use borrow.Author.Tests.{eq-eqb, ne_eqb}
 use Rattle.sheet_output.specs.Argument.{of_digits, argument_of}
-use borrow.Author.Rules.{rules}
 use Rattle.sheet_output.proofs.arguments.argument_of.Goals as goal
 
 pub returns-then-text-eq1 : goal.returns-then-text-eq1

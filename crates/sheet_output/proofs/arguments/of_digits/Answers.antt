@@ -1,13 +1,11 @@
 -- `sheet_output::arguments::of_digits` meets its contract.
 -- Assumes nothing.
-use mathlib.Core.Path.{◌≡◌, refl}
-use mathlib.Core.Bool.{true, false}
+use mathlib.Core.Path.{refl}
 use native.Mathlib.Omega.{arith}
 use borrow.Author.Tests.{lt-leb, le-leb}
 use Rattle.calls.proofs.Flags.{denied, granted}
-use Rattle.sheet_output.specs.Argument.{is_digit, value_of, of_digits}
+use Rattle.sheet_output.specs.Argument.{value_of, of_digits}
 use Rattle.sheet_output.proofs.ArgumentLaws.{digit-range}
-use borrow.Author.Rules.{rules}
 use Rattle.sheet_output.proofs.arguments.of_digits.Goals as goal
 
 -- the first is no digit

@@ -7,7 +7,6 @@ use Rattle.text.specs.Text.{bytes_of, decimal}
 use Rattle.text.proofs.WrittenLaws.{three-second, three_third, put_three}
 use Rattle.sheet_output.specs.SheetOutput.{count_line}
 use Rattle.sheet_output.proofs.CountLaws.{line-length}
-use borrow.Author.Rules.{rules}
 use Rattle.sheet_output.proofs.printing.put_count.Goals as goal
 
 -- a line has at most twenty digits and the end beside its word

@@ -6,7 +6,6 @@ use Rattle.text.specs.Text.{bytes_of}
 use Rattle.output.proofs.RefusalLaws.{at_front}
 use Rattle.sheet_output.specs.SheetOutput.{count_line, count_lines}
 use Rattle.sheet_output.proofs.CountLaws.{put_five}
-use borrow.Author.Rules.{rules}
 use Rattle.sheet_output.proofs.printing.put_counts.Goals as goal
 
 pub returns : goal.returns

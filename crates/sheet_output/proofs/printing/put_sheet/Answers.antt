@@ -9,7 +9,6 @@ use Rattle.text.specs.Buffer.{put_into}
 use Rattle.output.specs.Output.{refused_line}
 use Rattle.sheet_output.specs.SheetOutput.{count_lines}
 use Rattle.sheet_output.proofs.CountLaws.{sheet-refused, sheet-given}
-use borrow.Author.Rules.{rules}
 use Rattle.sheet_output.proofs.printing.put_sheet.Goals as goal
 
 -- refused

@@ -1,10 +1,7 @@
 -- `sheet_output::printing::sheet_output` meets its contract.
 -- Assumes nothing.
-use Prim.Native.Nat.{ℕ}
 use mathlib.Core.Path.{refl}
-use mathlib.Core.List.{List}
 use native.Mathlib.Omega.{arith}
-use Rattle.book.specs.declared.Book.{Book}
 use Rattle.calls.specs.Indicators.{electricity}
 use Rattle.text.specs.Text.{bytes_of}
 use borrow.Enum.Refused.{opened}
@@ -12,7 +9,6 @@ use Rattle.calls.proofs.SaidLaws.{told-accepted}
 use Rattle.output.proofs.RefusalLaws.{at_front}
 use Rattle.output.proofs.OutputLaws.{printed-long, at_field, at_end, as-printed}
 use Rattle.sheet_output.specs.SheetOutput.{sheet_text, sheet_output_of}
-use borrow.Author.Rules.{rules}
 use Rattle.sheet_output.proofs.printing.sheet_output.Goals as goal
 
 -- too long
