@@ -32,7 +32,7 @@ loop-turn-preserved c =
     let kind = indicators_of c.args.kind in
     record {
       ready = subst (λ (t : Turned). Ready kind t.reached) (sym c.step-turn.ensures) (step_follows kind bytes reached.reached here.invariant.ready).ready;
-      same = ap (completed kind bytes) c.step-turn.ensures ∙ step-completed _ bytes reached.reached ∙ sym (completed-more _ bytes reached c.loop-turn-test.true) ∙ here.invariant.same;
+      same = ap (completed kind bytes) c.step-turn.ensures ∙ step-completed kind bytes reached.reached ∙ sym (completed-more kind bytes reached c.loop-turn-test.true) ∙ here.invariant.same;
     }
 
 -- read to its end or to a refusal
@@ -43,4 +43,4 @@ returns c =
     let reached = told_turn (book_with here.joined here.marks here.settings here.figures here.pot_rate here.cap_rate here.indices) here.turn in
     let bytes = c.args.bytes.now in
     rw c.requires
-    (sym (completed-stopped _ bytes reached c.loop-turn-test.false) ∙ here.invariant.same ∙ completed-more _ bytes _ refl)
+    (sym (completed-stopped (indicators_of c.args.kind) bytes reached c.loop-turn-test.false) ∙ here.invariant.same ∙ completed-more (indicators_of c.args.kind) bytes _ refl)
