@@ -4,7 +4,6 @@ use mathlib.Core.Path.{refl}
 use Rattle.values.proofs.InRange.{within, pot-rate-le, cap-rate-le}
 use Rattle.money.proofs.InRange.{access_most, incomes_most}
 use Rattle.book.proofs.TakenLaws.{ranged-within}
-use borrow.Author.Rules.{rules}
 use Rattle.settlement.proofs.settling.settle_in_range.Goals as goal
 
 pub gather-g-requires : goal.gather-g-requires

@@ -28,7 +28,7 @@ pub share-returns-requires : goal.share-returns-requires
 share-returns-requires c = omega (arith, c.pot_of-pot.ensures.1, c.return_weights-weights.ensures.1)
 
 pub adjust-adjustments-requires : goal.adjust-adjustments-requires
-adjust-adjustments-requires c = λ k lt. c.Limits-of.ensures.1 k
+adjust-adjustments-requires c = λ k lt. c.limits_of-limits.ensures.1 k
 
 pub returns : goal.returns
 unfolding settlement_by pot limits contributions returns_of_pot adjustments
@@ -38,7 +38,7 @@ returns c =
     let shared = c.share-contributions.ensures in
     let weighed : c.return_weights-weights.result ≡ each (λ (k : ℕ). get_or args.access k 0 * get_or args.g.totals k 0) = c.return_weights-weights.ensures.0 in
     let shared-2 = c.share-returns.ensures in
-    let capped : c.before.before.before.Limits-of.result ≡ each (λ (k : ℕ). args.cap_rate * get_or args.incomes k 0 / 1000000) = c.before.before.before.Limits-of.ensures.0 in
+    let capped : c.limits_of-limits.result ≡ each (λ (k : ℕ). args.cap_rate * get_or args.incomes k 0 / 1000000) = c.limits_of-limits.ensures.0 in
     λ b indicators gathered charged.
     let pot_is : c.pot_of-pot.result ≡ pot b = pooled.0 ∙ rw (charged.pot_is, charged.incomes_are) refl in
     let paid : c.share-contributions.result ≡ contributions b =
@@ -46,7 +46,7 @@ returns c =
     let weights = weighed ∙ weights-same b indicators _ _ charged.access_are gathered.totals_are in
     let received : c.share-returns.result ≡ returns_of_pot b indicators =
     shared-2 ∙ (λ i. share (pot_is i) (weights i) (charged.access_are i)) in
-    let limits_are : c.before.before.before.Limits-of.result ≡ limits b =
+    let limits_are : c.limits_of-limits.result ≡ limits b =
     capped
     ∙ ((λ i. each (λ (k : ℕ). charged.cap_is i * get_or (charged.incomes_are i) k 0 / 1000000)) ∙ each_same _ _ (λ k lt. rw (income-at b k lt) refl)) in
     let adjusted : c.adjust-adjustments.result ≡ adjustments b indicators =
