@@ -1,7 +1,7 @@
 -- The sheets of every list of filing calls add up (specs/Total.antt): what a history has filed in the fifteen figures of an operator, and
 -- what it has withdrawn there, grow call by call as the two sums over accepted calls do.
 -- Assumes nothing.
-use Prim.Native.Nat.{ℕ, ◌+◌, ◌*◌, ◌-◌, ◌≤◌, ◌<◌}
+use Prim.Native.Nat.{ℕ, ◌+◌, ◌*◌, ◌≤◌, ◌<◌}
 use mathlib.Core.Path.{◌≡◌, refl, sym, ap, ap₂, ◌∙◌}
 use mathlib.Core.Logic.{◌⊎◌, inl, inr}
 use mathlib.Core.Bool.{Bool, true, false, cond, ◌&&◌}
@@ -9,7 +9,7 @@ use mathlib.Core.List.{List, [], ◌∷◌, map}
 use native.Mathlib.Omega.{arith}
 use native.Mathlib.Decide.{ℕ_discrete}
 use lib.Dec.{leb, eqb}
-use borrow.Author.Tests.{eqb-true, eqb-false, eq-eqb, ne_eqb, leb-true, leb-false, le-leb, lt-leb}
+use borrow.Author.Tests.{ne_eqb, leb-true, leb-false, le-leb, lt-leb}
 use Rattle.apportion.specs.Sum.{sum}
 use Rattle.calls.specs.declared.Call.{Call}
 use Rattle.calls.specs.declared.Call.TheVariants.{Join, Setting, Interruption, Amount, Mark, Rates, Index}
@@ -19,12 +19,11 @@ use Rattle.calls.specs.Answers.{Said, refused_by, accepted, on_answer, Acceptanc
 use Rattle.calls.specs.Call.{Entry, entry, seconds_of, year_of, outcome, measured_entries, count_figure, interruption_entries, facts_of}
 use Rattle.calls.proofs.Flags.{and-true-right, and-false-right}
 use Rattle.calls.proofs.RangeLaws.{Ranges}
-use Rattle.book.specs.declared.Book.{Book}
-use Rattle.book.specs.Book.{figure_of, in_range}
+use Rattle.book.specs.Book.{figure_of}
 use Rattle.history.specs.History.{History, plain, total, summed, with_entry, with_entries, recorded, note_answer, note_history, noted_history, noted_answers}
 use Rattle.history.specs.Demand.{book_of, history_of}
 use Rattle.history.proofs.EntryLaws.{All, Within, entries-within}
-use Rattle.history.proofs.TableLaws.{Passed, Decided, decided}
+use Rattle.history.proofs.TableLaws.{Decided, decided}
 use Rattle.history.proofs.Kept.{kept}
 use Rattle.sheets.specs.Sheet.{sheet_figures, counts_of, sheet_of}
 use Rattle.sheets.specs.Total.{as_interruption, as_amount, over_accepted, sheets_total, SheetsAddUp}

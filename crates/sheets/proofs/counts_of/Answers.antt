@@ -6,7 +6,6 @@ use Rattle.calls.specs.Limits.{first_count}
 use Rattle.book.specs.Book.{figure_slot, figure_of}
 use Rattle.sheets.specs.Sheet.{counts_of}
 use Rattle.sheets.proofs.SheetLaws.{next-slot}
-use borrow.Author.Rules.{rules}
 use Rattle.sheets.proofs.counts_of.Goals as goal
 
 pub bounds-figures-at-2 : goal.bounds-figures-at-2
