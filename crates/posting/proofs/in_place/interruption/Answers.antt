@@ -1,164 +1,145 @@
 -- `posting::in_place::interruption` meets its contract.
 -- Assumes nothing.
 use mathlib.Core.Path.{◌≡◌, refl, sym, ap, ◌∙◌}
-use mathlib.Core.Bool.{Bool, true, false}
+use mathlib.Core.Bool.{true}
 use mathlib.Core.List.{List}
-use Prim.Native.Nat.{◌<◌}
-use native.Mathlib.Omega.{arith}
+use Prim.Native.Nat.{ℕ, ◌<◌, ◌≤◌}
+use lib.IntN.{ℤ}
+use mir.Syntax.{w64}
+use mir.Val.{SFits, to_z, of_z}
 use Rattle.calls.specs.declared.Call.{Call}
 use Rattle.calls.specs.declared.Call.TheVariants.{Interruption}
-use Rattle.calls.specs.Limits.{operators}
-use Rattle.calls.specs.Indicators.{Indicator, indicators_of}
-use Rattle.calls.specs.Answers.{Said, first_of}
+use Rattle.calls.specs.Limits.{years, longest}
+use Rattle.calls.specs.Indicators.{Indicator, indicators_of, takes_interruptions}
+use Rattle.calls.specs.Answers.{Said, accepted, first_of}
 use Rattle.calls.specs.Call.{starts_after_end, outside_period, details_in_range, seconds_of, year_of, facts_of}
-use Rattle.judging.specs.Steps.{JudgedAs}
 use Rattle.book.specs.declared.Book.{Book}
 use Rattle.book.specs.Book.{with_joined, with_figures, fresh_book}
 use Rattle.ledger.specs.Calls.{changed, apply}
 use Rattle.ledger.specs.Steps.{interruption_lines, entering}
 use Rattle.admission.specs.Admission.{admission_said}
-use Rattle.calls.proofs.Flags.{denied, granted}
 use Rattle.calls.proofs.Times.{back, ends, year_lt, lasts, seconds_most}
-use Rattle.calls.proofs.RangeLaws.{details}
+use Rattle.calls.proofs.RangeLaws.{Details, details}
 use Rattle.judging.proofs.JudgedLaws.{left-out-counted, left-out-known}
-use Rattle.ledger.proofs.AdmissionLaws.{unknown-call, Decides, interruption-decided}
-use borrow.Author.Rules.{rules}
+use Rattle.ledger.proofs.AdmissionLaws.{unknown-call, Decides, Passed, interruption-decided}
 use Rattle.posting.proofs.in_place.interruption.Goals as goal
+use Rattle.posting.proofs.in_place.interruption.Goals.{In_default, After-year_of-year}
 
--- the call, and a book with the parts that are lent to it
-abbrev call : tie.Start → Call
-call start = Interruption start.args.operator start.args.sign start.args.level start.args.cause start.args.start start.args.end start.args.weight
-
-abbrev kind_of : tie.Start → List Indicator
-kind_of start = indicators_of start.args.kind
-
-abbrev lent : tie.Start → Book → Book
-lent start b = with_figures (with_joined b start.args.joined) start.args.figures.now
-
--- the test of 5, and those of 14 and 15
-abbrev detailed : tie.Start → Bool
-detailed start = details_in_range start.args.sign start.args.level start.args.cause start.args.weight
-
-abbrev late : tie.Start → Bool
-late start = starts_after_end start.args.start start.args.end
-
-abbrev outside : tie.Start → Bool
-outside start = outside_period start.args.start start.args.end
-
--- the kind has interruptions
-abbrev opened : tie.Else1 → tie.Start
-opened m = m.before.before
-
-had : (m : tie.Else1) → (facts_of (kind_of (opened m)) (call (opened m))).known ≡ true
-unfolding facts_of
-had m = granted m.before.takes-interruptions.ensures m.if1.false
-
-ranged : (m : tie.After-details-in-range) → (facts_of (kind_of (opened m.before)) (call (opened m.before))).within_range ≡ m.details-in-range.result
-unfolding facts_of
-ranged m = sym m.details-in-range.ensures
-
--- the shared checks, and what follows from what they say
-module _ (m : tie.After-admit-interruption) where
-  abbrev asking : tie.Start
-  asking = opened m.before.before
-
-  checked : first_of (interruption_lines asking.args.joined asking.args.operator m.before.details-in-range.result asking.args.start asking.args.end) tt
-      ≡ admission_said m.admit-interruption.result
-  checked =
-      sym
-      (m.admit-interruption.ensures
-      ∙ (λ i. first_of (interruption_lines asking.args.joined asking.args.operator m.before.details-in-range.result (back asking.fits.start i) (back asking.fits.end i)) tt))
-
-  decided : (b : Book) (answer : Said (Unit {0})) → admission_said m.admit-interruption.result ≡ answer
-      → Decides (kind_of asking) (lent asking b) (call asking) asking.args.operator m.before.details-in-range.result (late asking) (outside asking) answer
+-- what the shared checks say of a call, in a kind that has interruptions
+module _ (kind : List Indicator) (b : Book) (operator sign level cause weight : ℕ) (start end : ℤ) where
+  decided : takes_interruptions kind ≡ true → SFits w64 start → SFits w64 end → (answer : Said (Unit {0}))
+      → first_of (interruption_lines b.joined operator (details_in_range sign level cause weight) (to_z w64 (of_z w64 start)) (to_z w64 (of_z w64 end))) tt ≡ answer
+      → Decides kind b (Interruption operator sign level cause start end weight) operator
+      (details_in_range sign level cause weight) (starts_after_end start end) (outside_period start end) answer
   unfolding facts_of
-  decided b answer e =
-      interruption-decided (kind_of asking) (lent asking b) (call asking) asking.args.operator _ (had m.before.before) refl refl (ranged m.before) asking.args.start asking.args.end refl refl answer (checked ∙ e)
+  decided had start_fits end_fits answer asked =
+      interruption-decided kind b (Interruption operator sign level cause start end weight) operator _ had refl refl refl
+      start end refl refl answer (rw (back start_fits, back end_fits) at asked)
 
 -- what is known once they are passed
-abbrev begun : tie.After-enum-told → tie.Start
-begun m = opened m.before.before.before.before
+module _ (m : In_default) where
+  abbrev kind_of : List Indicator
+  kind_of = indicators_of m.args.kind
 
-module _ (m : tie.After-enum-told) where
-  admitted : (b : Book)
-      → ((begun m).args.operator < operators)
-      × (detailed (begun m) ≡ true)
-      × (late (begun m) ≡ false)
-      × (outside (begun m) ≡ false)
-      × (apply (kind_of (begun m)) (lent (begun m) b) (call (begun m))
-      ≡ entering (lent (begun m) b) (facts_of (kind_of (begun m)) (call (begun m))).entries (facts_of (kind_of (begun m)) (call (begun m))).answer)
+  abbrev call : Call
+  call = Interruption m.args.operator m.args.sign m.args.level m.args.cause m.args.start m.args.end m.args.weight
+
+  abbrev lent : Book → Book
+  lent b = with_figures (with_joined b m.args.joined) m.args.figures.now
+
+  passed : (b : Book) → Passed kind_of (lent b) call m.args.operator
+      (details_in_range m.args.sign m.args.level m.args.cause m.args.weight) (starts_after_end m.args.start m.args.end) (outside_period m.args.start m.args.end)
+  passed b =
+      decided kind_of (lent b) m.args.operator m.args.sign m.args.level m.args.cause m.args.weight m.args.start m.args.end
+      (sym m.takes_interruptions.ensures ∙ m.if-not-takes_interruptions.false) m.ranges.start m.ranges.end (accepted tt)
+      (sym (rw m.details_in_range-valid.ensures at m.admit_interruption.ensures) ∙ ap admission_said m.in_default.is)
+
+  within : Details m.args.sign m.args.level m.args.cause m.args.weight
+  within = details m.args.sign m.args.level m.args.cause m.args.weight (passed fresh_book).within_range
+
+  entered : (b : Book) → apply kind_of (lent b) call ≡ entering (lent b) (facts_of kind_of call).entries (facts_of kind_of call).answer
   unfolding facts_of changed
-  admitted b =
-      let passed = decided m.before.before b _ (ap admission_said m.enum_told.given.1) in
-      (passed.small, ranged m.before.before.before ∙ passed.within_range, passed.ordered, passed.timely, passed.entered refl)
+  entered b = (passed b).entered refl
 
 -- what the leaves give
-seconds-is : (m : tie.After-seconds-of) → m.seconds-of.result ≡ seconds_of (begun m.before).args.start (begun m.before).args.end
-seconds-is m = rw (back (begun m.before).ranges.start, back (begun m.before).ranges.end) at m.seconds-of.ensures
+module _ (m : After-year_of-year) where
+  seconds-is : m.seconds_of-seconds.result ≡ seconds_of m.args.start m.args.end
+  seconds-is = rw (back m.ranges.start, back m.ranges.end) at m.seconds_of-seconds.ensures
 
-year-is : (m : tie.After-year-of) → m.year-of.result ≡ year_of (begun m.before.before).args.end
-year-is m = rw (back (begun m.before.before).ranges.end) at m.year-of.ensures
+  year-is : m.year_of-year.result ≡ year_of m.args.end
+  year-is = rw (back m.ranges.end) at m.year_of-year.ensures
 
-module _ (m : tie.After-judge) where
-  abbrev asked : tie.Start
-  asked = begun m.before.before.before
+  year_known : m.year_of-year.result < years
+  year_known = rw year-is (year_lt (ends m.args.start m.args.end (passed m.before.before fresh_book).timely))
 
-  judged : JudgedAs asked.args.cause (seconds_of asked.args.start asked.args.end) m.judge.result
-  judged = rw (seconds-is m.before.before) at m.judge.ensures
+  seconds_within : m.seconds_of-seconds.result ≤ longest
+  seconds_within =
+      let known = passed m.before.before fresh_book in
+      rw seconds-is (seconds_most (lasts m.args.start m.args.end known.ordered known.timely))
 
 -- 2
 pub returns-then-not-takes_interruptions : goal.returns-then-not-takes_interruptions
 unfolding facts_of
 returns-then-not-takes_interruptions c = λ b.
-    rw (unknown-call (kind_of start) (lent start b) (call start) (denied c.takes_interruptions.ensures c.if-not-takes_interruptions.true-raw)) (refl, refl)
+    rw
+    (unknown-call (indicators_of c.args.kind) (with_figures (with_joined b c.args.joined) c.args.figures.now)
+    (Interruption c.args.operator c.args.sign c.args.level c.args.cause c.args.start c.args.end c.args.weight)
+    (sym c.takes_interruptions.ensures ∙ c.if-not-takes_interruptions.true))
+    (refl, refl)
 
 -- 4, 5, 14, 15 or 7
 pub returns-in-Refused : goal.returns-in-Refused
-returns-in-Refused c = λ b. rw (decided c.before.before.before b _ (ap admission_said c.in-Refused.is)) (refl, refl)
+returns-in-Refused c = λ b.
+    rw
+    (decided (indicators_of c.args.kind) (with_figures (with_joined b c.args.joined) c.args.figures.now)
+    c.args.operator c.args.sign c.args.level c.args.cause c.args.weight c.args.start c.args.end
+    (sym c.takes_interruptions.ensures ∙ c.if-not-takes_interruptions.false) c.ranges.start c.ranges.end _
+    (sym (rw c.details_in_range-valid.ensures at c.admit_interruption.ensures) ∙ ap admission_said c.in-Refused.is))
+    (refl, refl)
 
 pub seconds_of-seconds-requires : goal.seconds_of-seconds-requires
 seconds_of-seconds-requires c =
-    let passed = admitted c fresh_book in
-    rw (back (begun c).ranges.start, back (begun c).ranges.end) (passed.2, passed.3)
+    let known = passed c fresh_book in
+    rw (back c.ranges.start, back c.ranges.end) (known.ordered, known.timely)
 
 pub year_of-year-requires : goal.year_of-year-requires
-year_of-year-requires c =
-    (λ i. outside_period (back (begun c.before).ranges.start i) (back (begun c.before).ranges.end i)) ∙ (admitted c.before fresh_book).3
+year_of-year-requires c = rw (back c.ranges.start, back c.ranges.end) (passed c.before fresh_book).timely
 
 pub enter_counted-requires : goal.enter_counted-requires
 enter_counted-requires c =
-    let passed = admitted told fresh_book in
-    let within_range = details (begun told).args.sign (begun told).args.level (begun told).args.cause (begun told).args.weight passed.1 in
+    let m : After-year_of-year = c.before.before.before in
+    let within_range = within m.before.before in
     record {
-      operator_known = passed.0;
+      operator_known = (passed m.before.before fresh_book).small;
       sign_most = within_range.sign_most;
       level_most = within_range.level_most;
-      year_known = rw (year-is c.before.before.before.before) (year_lt (ends (begun told).args.start (begun told).args.end passed.3));
+      year_known = year_known m;
       weight_most = within_range.weight_most;
-      seconds_most = rw (seconds-is c.before.before.before.before.before) (seconds_most (lasts (begun told).args.start (begun told).args.end passed.2 passed.3));
+      seconds_most = seconds_within m;
     }
 
 pub enter-requires : goal.enter-requires
 enter-requires c =
-    let passed = admitted told fresh_book in
-    let within_range = details (begun told).args.sign (begun told).args.level (begun told).args.cause (begun told).args.weight passed.1 in
+    let m : After-year_of-year = c.before.before.before.before in
     record {
-      operator_known = passed.0;
-      year_known = rw (year-is c.before.before.before.before.before.before) (year_lt (ends (begun told).args.start (begun told).args.end passed.3));
+      operator_known = (passed m.before.before fresh_book).small;
+      year_known = year_known m;
       figure_known = rw c.count_figure-count.ensures (left-out-known c.in-LeftOut.reason);
-      sign_most = omega (arith, within_range.sign_most);
+      sign_most = (within m.before.before).sign_most;
     }
 
 -- counted
 pub returns-in-Counts : goal.returns-in-Counts
 unfolding facts_of
 returns-in-Counts c = λ b.
-    rw ((admitted told b).4, ← judged c.before.before.before.before (year_of (begun told).args.end), c.in-Counts.is)
-    (rw (year-is c.before.before.before.before.before, seconds-is c.before.before.before.before.before.before) at (c.enter_counted.ensures (with_joined b (begun told).args.joined)))
+    let m : After-year_of-year = c.before.before.before.before in
+    rw (entered m.before.before b, ← rw (seconds-is m) at (c.judge.ensures (year_of c.args.end)), c.in-Counts.is)
+    (rw (year-is m, seconds-is m) at (c.enter_counted.ensures (with_joined b c.args.joined)))
 
 -- left out
 pub returns-in-LeftOut : goal.returns-in-LeftOut
 unfolding facts_of
 returns-in-LeftOut c = λ b.
-    rw ((admitted told b).4, ← judged c.before.before.before.before.before.before (year_of (begun told).args.end), c.in-LeftOut.is, left-out-counted)
-    (rw (year-is c.before.before.before.before.before.before.before, c.count_figure-count.ensures) at (c.enter.ensures _ refl (with_joined b (begun told).args.joined)))
+    let m : After-year_of-year = c.before.before.before.before.before in
+    rw (entered m.before.before b, ← rw (seconds-is m) at (c.judge.ensures (year_of c.args.end)), c.in-LeftOut.is, left-out-counted)
+    (rw (year-is m, c.count_figure-count.ensures) at (c.enter.ensures _ refl (with_joined b c.args.joined)))

@@ -34,5 +34,5 @@ pub returns : goal.returns
 unfolding facts_of some is_joined changed
 returns c = λ b.
     let free : has c.args.joined.now c.args.operator ≡ false = sym c.has_bit.ensures ∙ c.if-has_bit.false in
-    let marked : c.mark_unattested.new.1.0 ≡ unattested (indicators_of c.args.kind) c.args.marks.now c.args.operator = c.mark_unattested.ensures in
+    let marked : c.mark_unattested.new.marks ≡ unattested (indicators_of c.args.kind) c.args.marks.now c.args.operator = c.mark_unattested.ensures in
     rw (done (indicators_of c.args.kind) (with_marks (with_joined b c.args.joined.now) c.args.marks.now) (Join c.args.operator) refl (rw (lt-leb 16 c.args.operator (omega arith)) refl) refl refl refl (rw free refl) refl refl, ← c.include_bit.ensures, ← marked) (refl, refl)

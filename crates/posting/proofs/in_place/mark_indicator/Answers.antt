@@ -10,7 +10,6 @@ use Rattle.admission.specs.Admission.{admission_said}
 use Rattle.ledger.specs.Calls.{changed}
 use Rattle.calls.proofs.RangeLaws.{ranges}
 use Rattle.ledger.proofs.AdmissionLaws.{member-decided}
-use borrow.Author.Rules.{rules}
 use Rattle.posting.proofs.in_place.mark_indicator.Goals as goal
 
 -- 4, 5 or 7
