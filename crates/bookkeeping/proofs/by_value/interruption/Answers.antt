@@ -1,8 +1,6 @@
 -- `bookkeeping::by_value::interruption` meets its contract.
 -- Assumes nothing.
-use Rattle.ledger.specs.Calls.{file}
 use Rattle.calls.proofs.Times.{back}
-use borrow.Author.Rules.{rules}
 use Rattle.bookkeeping.proofs.by_value.interruption.Goals as goal
 
 pub returns : goal.returns

@@ -1,6 +1,5 @@
 -- `bookkeeping::gas::file_gas` meets its contract: its core does, at gas.
 -- Assumes nothing.
-use borrow.Author.Rules.{rules}
 use Rattle.bookkeeping.proofs.gas.file_gas.Goals as goal
 
 pub returns : goal.returns
