@@ -20,11 +20,11 @@ loop-i-preserved c =
     let tested = rw here.invariant.1 at c.precedes.ensures in
     let next = foremost-more args.sizes.now remaining here.best here.i in
     elim c.if-precedes.branch [
-      then-precedes w ↦ (
+      | then-precedes w ↦ (
         record { within = omega arith; passed = omega arith; foremost_is = w.best-is ∙ sym (next true here.invariant.0.foremost_is (sym tested ∙ w.if-precedes.true)) },
         w.top-is ∙ ap (λ (place : ℕ). get_or remaining place 0) (sym w.best-is),
       )
-    | else-precedes w ↦ (
+      | else-precedes w ↦ (
         record { within = omega arith; passed = omega arith; foremost_is = w.best-is ∙ sym (next false here.invariant.0.foremost_is (sym tested ∙ w.if-precedes.false)) },
         w.top-is ∙ here.invariant.1 ∙ ap (λ (place : ℕ). get_or remaining place 0) (sym w.best-is),
       )
