@@ -1,10 +1,10 @@
 // From the bytes of a filing, an operator and a year to the bytes that the program `sheet` prints: every decision of the program.
 #![tactic(auto)]
 
-mod arguments;
+mod asked;
 mod printing;
 
-pub use arguments::argument_of;
+pub use asked::argument_of;
 pub use printing::sheet_output;
 
 // A number of one byte, or something else.

@@ -1,10 +1,10 @@
--- `sheet_output::arguments::argument_of` meets its contract.
+-- `sheet_output::asked::argument_of` meets its contract.
 -- Assumes nothing.
 use mathlib.Core.Path.{◌≡◌, refl}
 use lib.ListN.{length, get_or}
 use borrow.Author.Tests.{eq-eqb, ne_eqb}
 use Rattle.sheet_output.specs.Argument.{of_digits, argument_of}
-use Rattle.sheet_output.proofs.arguments.argument_of.Goals as goal
+use Rattle.sheet_output.proofs.asked.argument_of.Goals as goal
 
 pub returns-then-text-eq1 : goal.returns-then-text-eq1
 unfolding argument_of

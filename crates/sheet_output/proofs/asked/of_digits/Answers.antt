@@ -1,4 +1,4 @@
--- `sheet_output::arguments::of_digits` meets its contract.
+-- `sheet_output::asked::of_digits` meets its contract.
 -- Assumes nothing.
 use mathlib.Core.Path.{refl}
 use native.Mathlib.Omega.{arith}
@@ -6,7 +6,7 @@ use borrow.Author.Tests.{lt-leb, le-leb}
 use Rattle.calls.proofs.Flags.{denied, granted}
 use Rattle.sheet_output.specs.Argument.{value_of, of_digits}
 use Rattle.sheet_output.proofs.ArgumentLaws.{digit-range}
-use Rattle.sheet_output.proofs.arguments.of_digits.Goals as goal
+use Rattle.sheet_output.proofs.asked.of_digits.Goals as goal
 
 -- the first is no digit
 pub returns-then-not-is_digit : goal.returns-then-not-is_digit

@@ -1,10 +1,10 @@
--- `sheet_output::arguments::is_digit` meets its contract.
+-- `sheet_output::asked::is_digit` meets its contract.
 -- Assumes nothing.
 use mathlib.Core.Path.{refl}
 use native.Mathlib.Omega.{arith}
 use borrow.Author.Tests.{lt-leb, le-leb}
 use Rattle.sheet_output.specs.Argument.{is_digit}
-use Rattle.sheet_output.proofs.arguments.is_digit.Goals as goal
+use Rattle.sheet_output.proofs.asked.is_digit.Goals as goal
 
 pub returns-then-byte-lt-ZERO : goal.returns-then-byte-lt-ZERO
 unfolding is_digit
