@@ -1,6 +1,6 @@
 -- The line that tells of a refusal is in ASCII, so it is text.
 -- Assumes nothing.
-use Rattle.std.proofs.Common.{◌≡◌, ℕ, zero, suc, ◌+◌, ◌/◌, ◌%◌, ◌<◌, Bool, true, false, cond, ltb, List, [], ◌∷◌, ◌++◌, length, take, refl, sym, ap, ◌∙◌, subst, arith, rules, Result, Ok, Err}
+use Rattle.std.proofs.Common.{◌≡◌, ℕ, zero, suc, ◌+◌, ◌/◌, ◌%◌, Bool, true, false, cond, ltb, List, [], ◌∷◌, ◌++◌, length, take, refl, sym, ap, ◌∙◌, subst, arith, rules, Result, Ok, Err}
 use borrow.Author.Tests.{ltb-true}
 use lib.Seq.{take-append_seam}
 use Rattle.std.specs.Result.{IsOk, MatchResult}
