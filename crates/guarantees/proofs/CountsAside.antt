@@ -1,4 +1,4 @@
--- Settling reads figures 0 to 7 only: two books that differ in the counts alone settle the same (specs/Demand3.antt, `counts-aside`).
+-- Settling reads figures 0 to 7 only: two books that differ in the counts alone settle the same (specs/Demand3.antt, `counts_aside`).
 -- Assumes nothing.
 use Prim.Native.Nat.{ℕ, zero, suc, ◌+◌, ◌*◌, ◌<◌}
 use mathlib.Core.Path.{◌≡◌, refl, ap, ap₂, ◌∙◌}

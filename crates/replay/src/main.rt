@@ -38,9 +38,24 @@ const ELECTRICITY: u8 = 214;
 const HEADER: usize = 3;
 
 fn main(rt: HostRuntime) -> io::Result<()> {
-    let mut bytes = Vec::new(rt.alloc());
-    rt.reader().read_to_end(&mut bytes)?;
-    replay(&rt, &bytes)
+    let mut bytes = [0u8; 65536];
+    let count = read_input(&mut rt.reader(), &mut bytes);
+    replay(&rt, &bytes[..count])
+}
+
+// As much of the input as there is room for. Where it cannot be read on it ends.
+fn read_input<R: Read>(reader: &mut R, bytes: &mut [u8]) -> usize
+    ensures { result ≤ length bytes.new }
+{
+    let mut count = 0;
+    while count < bytes.len() {
+        match reader.read(&mut bytes[count..]) {
+            Ok(0) => break,
+            Ok(more) => count += more,
+            Err(_) => break,
+        }
+    }
+    count
 }
 
 fn replay(rt: &impl Print, bytes: &[u8]) -> io::Result<()> {

@@ -7,16 +7,29 @@ ghost use Rattle.calls.specs.Limits.{operators, setting_count};
 
 use book::Book;
 use calls::{Answer, FIGURE_PLACES, SETTING_PLACES, SETTINGS};
-use std::{env, io};
+use std::env::FillError;
+use std::io;
+use std::rt::Env;
 
 fn main(rt: HostRuntime) -> io::Result<()> {
     let b = full_book();
-    let times = env::args(&rt)?.len();
+    let times = argument_count(&rt);
     let mut sum = 0u64;
     for i in 0..times {
         sum = sum.wrapping_add(settled(b, i));
     }
     print!(rt; "{sum}")
+}
+
+// How many arguments there are, the program's name among them.
+fn argument_count(rt: &impl Env) -> usize {
+    let mut text = [0u8; 16];
+    for i in 0..usize::MAX {
+        if let Err(FillError::NotPresent) = rt.arg(i, &mut text) {
+            return i;
+        }
+    }
+    usize::MAX
 }
 
 // What operator 0 gets back from the book with one income changed.
