@@ -46,7 +46,7 @@ use Rattle.lent.proofs.Contracts.{Paired, Promise, core-ended, lent-ended, pair_
 use Rattle.lent.proofs.Locals.{locals, Blocks, env, copies, after, Stand, stand-after, from_at, alloc_all, free_all, pass_all, opds-all}
 
 module _ {B N : Plain} (P : Paired B N) {n : ℕ} (Ps : List (Passed n)) where
-  -- ---- the code: the locals after the further parameters are what the core returned, 0, and the copy of the state, 1
+  -- ---- the code: the locals after the further parameters are what the core returned, 0, the copy of the state, 1, and the new state on its way, 2
   abbrev nth : ℕ → ℕ
   nth = after (λ j. suc (suc j)) Ps
 
@@ -54,8 +54,9 @@ module _ {B N : Plain} (P : Paired B N) {n : ℕ} (Ps : List (Passed n)) where
   lent-body core =
       seq (assign (place (nth 1) []) (rv_opd (copy (place 1 (deref B.ty ∷ [])))))
       (seq (call core (copy (place (nth 1) []) ∷ copies (λ j. suc (suc j)) Ps) (place (nth 0) []))
-      (seq (assign (place 1 (deref B.ty ∷ [])) (rv_opd (copy (place (nth 0) (field 0 ∷ [])))))
-      (seq (assign (place 0 []) (rv_opd (copy (place (nth 0) (field 1 ∷ []))))) return)))
+      (seq (assign (place (nth 2) []) (rv_opd (copy (place (nth 0) (field 0 ∷ [])))))
+      (seq (assign (place 1 (deref B.ty ∷ [])) (rv_opd (copy (place (nth 2) []))))
+      (seq (assign (place 0 []) (rv_opd (copy (place (nth 0) (field 1 ∷ []))))) return))))
 
   abbrev ref_ty : Ty
   ref_ty = ty_ref (named 0) mut (pointee B.row.written)
@@ -67,19 +68,19 @@ module _ {B N : Plain} (P : Paired B N) {n : ℕ} (Ps : List (Passed n)) where
     ty_params = [];
     givens = 0;
     params = suc (length Ps);
-    locals = local N.ty value_local ∷ local ref_ty value_local ∷ locals (of-lent n) Ps (local (pair_ty P Ps) value_local ∷ local B.ty value_local ∷ []);
+    locals = local N.ty value_local ∷ local ref_ty value_local ∷ locals (of-lent n) Ps (local (pair_ty P Ps) value_local ∷ local B.ty value_local ∷ local B.ty value_local ∷ []);
     body = lent-body core;
   }
 
   -- the locals with their blocks, and that those after the further parameters stand where their numbers say
-  abbrev rest : ℕ → ℕ → List (Ty × ℕ)
-  rest lp lb = (pair_ty P Ps, lp) ∷ (B.ty, lb) ∷ []
+  abbrev rest : ℕ → ℕ → ℕ → List (Ty × ℕ)
+  rest lp lb lc = (pair_ty P Ps, lp) ∷ (B.ty, lb) ∷ (B.ty, lc) ∷ []
 
-  abbrev places : ℕ → ℕ → Blocks Ps → ℕ → ℕ → List (Ty × ℕ)
-  places l₀ l₁ ls lp lb = (N.ty, l₀) ∷ (ref_ty, l₁) ∷ env (of-lent n) Ps ls (rest lp lb)
+  abbrev places : ℕ → ℕ → Blocks Ps → ℕ → ℕ → ℕ → List (Ty × ℕ)
+  places l₀ l₁ ls lp lb lc = (N.ty, l₀) ∷ (ref_ty, l₁) ∷ env (of-lent n) Ps ls (rest lp lb lc)
 
-  stands : (l₀ l₁ : ℕ) (ls : Blocks Ps) (lp lb : ℕ) → Stand (places l₀ l₁ ls lp lb) nth (rest lp lb)
-  stands l₀ l₁ ls lp lb = stand-after (of-lent n) (places l₀ l₁ ls lp lb) (rest lp lb) Ps ls (λ j. suc (suc j)) (λ j. refl)
+  stands : (l₀ l₁ : ℕ) (ls : Blocks Ps) (lp lb lc : ℕ) → Stand (places l₀ l₁ ls lp lb lc) nth (rest lp lb lc)
+  stands l₀ l₁ ls lp lb lc = stand-after (of-lent n) (places l₀ l₁ ls lp lb lc) (rest lp lb lc) Ps ls (λ j. suc (suc j)) (λ j. refl)
 
   abbrev stayed : Stays (lent-ended P Ps).signature.params (lent-ended P Ps).kept
   stayed = (stay_ref (0 ∷ []) tt (plain (λ _. B.row)), stays (of-lent n) Ps)
@@ -146,33 +147,34 @@ module _ {B N : Plain} (P : Paired B N) {n : ℕ} (Ps : List (Passed n)) where
             qed 𝓛 ((‵ (flft κ q) ⊛ raw tokens) ∷ ‵ (owns (MutRef (named 0) κ B.row ∷ Rows (of-lent n) (κ, κs) Ps) (x, a) vals) ∷ []) ∵
             split ! $ move ! (2 ∷ []) $ fsplit ! $ fsplit3 ! $ drop ! $ move ! (0 ∷ 1 ∷ 3 ∷ []) $ rewrite ! 3 (λ (F : Fml). ‵ F) (had-at-entry (of-lent n) (κ, κs) Ps a) refl $
             -- [obs; the borrow; its token; what the further parameters own; their tokens]
-            enter ! C Λ (lent-function core) vs _ $ alloc1 ! (λ l₀. alloc1 ! (λ l₁. alloc_all (of-lent n) ! Ps (λ ls. alloc1 ! (λ lp. alloc1 ! (λ lb. alloc0 ! $ params1 ! $ pass1 ! (init ! 5 refl (tt, tt)) $
-            move ! (4 ∷ []) $ pass_all (of-lent n) ! (κ, κs) Ps ls a ok (rest lp lb) $
-            -- [the further parameters; room for the copy; …; room for the pair; …; _1; …; room for _0; …; obs; the borrow; its token; what they own; their tokens]
-            move ! (9 ∷ 10 ∷ 11 ∷ []) $ opens ! tt B.row {h = h} b o (λ us. spelt ! B.row (Is B.row) (shows 𝓛 B.row) (λ y. B.val y ∷ []) B.tells full_share h us b o $
+            enter ! C Λ (lent-function core) vs _ $ alloc1 ! (λ l₀. alloc1 ! (λ l₁. alloc_all (of-lent n) ! Ps (λ ls. alloc1 ! (λ lp. alloc1 ! (λ lb. alloc1 ! (λ lc. alloc0 ! $ params1 ! $ pass1 ! (init ! 7 refl (tt, tt)) $
+            move ! (6 ∷ []) $ pass_all (of-lent n) ! (κ, κs) Ps ls a ok (rest lp lb lc) $
+            -- [the further parameters; room for the new state; …; room for the copy; …; room for the pair; …; _1; …; room for _0; …; obs; the borrow; its token; what they own; their tokens]
+            move ! (11 ∷ 12 ∷ 13 ∷ []) $ opens ! tt B.row {h = h} b o (λ us. spelt ! B.row (Is B.row) (shows 𝓛 B.row) (λ y. B.val y ∷ []) B.tells full_share h us b o $
             move ! (1 ∷ []) $ peeks ! B.row (Is B.row) (shows 𝓛 B.row) h (B.val h ∷ []) (λ was. move ! (1 ∷ 0 ∷ []) $
             rewrite ! 0 (λ (τs : List Ty). ‵ (cell_at full_share τs (B.val h ∷ []) b o)) B.one refl $
-            -- [the state's cell; what it owns; the open borrow; obs; auth; the further parameters; room for the copy; …; room for the pair; …; _1; …; room for _0; …; what they own; their tokens]
-            assigns ! (of_opd ! (load ! (from ! (hop ! (look ! 10 refl) (stop !))) (look_raw ! 0 refl))) (from_at ! (stands l₀ l₁ ls lp lb 1) (stop !)) (init ! 6 refl (B.typed 𝓛 h _ was)) $
-            move ! (15 ∷ 14 ∷ 5 ∷ []) $ use2 𝓛 (raw ((Core P Ps 𝓛 (core-clauses P Ps S 𝓤)).pre to) ⊛ ‵ own) (asked was) $ split ! $ move ! (0 ∷ 2 ∷ []) $
+            -- [the state's cell; what it owns; the open borrow; obs; auth; the further parameters; room for the new state; …; room for the copy; …; room for the pair; …; _1; …; room for _0; …; what they own; their tokens]
+            assigns ! (of_opd ! (load ! (from ! (hop ! (look ! 12 refl) (stop !))) (look_raw ! 0 refl))) (from_at ! (stands l₀ l₁ ls lp lb lc 1) (stop !)) (init ! 8 refl (B.typed 𝓛 h _ was)) $
+            move ! (17 ∷ 16 ∷ 5 ∷ []) $ use2 𝓛 (raw ((Core P Ps 𝓛 (core-clauses P Ps S 𝓤)).pre to) ⊛ ‵ own) (asked was) $ split ! $ move ! (0 ∷ 2 ∷ []) $
             calls_at ! fm (Core P Ps 𝓛 (core-clauses P Ps S 𝓤)) known to
-            (and_then ! (load ! (from_at ! (stands l₀ l₁ ls lp lb 1) (stop !)) (look ! 8 refl)) (opds-all (of-lent n) ! (of-core n) κs Ps ls xs (places l₀ l₁ ls lp lb) (rest lp lb) (λ j. suc (suc j)) (λ j. refl))) (λ v.
+            (and_then ! (load ! (from_at ! (stands l₀ l₁ ls lp lb lc 1) (stop !)) (look ! 10 refl)) (opds-all (of-lent n) ! (of-core n) κs Ps ls xs (places l₀ l₁ ls lp lb lc) (rest lp lb lc) (λ j. suc (suc j)) (λ j. refl))) (λ v.
             use1 𝓛 (later (some (λ (r : P.row.Denot). (raw tokens ⊛ ‵ (P.row.own_val r (v ∷ []))) ⊛ raw (Ensured r)))) (id⊢ 𝓤 _) $ await ! tt $ pick ! (λ r.
             split ! $ move ! (1 ∷ []) $ use1 𝓛 (raw (fact 𝓤 (Told r))) (told r) $ heard ! (Told r) (λ e. split ! $ move ! (1 ∷ []) $
             peeks ! P.row (Is P.row) (shows 𝓛 P.row) r (v ∷ []) (λ is.
-            -- [what the pair owns; their tokens; the further parameters; what they own; the state's cell; …; the open borrow; obs; auth; the copy; …; room for the pair; …; _1; …; room for _0; …]
-            land ! (from_at ! (stands l₀ l₁ ls lp lb 0) (stop !)) (init ! 11 refl (P.typed 𝓛 r v is)) $
-            rewrite ! 11 (λ (u : Val). ‵ (fat full_share (pair_ty P Ps) lp zero u)) (P.parts r v is).0 refl $
-            assigns ! (of_opd ! (load ! (from_at ! (stands l₀ l₁ ls lp lb 0) (fld ! refl (stop !))) (look_in ! 11 (sub ! 0 refl (whole !))))) (from ! (hop ! (look ! 13 refl) (stop !)))
-            (store_raw ! 4 refl (B.typed 𝓛 (P.state r) _ (P.parts r v is).1)) $
-            assigns ! (of_opd ! (load ! (from_at ! (stands l₀ l₁ ls lp lb 0) (fld ! refl (stop !))) (look_in ! 11 (sub ! 1 refl (whole !))))) (from ! (stop !)) (init ! 15 refl (N.typed 𝓛 (P.answer r) _ (P.parts r v is).2)) $
+            -- [what the pair owns; their tokens; the further parameters; what they own; the state's cell; …; the open borrow; obs; auth; room for the new state; …; the copy; …; room for the pair; …; _1; …; room for _0; …]
+            land ! (from_at ! (stands l₀ l₁ ls lp lb lc 0) (stop !)) (init ! 13 refl (P.typed 𝓛 r v is)) $
+            rewrite ! 13 (λ (u : Val). ‵ (fat full_share (pair_ty P Ps) lp zero u)) (P.parts r v is).0 refl $
+            assigns ! (of_opd ! (load ! (from_at ! (stands l₀ l₁ ls lp lb lc 0) (fld ! refl (stop !))) (look_in ! 13 (sub ! 0 refl (whole !))))) (from_at ! (stands l₀ l₁ ls lp lb lc 2) (stop !)) (init ! 9 refl (B.typed 𝓛 (P.state r) _ (P.parts r v is).1)) $
+            assigns ! (of_opd ! (load ! (from_at ! (stands l₀ l₁ ls lp lb lc 2) (stop !)) (look ! 9 refl))) (from ! (hop ! (look ! 15 refl) (stop !))) (store_raw ! 4 refl (B.typed 𝓛 (P.state r) _ (P.parts r v is).1)) $
+            assigns ! (of_opd ! (load ! (from_at ! (stands l₀ l₁ ls lp lb lc 0) (fld ! refl (stop !))) (look_in ! 13 (sub ! 1 refl (whole !))))) (from ! (stop !)) (init ! 17 refl (N.typed 𝓛 (P.answer r) _ (P.parts r v is).2)) $
             drop ! $ move ! (4 ∷ []) $ drop ! $ owned ! B.row (Is B.row) (B.makes 𝓛) (P.state r) (B.val (P.state r) ∷ []) (P.parts r v is).1 $
             move ! (4 ∷ 0 ∷ 5 ∷ 6 ∷ 7 ∷ []) $ rewrite ! 0 (λ (τs : List Ty). ‵ (cell_at full_share τs (B.val (P.state r) ∷ []) b o)) (sym B.one) refl $
             closes ! tt B.row (P.state r) (B.val (P.state r) ∷ []) b o $
-            -- [obs; the borrow; its token; their tokens; the further parameters; what they own; the copy; …; the pair; …; _1; …; _0; …]
-            returns ! (look ! 12 refl) $ forget ! 6 refl $ forget ! 8 refl $ forget ! 10 refl $ forget ! 12 refl $
-            move ! (12 ∷ 13 ∷ []) $ free1 ! $ move ! (10 ∷ 11 ∷ []) $ free1 ! $ move ! (4 ∷ []) $ free_all (of-lent n) ! Ps ls xs $ move ! (7 ∷ 8 ∷ []) $ free1 ! $ move ! (5 ∷ 6 ∷ []) $ free1 ! $ free0 ! $
-            by ! (exits r (P.parts r v is).2 e))))))))))))
+            -- [obs; the borrow; its token; their tokens; the further parameters; what they own; the new state; …; the copy; …; the pair; …; _1; …; _0; …]
+            returns ! (look ! 14 refl) $ forget ! 6 refl $ forget ! 8 refl $ forget ! 10 refl $ forget ! 12 refl $ forget ! 14 refl $
+            move ! (14 ∷ 15 ∷ []) $ free1 ! $ move ! (12 ∷ 13 ∷ []) $ free1 ! $ move ! (4 ∷ []) $ free_all (of-lent n) ! Ps ls xs $ move ! (9 ∷ 10 ∷ []) $ free1 ! $ move ! (7 ∷ 8 ∷ []) $ free1 ! $ move ! (5 ∷ 6 ∷ []) $ free1 ! $
+            free0 ! $
+            by ! (exits r (P.parts r v is).2 e)))))))))))))
 
     lent-meets : (core : Callee) (𝓣 : Tables 𝓤 H) → Triple 𝓤 (𝓣.C core) (Core P Ps 𝓛 (core-clauses P Ps S 𝓤)) → Triple 𝓤 (WpFn 𝓤 H 𝓣.C 𝓣.Λ (lent-function core)) (Lent P Ps 𝓛 (lent-clauses P Ps S 𝓤))
     lent-meets core 𝓣 known =

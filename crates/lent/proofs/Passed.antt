@@ -75,7 +75,7 @@ by_value {n} P = record {
       owned ! P.row (Is P.row) (P.makes 𝓛) x vs is $ owned ! P.row (Is P.row) (P.makes 𝓛) x vs is $ done !);
 }
 
--- a `&[T]` at the one further lifetime
+-- a `&[T]` at the one further lifetime. It can be copied by T's laws of what a `&` holds
 abbrev slice-form : ℕ → RattleType → Form
 slice-form j R = record { ty = slice_ty (ty_ref (named j) imm (pointee R.written)); written = wrote (slice_ty (ty_ref (named j) imm (pointee R.written))); reaches = (R.written, R.mir) ∷ R.reaches }
 
