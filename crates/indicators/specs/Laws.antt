@@ -1,4 +1,4 @@
--- What holds of an indicator of every book in range, and of the steps of an A indicator. The proofs are `points-made-up` of
+-- What holds of an indicator of every book in range, and of the steps of an A indicator. The proofs are `points_made_up` of
 -- proofs/PointLaws.antt and `in-sequence` of proofs/SequenceLaws.antt.
 -- Assumes nothing.
 use Rattle.std.specs.Prelude.{ℕ, ◌+◌, ◌*◌, ◌≤◌, ◌<◌, ◌≡◌, true, false, not, ◌&&◌, List, get_or}

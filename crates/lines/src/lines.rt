@@ -61,7 +61,7 @@ fn put_operator(out: &mut [u8], at: usize, s: Settlement, operator: usize) -> us
     )
 }
 
-// The adjustments' sum is 0: `adjustments-cancel` of the settlement's laws.
+// The adjustments' sum is 0: `adjustments_cancel` of the settlement's laws.
 fn put_last(out: &mut [u8], at: usize, s: Settlement) -> usize
     requires { Printable s × (at + length (last_line s) ≤ length out.old) }
     ensures { (out.new ≡ with_text_at out.old at (last_line s)) × (result ≡ at + length (last_line s)) }
