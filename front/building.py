@@ -6,6 +6,7 @@ import os
 import re
 import shutil
 import subprocess
+import tempfile
 from pathlib import Path
 
 from front.trouble import Trouble
@@ -18,6 +19,8 @@ PROVED = b"logic=proved "
 LINKED = b"rt: running "
 KIT = "the Rattle kit (rattle-kit-13f), whose command rt must be on the path; README.md says which versions are needed"
 UNBUILT = "the program could not be built"
+# The seconds that a program has on its own data.
+LIMIT = 120
 
 
 class Builder:
@@ -72,24 +75,34 @@ class Builder:
         if not why:
             return
         self.say(f"{why}: proving and building it, which takes some minutes")
-        log = self.root / "target" / "front" / f"{name}.log"
-        linked, status = self._proved(name, log, crates)
-        if not linked:
+        try:
+            self._make(name, program, crates)
+        except BaseException:
             # A program that is there all the same must not be run the next time: it is to count as older than any source.
             if program.exists():
                 os.utime(program, (0, 0))
+            raise
+        # rt leaves a program as it is whose sources are the same bytes as before.
+        os.utime(program)
+
+    def _make(self, name, program, crates):
+        """Has the program proved and linked, and sees that it does on its own data what its crate says."""
+        log = self.root / "target" / "front" / f"{name}.log"
+        linked, status = self._proved(name, log, crates)
+        if not linked:
             ended = f"rt run in crates/{name} ended with status {status}"
             raise Trouble(f"{name} could not be built: {ended}; what the prover said is in {log}", UNBUILT)
         if not program.exists():
             raise Trouble(f"{name} is not built, although rt counts it as proved: remove the folder {program.parent} and try again", UNBUILT)
-        # rt leaves a program as it is whose sources are the same bytes as before.
-        os.utime(program)
+        wrong = wrong_on_own_data(self.root / "crates" / name, program, log)
+        if wrong:
+            raise Trouble(f"{name} could not be built: {wrong}; what it printed is at the end of {log}", UNBUILT)
 
     def _proved(self, name, log, crates):
         """Has rt prove, build and run the program, and tells how far it is; answers whether it is proved and linked, and the exit status.
 
         Nothing builds a program without a run of it. It is run in the folder of its crate, where no filing lies, so it says that of an empty
-        one; what it prints there, and the status that it ends with, count for nothing.
+        one; what it prints there, and the status that it ends with, count for nothing: its run on its own data comes after.
         """
         crate, linked = "", False
         folder = self.root / "crates" / name
@@ -110,6 +123,38 @@ class Builder:
 def built(root, name):
     """Where rt leaves a program."""
     return root / "crates" / name / "out" / name
+
+
+def wrong_on_own_data(crate, program, log):
+    """What is wrong with a run of the program as its crate's folder has it, or nothing; the log gets what it prints.
+
+    It runs in a folder with copies of what `data` has; `args` has a word a line. Without `stdout` it must print nothing, without `status`
+    end with 0.
+    """
+    args, given, wanted, status = (_content(crate / part) for part in ("args", "stdin", "stdout", "status"))
+    words, ending = [str(program), *args.splitlines()], int(status or 0)
+    with tempfile.TemporaryDirectory() as folder, log.open("ab") as notes:
+        if (crate / "data").exists():
+            shutil.copytree(crate / "data", folder, dirs_exist_ok=True)
+        notes.write(b"\non its own data:\n")
+        notes.flush()
+        try:
+            done = subprocess.run(words, cwd=folder, input=given, stdout=subprocess.PIPE, stderr=notes, timeout=LIMIT, check=False)
+        except subprocess.TimeoutExpired as late:
+            notes.write(late.stdout or b"")
+            return f"on its own data it had not ended after {LIMIT} seconds"
+        notes.write(done.stdout)
+    wrong = []
+    if done.stdout != wanted:
+        wrong.append(f"what it prints on its own data is not what crates/{crate.name}/stdout has")
+    if done.returncode != ending:
+        wrong.append(f"on its own data it ended with status {done.returncode}, and not with {ending}")
+    return "; ".join(wrong)
+
+
+def _content(file):
+    """The bytes of a file, none where there is no such file."""
+    return file.read_bytes() if file.exists() else b""
 
 
 def needed(root, name):

@@ -4,9 +4,11 @@ import os
 import shutil
 import subprocess
 import sys
+from unittest import mock
 
 from front import building
 from front.tests.common import PYTHON, ROOT, InFolder, settle
+from front.trouble import Trouble
 
 COUNTS = "counted short planned coupled exceptional"
 CRATES = (
@@ -15,6 +17,7 @@ CRATES = (
     "quality_gas: output libc\nrewrite_gas: leaf\noutcomes_gas: leaf\n\nlone_test: other\n"
 )
 PROGRAMS = ("quality", "rewrite", "outcomes", "sheet", "quality_gas", "rewrite_gas", "outcomes_gas")
+OWN = b"\x01\x00\x02\x00"
 
 # It counts its runs, proves what crates.txt of this tree has, builds the program anew where a source has changed, and runs it.
 RT = """#!/bin/sh
@@ -50,13 +53,13 @@ class Tree(InFolder):
         shutil.copytree(ROOT / "front", self.root / "front", ignore=shutil.ignore_patterns("tests", "__pycache__"))
         shutil.copy2(ROOT / "settle", self.root / "settle")
         self.file("tree/crates.txt", CRATES)
-        self.file("tree/standing-in-for-quality", "echo operator; cat filing.q")
-        self.file("tree/standing-in-for-rewrite", "cat filing.q")
-        self.file("tree/standing-in-for-outcomes", "echo 0 yes")
-        self.file("tree/standing-in-for-quality_gas", "echo operator of gas; cat filing.q")
-        self.file("tree/standing-in-for-rewrite_gas", "cat filing.q; printf gas")
-        self.file("tree/standing-in-for-outcomes_gas", "echo 0 yes; echo 4 refused 2")
-        self.file("tree/standing-in-for-sheet", f"for word in {COUNTS}; do echo $word $1$2; done")
+        self.stand_in("quality", "echo operator; cat filing.q")
+        self.stand_in("rewrite", "cat filing.q")
+        self.stand_in("outcomes", "echo 0 yes")
+        self.stand_in("quality_gas", "echo operator of gas; cat filing.q")
+        self.stand_in("rewrite_gas", "cat filing.q; printf gas")
+        self.stand_in("outcomes_gas", "echo 0 yes; echo 4 refused 2")
+        self.stand_in("sheet", f"for word in {COUNTS}; do echo $word $1$2; done")
         for crate in ("leaf", "other", "output", *PROGRAMS):
             self.file(f"tree/crates/{crate}/src/lib.rt", "")
             self.file(f"tree/crates/{crate}/proofs/part/One.antt", "")
@@ -65,16 +68,37 @@ class Tree(InFolder):
         self.filing = self.file("some.q", b"\x01\x00\x01\x00")
         self.pass_time()
 
+    def stand_in(self, name, script):
+        """A script in the place of a program; its crate says of the run on its own data what the script does there."""
+        self.file(f"tree/standing-in-for-{name}", script)
+        data = self.file(f"tree/crates/{name}/data/filing.q", OWN).parent
+        done = subprocess.run(["sh", "-c", script, name, "3", "1"], cwd=data, capture_output=True, check=False)
+        self.file(f"tree/crates/{name}/args", "3\n1\n")
+        self.file(f"tree/crates/{name}/stdout", done.stdout)
+        self.file(f"tree/crates/{name}/status", f"{done.returncode}\n")
+
     def pass_time(self):
         """Makes all that is there older, so that what is written next is newer."""
         for path in self.root.rglob("*"):
             time = path.stat().st_mtime - 10
             os.utime(path, (time, time))
 
+    def searched(self):
+        """The path of commands, with the stand-in for rt."""
+        return f"{self.path.parent}:{os.environ['PATH']}"
+
     def settle(self, *words, path=None):
         """A run in this tree; without words the filing is settled, without notes, so that only its own program is asked."""
-        found = f"{self.path.parent}:{os.environ['PATH']}" if path is None else path
+        found = self.searched() if path is None else path
         return settle(*words or ["--quiet", self.filing], root=self.root, env={**os.environ, "PATH": found})
+
+    def build(self, name):
+        """The same as far as its program is built, without a process of its own."""
+        with mock.patch.dict(os.environ, PATH=self.searched()):
+            building.Builder(self.root, [].append).program(name)
+
+    def reason_to_build(self, name):
+        return building.reason_to_build(self.root, building.built(self.root, name), building.needed(self.root, name))
 
     def runs(self):
         file = self.root / "runs"
@@ -108,7 +132,7 @@ class Built(Tree):
             self.pass_time()
             before = len(self.runs())
             self.file(f"tree/{source}", CRATES if source == "crates.txt" else "changed")
-            self.file("tree/standing-in-for-quality", f"echo operator by {source}")
+            self.stand_in("quality", f"echo operator by {source}")
             run = self.settle()
             self.assertEqual(run.output, f"operator by {source}\n".encode())
             self.assertEqual(len(self.runs()), before + 1)
@@ -129,13 +153,36 @@ class Built(Tree):
             self.file(f"tree/crates/{file}", "changed")
         self.assertEqual(self.settle().said, "")
 
-    def test_what_a_program_does_as_it_is_built_does_not_count(self):
-        self.file("tree/standing-in-for-quality", "[ -e filing.q ] || { echo 'logic=not-proved' >&2; exit 1; }; echo operator")
+    def test_what_a_program_does_as_rt_runs_it_does_not_count(self):
+        self.stand_in("quality", "[ -e filing.q ] || { echo 'logic=not-proved' >&2; exit 1; }; echo operator")
         run = self.settle()
         self.assertEqual((run.status, run.output), (0, b"operator\n"))
         self.assertTrue(run.said.endswith("crate 3 of 3: quality proved\n"), run.said)
         self.assertIn("logic=not-proved", (self.root / "target/front/quality.log").read_text())
         self.assertEqual(self.settle().said, "")
+
+    def test_a_program_is_run_on_its_own_data_once_as_its_crate_says(self):
+        own = f'echo run >>"{self.folder}/ran"; cat; printf "<%s>" "$@"; ls; rm filing.q; echo new >more.q; exit 7'
+        self.file("tree/standing-in-for-quality", f"[ -e more.q ] && {{ {own}; }}\necho operator")
+        for part, content in [("data/more.q", "more"), ("args", "two words\n\nB"), ("stdin", "given\n"), ("status", "7\n")]:
+            self.file(f"tree/crates/quality/{part}", content)
+        printed = "given\n<two words><><B>filing.q\nmore.q\n"
+        self.file("tree/crates/quality/stdout", printed)
+        run = self.settle()
+        self.assertEqual((run.status, run.output), (0, b"operator\n"), run.said)
+        self.assertEqual((self.folder / "ran").read_text(), "run\n")
+        data = {file.name: file.read_bytes() for file in (self.root / "crates/quality/data").iterdir()}
+        self.assertEqual(data, {"filing.q": OWN, "more.q": b"more"})
+        log = (self.root / "target/front/quality.log").read_text()
+        self.assertTrue(log.endswith(f"\non its own data:\n{printed}"), log)
+
+    def test_a_crate_that_says_nothing_of_a_run_wants_nothing_printed(self):
+        self.file("tree/standing-in-for-quality", 'cat; printf "%s" "$@"; ls')
+        shutil.rmtree(self.root / "crates/quality/data")
+        for part in ("args", "stdout", "status"):
+            (self.root / "crates/quality" / part).unlink()
+        self.build("quality")
+        self.assertIsNone(self.reason_to_build("quality"))
 
     def test_a_source_that_is_touched_and_the_same_is_looked_at_once(self):
         self.settle()
@@ -149,7 +196,7 @@ class Built(Tree):
 
     def test_two_runs_at_once_build_once(self):
         held = self.file("tree/held", "")
-        environment = {**os.environ, "PATH": f"{self.path.parent}:{os.environ['PATH']}"}
+        environment = {**os.environ, "PATH": self.searched()}
         command = [*PYTHON, str(self.root / "settle"), "--quiet", str(self.filing)]
         started = {"env": environment, "stdout": subprocess.PIPE, "stderr": subprocess.PIPE, "text": True}
         with subprocess.Popen(command, **started) as first:
@@ -226,6 +273,71 @@ class NotBuilt(Tree):
         self.assertEqual(self.settle().status, 0)
         self.assertEqual(len(self.runs()), 3)
 
+    def test_a_program_that_failed_its_run_is_not_taken_the_next_time(self):
+        self.settle()
+        self.pass_time()
+        self.file("tree/crates/leaf/src/lib.rt", "changed")
+        self.file("tree/standing-in-for-quality", "echo operator of old; cat filing.q")
+        log = self.root / "target/front/quality.log"
+        wrong = "quality could not be built: what it prints on its own data is not what crates/quality/stdout has"
+        for _ in range(2):
+            run = self.settle("--quiet", self.filing, self.filing)
+            self.assertEqual((run.status, run.said.count(f"{wrong}; what it printed is at the end of {log}\n")), (2, 2), run.said)
+            self.assertNotIn(b"operator", run.output)
+            self.assertIn(f"# {self.filing}: trouble: the program could not be built", run.output.decode())
+            self.assertTrue(log.read_bytes().endswith(b"\non its own data:\noperator of old\n" + OWN))
+        self.file("tree/crates/quality/stdout", b"operator of old\n" + OWN)
+        run = self.settle()
+        self.assertEqual((run.status, run.output), (0, b"operator of old\n\x01\x00\x01\x00"))
+        self.assertEqual(len(self.runs()), 4)
+        self.assertEqual(self.settle().said, "")
+
+    def test_what_is_wrong_with_a_run_is_told(self):
+        printed = "what it prints on its own data is not what crates/quality/stdout has"
+        line, log = {"stdout": "operator\n"}, self.root / "target/front/quality.log"
+        for script, wanted, told in [
+            ("printf operator", line, printed),
+            ("echo operator; echo more", line, printed),
+            ("echo operator >&2", line, printed),
+            ("echo operator", {}, printed),
+            ("echo operator; exit 3", line, "on its own data it ended with status 3, and not with 0"),
+            ("echo operator", {**line, "status": "3"}, "on its own data it ended with status 0, and not with 3"),
+            ("echo operator; kill -9 $$", {}, f"{printed}; on its own data it ended with status -9, and not with 0"),
+        ]:
+            self.file("tree/standing-in-for-quality", script)
+            for part in ("stdout", "status"):
+                (self.root / "crates/quality" / part).unlink(missing_ok=True)
+            for part, content in wanted.items():
+                self.file(f"tree/crates/quality/{part}", content)
+            with self.assertRaises(Trouble) as raised:
+                self.build("quality")
+            self.assertEqual(str(raised.exception), f"quality could not be built: {told}; what it printed is at the end of {log}")
+            self.assertIn("is newer than the program quality", self.reason_to_build("quality"))
+
+    def test_a_program_that_does_not_end_is_not_taken(self):
+        self.file("tree/standing-in-for-quality", "[ -e filing.q ] || exit 0; echo operator; exec sleep 60")
+        self.assertEqual(building.LIMIT, 120)
+        told = "quality could not be built: on its own data it had not ended after 2 seconds; what it printed is at the end of "
+        with mock.patch("front.building.LIMIT", 2), self.assertRaisesRegex(Trouble, told):
+            self.build("quality")
+        self.assertTrue((self.root / "target/front/quality.log").read_text().endswith("\non its own data:\noperator\n"))
+        self.assertIn("is newer than the program quality", self.reason_to_build("quality"))
+
+    def test_a_program_whose_run_is_stopped_is_not_taken(self):
+        with mock.patch("front.building.subprocess.run", side_effect=KeyboardInterrupt), self.assertRaises(KeyboardInterrupt):
+            self.build("quality")
+        self.assertIn("is newer than the program quality", self.reason_to_build("quality"))
+
+    def test_a_program_whose_run_cannot_be_made_is_not_taken(self):
+        stdout = self.root / "crates/quality/stdout"
+        stdout.unlink()
+        stdout.mkdir()
+        for _ in range(2):
+            run = self.settle()
+            self.assertEqual((run.status, run.output), (2, b""))
+            self.assertTrue(run.said.endswith(f"\nquality could not be built: {stdout}: Is a directory\n"), run.said)
+        self.assertEqual(len(self.runs()), 2)
+
     def test_a_program_that_rt_does_not_build_again(self):
         self.file("tree/forgetting", "")
         self.assertIn(f"remove the folder {self.root}/crates/quality/out and try again", self.settle().said)
@@ -247,7 +359,7 @@ class NotBuilt(Tree):
         self.assertEqual(self.settle("--strict", self.filing).status, 1)
 
     def test_a_refusal_stands_without_the_program_that_tells_the_figure(self):
-        self.file("tree/standing-in-for-quality", "echo refused 9 at 4")
+        self.stand_in("quality", "echo refused 9 at 4")
         self.settle()
         (self.root / "crates/rewrite/out/rewrite").unlink()
         self.file("tree/failing", "")
@@ -257,13 +369,13 @@ class NotBuilt(Tree):
         self.assertIn("What stands in its figure cannot be told: rewrite could not be built", run.said)
 
     def test_a_refusal_that_the_figures_do_not_show_names_them_all(self):
-        self.file("tree/standing-in-for-quality", "echo refused 9 at 4")
-        self.file("tree/standing-in-for-outcomes", "echo 0 yes; echo 4 refused 8")
+        self.stand_in("quality", "echo refused 9 at 4")
+        self.stand_in("outcomes", "echo 0 yes; echo 4 refused 8")
         run = self.settle(self.file("calls.txt", "join 0\ninterruption 0 file MV own 0 300 2\n"))
         self.assertIn("there stands 0 in mv-weight, 0 in mv-seconds and 0 in count-counted at this point.\n", run.said)
 
     def test_a_refusal_of_which_the_program_tells_nothing(self):
-        self.file("tree/standing-in-for-quality", "echo refused 9 at 4")
+        self.stand_in("quality", "echo refused 9 at 4")
         run = self.settle(self.file("calls.txt", "join 0\ninterruption 0 file MV own 0 300 2\n"))
         self.assertEqual(run.status, 1)
         self.assertIn("What stands in its figure cannot be told: the program outcomes tells nothing of it", run.said)
@@ -295,7 +407,7 @@ class NotBuilt(Tree):
         ]:
             self.pass_time()
             self.file("tree/crates/leaf/src/lib.rt", "changed")
-            self.file("tree/standing-in-for-sheet", printing)
+            self.stand_in("sheet", printing)
             run = self.settle("--sheet", "0", "2017", self.filing)
             self.assertEqual(run.status, 2, printing)
             self.assertTrue(run.said.endswith(f"{told}{self.filing}: the program gave no answer\n"), run.said)
@@ -313,21 +425,21 @@ class NotBuilt(Tree):
         self.assertEqual(self.runs(), [])
 
     def test_a_program_that_complains_is_trouble(self):
-        self.file("tree/standing-in-for-quality", "echo 'standard output: No space left on device' >&2")
+        self.stand_in("quality", "echo 'standard output: No space left on device' >&2")
         run = self.settle()
         self.assertEqual((run.status, run.output), (2, b""))
         self.assertTrue(run.said.endswith(f"No space left on device\n{self.filing}: the program gave no answer\n"))
         self.pass_time()
         self.file("tree/crates/leaf/src/lib.rt", "changed")
-        self.file("tree/standing-in-for-quality", "exit 3")
-        self.assertIn("ended with status 3", self.settle().said)
+        self.stand_in("quality", "exit 3")
+        self.assertIn("/crates/quality/out/quality ended with status 3\n", self.settle().said)
 
 
 class Written(Tree):
     """--write against a stand-in: a refusal is told by standard error, and an empty book is no refusal."""
 
     def written(self, by, file="out.q"):
-        self.file("tree/standing-in-for-rewrite", by)
+        self.stand_in("rewrite", by)
         return self.settle("--write", self.folder / file if file != "-" else file, self.filing)
 
     def test_the_book_goes_to_the_file(self):
