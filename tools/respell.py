@@ -2,7 +2,7 @@
 """Brings the repository's own definitions and lemmas to the spelling of today's Rattle, once, after port.py: words in snake case, no
 middle dot in a name. Functions of src/, exported names, strings, inputs and outputs keep their names.
 
-tools/respell.py        at the top of the repository, right after /opt/rattle/port/port.py
+tools/respell.py        at the top of the repository, right after the kit's port/port.py
 
 It turns crates/*/src, specs, proofs and must-fail, and the names in backquotes in README.md and docs/. A name in lower camel case gets
 underscores everywhere. A name that a file of specs/ declares, and a field of any record, gets underscores in place of its dashes; a lemma's
