@@ -26,7 +26,7 @@ stays. *Definition*: a definition is changed, and the code or the theorem does n
 its caller, is changed, and its code stays.
 
 Each is refused at a fact that no longer holds: the first error of its log shows two values that differ, numbers at which a bound fails,
-or a condition that nothing gives any more. {others}
+a condition that nothing gives any more, or, where the prover has to find the proof by itself, what it does not prove. {others}
 
 Made by `tests/edits.py` from the first line of each edit: change those, not this page.
 
