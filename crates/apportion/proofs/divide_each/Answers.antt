@@ -32,9 +32,9 @@ returns c =
     -- the total by which the closure divides is found, and compared with t
     let each : (k : ℕ) → k < 16 → get_or c.from_fn.result k none ≡ divided c.args.t weights c.args.s k =
     λ k lt.
-        made_at _ _ 16 (divided c.args.t weights c.args.s)
-        (λ i y q small call. let told : (total : ℕ) × (y ≡ divided total weights c.args.s i) = search rules in (told.1, search rules))
-        c.from_fn.result c.from_fn.ensures.items none k lt in
+    made_at _ _ 16 (divided c.args.t weights c.args.s)
+    (λ i y q small call. let told : (total : ℕ) × (y ≡ divided total weights c.args.s i) = search rules in (told.1, search rules))
+    c.from_fn.result c.from_fn.ensures.items none k lt in
     let by_sum = c.requires.divisor_is in (
       viewed (λ (d : Division). d.quotient) c.from_fn.result none (floors c.args.t weights) c.from_fn.ensures.items.long (length-floors c.args.t weights ∙ long)
           (λ k lt. ap (λ (d : Division). d.quotient) (each k lt) ∙ rw by_sum (sym (floor-at c.args.t weights k (omega arith)))),
