@@ -4,6 +4,7 @@ use Prim.Native.Nat.{ℕ, zero, suc, ◌+◌, ◌<◌}
 use mathlib.Core.Path.{◌≡◌, refl, sym, ◌∙◌}
 use mathlib.Core.Bool.{Bool, true, false, ◌&&◌, false≢true}
 use mathlib.Core.List.{List}
+use native.Mathlib.Nat.{zero-add}
 use native.Mathlib.Omega.{arith}
 use native.Mathlib.Decide.{ℕ_discrete}
 use lib.ListN.{length, get_or}
@@ -67,6 +68,9 @@ all-from a n test =
     (λ each. list_all-from_AllPass test all (All-from_get_or (λ (x : ℕ). test x ≡ true) all 0
     (λ k lt. let small : k < n = omega (arith, lt, length-range_with_len a n) in rw (get_or-range_with_len a n k 0 small) (each k small))))
     (λ k lt failed. list_all_at test all k 0 (omega (arith, lt, length-range_with_len a n)) (rw (get_or-range_with_len a n k 0 lt) failed)))
+
+pub all-below : (n : ℕ) (test : ℕ → Bool) → list_all test (range_with_len 0 n) ≡ every n test
+all-below n test = all-from 0 n test ∙ (λ i. every n (λ (k : ℕ). test (zero-add k i)))
 
 pub all-elements : (xs : List ℕ) (test : ℕ → Bool) → list_all test xs ≡ every (length xs) (λ (k : ℕ). test (get_or xs k 0))
 all-elements xs test =
