@@ -5,3 +5,5 @@ pub mod Order
 pub mod Awarded
 pub mod Shared
 pub mod Opened
+pub mod FromFn
+pub mod Mapped

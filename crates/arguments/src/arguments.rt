@@ -62,20 +62,11 @@ pub fn mark_in_range(kind: Kind, indicator: u8, mark: u8) -> bool
 pub fn rates_in_range(pot: u32, cap: u32) -> bool
     ensures { result ≡ (facts_of electricity (Call.Rates pot cap)).within_range }
 {
-    if RATE_LIMIT < pot {
-        return false;
-    }
-    cap <= RATE_LIMIT
+    pot <= RATE_LIMIT && cap <= RATE_LIMIT
 }
 
 pub fn index_in_range(number: u8, value: u32) -> bool
     ensures { result ≡ (facts_of electricity (Call.Index number value)).within_range }
 {
-    if LAST_INDEX < number {
-        return false;
-    }
-    if value < INDEX_LEAST {
-        return false;
-    }
-    value <= INDEX_MOST
+    number <= LAST_INDEX && (INDEX_LEAST..=INDEX_MOST).contains(&value)
 }

@@ -33,15 +33,10 @@ pub fn is_joined(b: Book, operator: u8) -> bool
 pub fn setting_of(b: Book, operator: u8, which: u8) -> u64
     ensures { result ≡ cond (ltb operator operators && ltb which setting_count) (setting_of b operator which) 0 }
 {
-    if LAST_OPERATOR < operator {
+    if LAST_OPERATOR < operator || LAST_SETTING < which {
         return 0;
     }
-    if LAST_SETTING < which {
-        return 0;
-    }
-    let settings = b.settings;
-    let at = setting_slot(operator, which);
-    settings[at]
+    b.settings[setting_slot(operator, which)]
 }
 
 // Where a setting of an operator stands.
@@ -56,18 +51,10 @@ pub fn setting_slot(operator: u8, which: u8) -> usize
 pub fn figure_of(b: Book, operator: u8, year: u8, figure: u8) -> u64
     ensures { result ≡ cond (ltb operator operators && ltb year years && ltb figure figure_count) (figure_of b operator year figure) 0 }
 {
-    if LAST_OPERATOR < operator {
+    if LAST_OPERATOR < operator || LAST_YEAR < year || LAST_FIGURE < figure {
         return 0;
     }
-    if LAST_YEAR < year {
-        return 0;
-    }
-    if LAST_FIGURE < figure {
-        return 0;
-    }
-    let figures = b.figures;
-    let at = figure_slot(operator, year, figure);
-    figures[at]
+    b.figures[figure_slot(operator, year, figure)]
 }
 
 // Where a figure of an operator and year stands.

@@ -6,7 +6,7 @@ mod access;
 pub use access::{figure_of, figure_slot, fresh, is_joined, setting_of, setting_slot};
 use calls::{FIGURE_PLACES, INDICATORS, INDICES, SETTING_PLACES};
 
-#[derive(Clone, Copy)]
+#[derive(Debug, Clone, Copy, PartialEq, Eq)]
 pub struct Book {
     // Sixteen bits, one an operator.
     pub joined: u16,

@@ -1,5 +1,6 @@
 -- The laws that the proofs of `calls`, and of the crates above it, use.
 pub mod Flags
+pub mod Between
 pub mod KindLaws
 pub mod First
 pub mod SaidLaws

@@ -1,5 +1,5 @@
 // What the book of a kind takes. One function tells the kinds apart, and the others ask it.
-ghost use Rattle.std.specs.Prelude.{◌≡◌, ◌<◌, ◌≤◌, ◌&&◌, leb, drop};
+ghost use Rattle.std.specs.Prelude.{◌≡◌, ◌<◌, ◌≤◌, drop};
 ghost use Rattle.calls.specs.Limits.{setting_count, figure_count, indicator_count};
 ghost use Rattle.calls.specs.Indicators.{electricity, indicators_of, is_network, takes_interruptions, takes_setting, takes_figure, takes_mark};
 
@@ -19,10 +19,7 @@ pub fn takes_setting(kind: Kind, which: u8) -> bool
     requires { which < setting_count }
     ensures { result ≡ takes_setting (indicators_of kind) which }
 {
-    if takes_interruptions(kind) {
-        return true;
-    }
-    is_between(1, which, 2)
+    takes_interruptions(kind) || (1..=2).contains(&which)
 }
 
 // Whether 11 asks for a setting: for all but the income.
@@ -30,10 +27,7 @@ pub fn is_network(kind: Kind, which: u8) -> bool
     requires { which < setting_count }
     ensures { result ≡ is_network (indicators_of kind) which }
 {
-    if which == 2 {
-        return false;
-    }
-    takes_setting(kind, which)
+    which != 2 && takes_setting(kind, which)
 }
 
 // Gas has fees and connections alone.
@@ -41,20 +35,7 @@ pub fn takes_figure(kind: Kind, figure: u8) -> bool
     requires { figure < figure_count }
     ensures { result ≡ takes_figure (indicators_of kind) figure }
 {
-    if takes_interruptions(kind) {
-        return true;
-    }
-    is_between(4, figure, 7)
-}
-
-// The least and the most included.
-fn is_between(least: u8, number: u8, most: u8) -> bool
-    ensures { result ≡ leb least number && leb number most }
-{
-    if number < least {
-        return false;
-    }
-    number <= most
+    takes_interruptions(kind) || (4..=7).contains(&figure)
 }
 
 // Gas has D1 and D2.
@@ -62,18 +43,12 @@ pub fn takes_mark(kind: Kind, indicator: u8) -> bool
     requires { indicator < indicator_count }
     ensures { result ≡ takes_mark (indicators_of kind) indicator }
 {
-    if takes_interruptions(kind) {
-        return true;
-    }
-    4 <= indicator
+    takes_interruptions(kind) || 4 <= indicator
 }
 
 // The indicators of a kind are those from this number on.
 pub fn first_indicator(kind: Kind) -> u8
     ensures { (indicators_of kind ≡ drop result electricity) × (result ≤ indicator_count) }
 {
-    if takes_interruptions(kind) {
-        return 0;
-    }
-    4
+    if takes_interruptions(kind) { 0 } else { 4 }
 }

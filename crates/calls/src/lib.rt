@@ -20,14 +20,14 @@ pub use limits::{
 pub use masks::{has_bit, include_bit, remask};
 
 // The kinds of operators, each with a book of its own.
-#[derive(Clone, Copy)]
+#[derive(Debug, Clone, Copy, PartialEq, Eq)]
 pub enum Kind {
     Electricity,
     Gas,
 }
 
 // A filing call with its arguments, as the fields of a filing give them.
-#[derive(Clone, Copy)]
+#[derive(Debug, Clone, Copy, PartialEq, Eq)]
 pub enum Call {
     Join {
         operator: u8,
@@ -69,27 +69,27 @@ pub enum Call {
 }
 
 // The answers other than yes, in the order of their numbers. Which is looked at before which is another order: specs/Laws.antt has it.
-#[derive(Clone, Copy)]
+#[derive(Debug, Clone, Copy, PartialEq, Eq)]
 pub enum Refusal {
-    Truncated,
-    UnknownTag,
-    WrongLength,
-    UnknownOperator,
-    OutOfRange,
-    AlreadyJoined,
-    NotJoined,
-    AboveLimit,
-    BelowZero,
-    NoneJoined,
-    NetworkMissing,
-    AllMarked,
-    BufferTooShort,
-    StartsAfterEnd,
-    OutsidePeriod,
+    Truncated = 1,
+    UnknownTag = 2,
+    WrongLength = 3,
+    UnknownOperator = 4,
+    OutOfRange = 5,
+    AlreadyJoined = 6,
+    NotJoined = 7,
+    AboveLimit = 8,
+    BelowZero = 9,
+    NoneJoined = 10,
+    NetworkMissing = 11,
+    AllMarked = 12,
+    BufferTooShort = 13,
+    StartsAfterEnd = 14,
+    OutsidePeriod = 15,
 }
 
 // Why an interruption is left out.
-#[derive(Clone, Copy)]
+#[derive(Debug, Clone, Copy, PartialEq, Eq)]
 pub enum Reason {
     Short,
     Planned,
@@ -97,7 +97,7 @@ pub enum Reason {
     Exceptional,
 }
 
-#[derive(Clone, Copy)]
+#[derive(Debug, Clone, Copy, PartialEq, Eq)]
 pub enum Answer {
     Yes,
     Counted { year: u8 },

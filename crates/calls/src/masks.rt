@@ -8,10 +8,7 @@ use crate::limits::LAST_OPERATOR;
 pub fn has_bit(mask: u16, k: u8) -> bool
     ensures { result ≡ has mask k }
 {
-    if LAST_OPERATOR < k {
-        return false;
-    }
-    (mask >> k) % 2 == 1
+    k <= LAST_OPERATOR && (mask >> k) % 2 == 1
 }
 
 pub fn include_bit(mask: u16, k: u8) -> u16

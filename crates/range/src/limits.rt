@@ -1,14 +1,14 @@
 // Whether a book is within its limits: every value, and only fresh ones for an operator not joined.
-ghost use Rattle.std.specs.Prelude.{◌≡◌, cond, not, ◌&&◌, ◌||◌, ℕ, ◌+◌, ◌≤◌, leb, get_or};
-ghost use Rattle.calls.specs.Limits.{operators, operator_figures, figure_places, index_least, index_most};
+ghost use Rattle.std.specs.Prelude.{◌≡◌, cond, not, ◌&&◌, ◌||◌, ℕ, ◌+◌, ◌*◌, ◌<◌, leb, get_or};
+ghost use Rattle.calls.specs.Limits.{operators, operator_figures, figure_limit, index_least, index_most};
 ghost use Rattle.calls.specs.Masks.{has};
 ghost use Rattle.book.specs.Book.{every, has_sixteen_bits, settings_in_range, figures_in_range, marks_in_range, rates_in_range, indices_in_range, within_limits};
 
 use arguments::setting_limit;
 use book::Book;
 use calls::{
-    FIGURE_LIMIT, FIGURE_PLACES, INDEX_LEAST, INDEX_MOST, INDICATORS, INDICES, OPERATOR_FIGURES,
-    OPERATORS, SETTING_PLACES, SETTINGS, has_bit,
+    FIGURE_LIMIT, FIGURE_PLACES, INDEX_LEAST, INDEX_MOST, OPERATOR_FIGURES, OPERATORS,
+    SETTING_PLACES, SETTINGS, has_bit,
 };
 
 pub(crate) fn within_limits(b: Book) -> bool
@@ -32,77 +32,39 @@ pub(crate) fn within_limits(b: Book) -> bool
 fn settings_in_range(b: Book) -> bool
     ensures { result ≡ settings_in_range b }
 {
-    let joined = b.joined;
-    let settings = b.settings;
-    let mut i = 0;
-    while i < SETTING_PLACES {
-        if most_allowed(
-            joined,
-            (i / SETTINGS) as u8,
-            setting_limit((i % SETTINGS) as u8),
-        ) < settings[i]
-        {
-            return false;
-        }
-        i += 1;
-    }
-    true
+    (0..SETTING_PLACES).all(|i| {
+        let limit = setting_limit((i % SETTINGS) as u8);
+        b.settings[i] <= most_allowed(b.joined, (i / SETTINGS) as u8, limit)
+    })
 }
 
 fn figures_in_range(b: Book) -> bool
     ensures { result ≡ figures_in_range b }
 {
-    let joined = b.joined;
-    let figures = b.figures;
-    let mut operator = 0;
-    while operator < OPERATORS {
-        let most = most_allowed(joined, operator as u8, FIGURE_LIMIT);
-        if !all_within(&figures, operator * OPERATOR_FIGURES, most) {
-            return false;
-        }
-        operator += 1;
-    }
-    true
+    (0..OPERATORS).all(|operator| all_within(&b.figures, b.joined, operator))
 }
 
-// Whether the figures of an operator, from a place on, stay within a limit. The limit is taken once for all of them.
-fn all_within(figures: &[u64; FIGURE_PLACES], from: usize, most: u64) -> bool
-    requires { from + operator_figures ≤ figure_places }
-    ensures { result ≡ every operator_figures (λ (k : ℕ). leb (get_or figures.now (from + k) 0) most) }
+// Whether the figures of an operator stay within their limit, which is taken once for all of them.
+fn all_within(figures: &[u64; FIGURE_PLACES], joined: u16, operator: usize) -> bool
+    requires { operator < operators }
+    ensures { result ≡ every operator_figures (λ (k : ℕ). leb (get_or figures.now (operator * operator_figures + k) 0) (cond (has joined operator) figure_limit 0)) }
 {
-    let mut i = 0;
-    while i < OPERATOR_FIGURES {
-        if most < figures[from + i] {
-            return false;
-        }
-        i += 1;
-    }
-    true
+    let most = most_allowed(joined, operator as u8, FIGURE_LIMIT);
+    let from = operator * OPERATOR_FIGURES;
+    (from..from + OPERATOR_FIGURES).all(|i| figures[i] <= most)
 }
 
 // A limit, or 0 for an operator not joined.
 fn most_allowed(joined: u16, operator: u8, limit: u64) -> u64
     ensures { result ≡ cond (has joined operator) limit 0 }
 {
-    if has_bit(joined, operator) {
-        return limit;
-    }
-    0
+    if has_bit(joined, operator) { limit } else { 0 }
 }
 
 fn marks_in_range(b: Book) -> bool
     ensures { result ≡ marks_in_range b }
 {
-    let joined = b.joined;
-    let marks = b.marks;
-    let mut i = 0;
-    while i < INDICATORS {
-        if !only_of(marks[i], joined) {
-            return false;
-        }
-        i += 1;
-    }
-    true
+    b.marks.iter().all(|mask| only_of(*mask, b.joined))
 }
 
 // Only joined operators have a mark: the mask has nothing that it has not in common with theirs.
@@ -121,22 +83,11 @@ fn rates_in_range(b: Book) -> bool
 fn indices_in_range(b: Book) -> bool
     ensures { result ≡ indices_in_range b }
 {
-    let indices = b.indices;
-    let mut i = 0;
-    while i < INDICES {
-        if !index_within(indices[i]) {
-            return false;
-        }
-        i += 1;
-    }
-    true
+    b.indices.iter().all(|value| index_within(*value))
 }
 
 fn index_within(value: u32) -> bool
     ensures { result ≡ leb index_least value && leb value index_most }
 {
-    if value < INDEX_LEAST {
-        return false;
-    }
-    value <= INDEX_MOST
+    (INDEX_LEAST..=INDEX_MOST).contains(&value)
 }

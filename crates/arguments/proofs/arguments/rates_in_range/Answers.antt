@@ -5,10 +5,10 @@ use Rattle.calls.specs.Limits.{rate_limit}
 use Rattle.calls.specs.Call.{facts_of}
 use Rattle.arguments.proofs.arguments.rates_in_range.Goals as goal
 
-pub returns-then-pot-gt-RATE_LIMIT : goal.returns-then-pot-gt-RATE_LIMIT
+pub returns-then-pot-le-RATE_LIMIT : goal.returns-then-pot-le-RATE_LIMIT
 unfolding facts_of
-returns-then-pot-gt-RATE_LIMIT c = simp (lt-leb c.args.pot rate_limit c.if-pot-gt-RATE_LIMIT.true)
+returns-then-pot-le-RATE_LIMIT c = simp (le-leb c.args.pot rate_limit c.if-pot-le-RATE_LIMIT.true)
 
-pub returns : goal.returns
+pub returns-else-pot-le-RATE_LIMIT : goal.returns-else-pot-le-RATE_LIMIT
 unfolding facts_of
-returns c = simp (le-leb c.args.pot rate_limit c.if-pot-gt-RATE_LIMIT.false)
+returns-else-pot-le-RATE_LIMIT c = simp (lt-leb c.args.pot rate_limit c.if-pot-le-RATE_LIMIT.false)

@@ -1,25 +1,22 @@
--- `range::limits::all_within` meets its contract: every figure passed is within the limit.
+-- `range::limits::all_within` meets its contract. Std tests the numbers of a range, and the law says what that is of every figure.
 -- Assumes nothing.
-use mathlib.Core.Path.{sym}
+use Rattle.std.proofs.Common.{rules, tests}
+use mathlib.Core.Path.{refl, ◌∙◌}
 use native.Mathlib.Omega.{arith}
-use borrow.Author.Tests.{lt-leb, le-leb}
-use borrow.Author.Count.{below_more}
+use lib.Dec.{leb}
+use lib.ListN.{get_or}
+use Prim.Native.Nat.{ℕ, ◌*◌}
+use Rattle.std.proofs.lemmas.Iterator.{YieldsList-from_range}
+use Rattle.std.proofs.lemmas.Iterator.Search.{all_from_yields_List}
 use Rattle.calls.specs.Limits.{operator_figures}
-use Rattle.book.proofs.EveryLaws.{every-of-each, every-fails}
+use Rattle.book.proofs.EveryLaws.{all-from}
 use Rattle.range.proofs.limits.all_within.Goals as goal
-
-pub loop-i-init : goal.loop-i-init
-loop-i-init c = (omega arith, λ k lt. absurd (omega (arith, lt)))
-
-pub returns-then-most-figures : goal.returns-then-most-figures
-returns-then-most-figures c = sym (every-fails operator_figures _ c.loop-i.i (omega arith) (lt-leb _ _ c.if-most-figures.true))
-
-pub loop-i-preserved : goal.loop-i-preserved
-loop-i-preserved c =
-    let here = c.loop-i in
-    (omega arith, below_more _ here.i here.invariant.1 (le-leb _ _ c.if-most-figures.false))
 
 pub returns : goal.returns
 returns c =
-    let here = c.loop-i in
-    sym (every-of-each operator_figures _ (λ k lt. here.invariant.1 k (omega (arith, lt))))
+    let from = c.args.operator * operator_figures in
+    let test = λ (i : ℕ). leb (get_or c.args.figures.now i 0) c.most_allowed-most.result in
+    let tested =
+    all_from_yields_List test _ _ _ c.all.ensures.ran (YieldsList-from_range from _ operator_figures refl (omega arith)) (λ x b q k. search (rules, tests))
+    ∙ all-from from operator_figures test in
+    rw c.most_allowed-most.ensures at tested

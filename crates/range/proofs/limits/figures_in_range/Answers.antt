@@ -1,25 +1,19 @@
--- `range::limits::figures_in_range` meets its contract: every figure of the operators passed is within its limit.
+-- `range::limits::figures_in_range` meets its contract.
 -- Assumes nothing.
-use mathlib.Core.Path.{sym, ◌∙◌}
-use native.Mathlib.Omega.{arith}
-use borrow.Author.Count.{below_more}
-use Rattle.book.proofs.FlatRange.{figures-hold, figures-fail}
+use Rattle.std.proofs.Common.{rules, tests}
+use mathlib.Core.Path.{refl, ◌∙◌}
+use Prim.Native.Nat.{ℕ}
+use Rattle.std.proofs.lemmas.Iterator.{YieldsList-from_range}
+use Rattle.std.proofs.lemmas.Iterator.Search.{all_from_yields_List}
+use Rattle.calls.specs.Limits.{operators, operator_figures}
+use Rattle.book.specs.Book.{every}
+use Rattle.book.proofs.EveryLaws.{all-below, told-by-every}
+use Rattle.book.proofs.FlatRange.{figure_test, figures-hold, figures-fail}
 use Rattle.range.proofs.limits.figures_in_range.Goals as goal
-
-pub loop-operator-init : goal.loop-operator-init
-loop-operator-init c = (omega arith, λ o lt. absurd (omega (arith, lt)))
-
-pub returns-then-not-all_within : goal.returns-then-not-all_within
-returns-then-not-all_within c =
-    let here = c.loop-operator in
-    sym (figures-fail _ here.operator (omega arith) (rw c.most_allowed-most.ensures at (sym c.all_within.ensures ∙ c.if-not-all_within.true)))
-
-pub loop-operator-preserved : goal.loop-operator-preserved
-loop-operator-preserved c =
-    let here = c.loop-operator in
-    (omega arith, below_more _ here.operator here.invariant.1 (rw c.most_allowed-most.ensures at (sym c.all_within.ensures ∙ c.if-not-all_within.false)))
 
 pub returns : goal.returns
 returns c =
-    let here = c.loop-operator in
-    sym (figures-hold _ (λ o lt. here.invariant.1 o (omega (arith, lt))))
+    let b = c.args.b in
+    let test = λ (operator : ℕ). every operator_figures (figure_test b operator) in
+    all_from_yields_List test _ _ _ c.all.ensures.ran (YieldsList-from_range 0 operators operators refl refl) (λ x b q k. search (rules, tests))
+    ∙ all-below operators test ∙ told-by-every operators test (figures-hold b) (figures-fail b)

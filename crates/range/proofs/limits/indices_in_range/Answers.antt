@@ -1,28 +1,23 @@
--- `range::limits::indices_in_range` meets its contract: every index passed is within.
+-- `range::limits::indices_in_range` meets its contract.
 -- Assumes nothing.
-use mathlib.Core.Path.{sym, ◌∙◌}
-use native.Mathlib.Omega.{arith}
-use borrow.Author.Count.{below_more}
-use Rattle.book.specs.Book.{index_of, indices_in_range}
-use Rattle.book.proofs.EveryLaws.{every-of-each, every-fails}
+use Rattle.std.proofs.Common.{rules, tests}
+use mathlib.Core.Path.{◌≡◌, ◌∙◌}
+use Prim.Native.Nat.{ℕ}
+use mathlib.Core.Bool.{◌&&◌}
+use lib.Dec.{leb}
+use lib.ListN.{length}
+use Rattle.std.proofs.lemmas.Iterator.{YieldsList-from_slice}
+use Rattle.std.proofs.lemmas.Iterator.Search.{all_from_yields_List}
+use Rattle.calls.specs.Limits.{index_count, index_least, index_most}
+use Rattle.book.specs.Book.{indices_in_range, index_of}
+use Rattle.book.proofs.EveryLaws.{all-elements}
 use Rattle.range.proofs.limits.indices_in_range.Goals as goal
-
-pub loop-i-init : goal.loop-i-init
-loop-i-init c = (omega arith, λ k lt. absurd (omega (arith, lt)))
-
-pub returns-then-not-index_within : goal.returns-then-not-index_within
-unfolding indices_in_range index_of
-returns-then-not-index_within c =
-    let here = c.loop-i in
-    sym (every-fails 4 _ here.i (omega arith) (sym c.index_within.ensures ∙ c.if-not-index_within.true))
-
-pub loop-i-preserved : goal.loop-i-preserved
-loop-i-preserved c =
-    let here = c.loop-i in
-    (omega arith, below_more _ here.i here.invariant.1 (sym c.index_within.ensures ∙ c.if-not-index_within.false))
 
 pub returns : goal.returns
 unfolding indices_in_range index_of
 returns c =
-    let here = c.loop-i in
-    sym (every-of-each 4 _ (λ k lt. here.invariant.1 k (omega (arith, lt))))
+    let b = c.args.b in
+    let long : length b.indices ≡ index_count = search rules in
+    let test = λ (value : ℕ). leb index_least value && leb value index_most in
+    all_from_yields_List test _ _ _ c.all.ensures.ran (YieldsList-from_slice b.indices cc) (λ x b q k. search (rules, tests))
+    ∙ (rw long at (all-elements b.indices test))

@@ -1,26 +1,16 @@
--- `range::limits::settings_in_range` meets its contract: every setting passed is within its limit.
+-- `range::limits::settings_in_range` meets its contract.
 -- Assumes nothing.
-use mathlib.Core.Path.{sym}
-use native.Mathlib.Omega.{arith}
-use borrow.Author.Tests.{lt-leb, le-leb}
-use borrow.Author.Count.{below_more}
-use Rattle.book.proofs.FlatRange.{settings-hold, settings-fail}
+use Rattle.std.proofs.Common.{rules, tests}
+use mathlib.Core.Path.{refl, ◌∙◌}
+use Rattle.std.proofs.lemmas.Iterator.{YieldsList-from_range}
+use Rattle.std.proofs.lemmas.Iterator.Search.{all_from_yields_List}
+use Rattle.calls.specs.Limits.{setting_places}
+use Rattle.book.proofs.EveryLaws.{all-below, told-by-every}
+use Rattle.book.proofs.FlatRange.{setting_test, settings-hold, settings-fail}
 use Rattle.range.proofs.limits.settings_in_range.Goals as goal
-
-pub loop-i-init : goal.loop-i-init
-loop-i-init c = (omega arith, λ k lt. absurd (omega (arith, lt)))
-
-pub returns-then-most_allowed-settings : goal.returns-then-most_allowed-settings
-returns-then-most_allowed-settings c =
-    let here = c.loop-i in
-    sym (settings-fail _ here.i (omega arith) (rw (← c.setting_limit.ensures, ← c.most_allowed.ensures) (lt-leb _ _ c.if-most_allowed-settings.true)))
-
-pub loop-i-preserved : goal.loop-i-preserved
-loop-i-preserved c =
-    let here = c.loop-i in
-    (omega arith, below_more _ here.i here.invariant.1 (rw (← c.setting_limit.ensures, ← c.most_allowed.ensures) (le-leb _ _ c.if-most_allowed-settings.false)))
 
 pub returns : goal.returns
 returns c =
-    let here = c.loop-i in
-    sym (settings-hold _ (λ k lt. here.invariant.1 k (omega (arith, lt))))
+    let b = c.args.b in
+    all_from_yields_List (setting_test b) _ _ _ c.all.ensures.ran (YieldsList-from_range 0 setting_places setting_places refl refl) (λ x b q k. search (rules, tests))
+    ∙ all-below setting_places (setting_test b) ∙ told-by-every setting_places (setting_test b) (settings-hold b) (settings-fail b)
