@@ -5,3 +5,4 @@ pub mod Order
 pub mod Awarded
 pub mod Shared
 pub mod Opened
+pub mod FromFn

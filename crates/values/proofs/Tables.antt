@@ -7,9 +7,12 @@ use native.Mathlib.Numerals.{add-one}
 use native.Mathlib.Omega.{arith}
 use native.Mathlib.Decide.{ℕ_discrete, dec_lt}
 use lib.ListN.{length, get_or, set, take, length-set, length-append, get_or-append, get_or-eq_default}
-use lib.Seq.{take-suc-set, take_all, get_or_at}
+use lib.Seq.{take-suc-set, take_all, get_or_at, ext_get_or}
+use denote.Param.Members.{Mut, Called}
+use Rattle.std.specs.Array.{IsFromFnResult}
 use Rattle.apportion.specs.Sum.{sum}
 use Rattle.apportion.proofs.Sums.{sum-append, sum_bound, element-le}
+use Rattle.apportion.proofs.FromFn.{made_at}
 use Rattle.values.specs.Operators.{table, each}
 
 module _ {A : Type 0} (f : ℕ → A) where
@@ -55,6 +58,14 @@ module _ {A : Type 0} (f : ℕ → A) where
       let last : i ≡ 16 = omega arith in
       sym (take_all 16 out (omega arith)) ∙ (rw last at before.same)
 
+-- what a closure that leaves its captures as they were makes of each of sixteen indices
+module _ {F A : Type 0} (g : Mut F (ℕ × Unit {0}) A) (p : F) (f : ℕ → A) (step : (i : ℕ) (y : A) (q : F) → i < 16 → Called g p (i, tt {0}) y q → (y ≡ f i) × (q ≡ p)) where
+  pub made-table : (ys : List A) → IsFromFnResult g p ys 16 → ys ≡ table 16 f
+  made-table ys made =
+      ext_get_or (f 0) ys (table 16 f) (made.long ∙ sym (length-table f 16)) (λ k lt.
+      let inside : k < 16 = rw made.long at lt in
+      made_at g p 16 f step ys made (f 0) k inside ∙ sym (table_at f 16 k (f 0) inside))
+
 -- tables of functions that agree
 table_same : {A : Type 0} (f g : ℕ → A) (n : ℕ) → ((k : ℕ) → k < n → f k ≡ g k) → table n f ≡ table n g
 unfolding table
@@ -97,6 +108,12 @@ module _ (f : ℕ → ℕ) where
 
     pub sum-each-le : sum (each f) ≤ 16 * bound
     sum-each-le = rw length-each at (sum_bound (each f) bound (λ k lt. each-le k))
+
+-- a closure that makes a number for each operator
+pub made-each : {F : Type 0} (g : Mut F (ℕ × Unit {0}) ℕ) (p : F) (f : ℕ → ℕ) (step : (i : ℕ) (y : ℕ) (q : F) → i < 16 → Called g p (i, tt {0}) y q → (y ≡ f i) × (q ≡ p)) (ys : List ℕ)
+    → IsFromFnResult g p ys 16 → ys ≡ each f
+unfolding each
+made-each g p f step ys made = made-table g p f step ys made
 
 pub filling-each : {f : ℕ → ℕ} {i : ℕ} {out : List ℕ} → Filling f i out → 16 ≤ i → out ≡ each f
 unfolding each
