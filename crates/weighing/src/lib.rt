@@ -14,7 +14,7 @@ use calls::has_bit;
 pub fn ones_of(mask: u16) -> u64
     ensures { (result ≡ ones mask) × (result ≤ 16) }
 {
-    u16::count_ones(mask) as u64
+    u64::from(mask.count_ones())
 }
 
 // Better than the mean of those that take part.
