@@ -6,3 +6,4 @@ pub mod Awarded
 pub mod Shared
 pub mod Opened
 pub mod FromFn
+pub mod Mapped

@@ -141,12 +141,6 @@ unfolding foremost earlier First
 foremost-first sizes remaining zero j lt ne = absurd (omega arith)
 foremost-first sizes remaining (suc n) j lt ne = first_step sizes remaining n (foremost sizes remaining n) j _ refl (foremost-first sizes remaining n j) lt ne
 
--- best is the foremost of the first i places, of n
-pub record ForemostOf (n : ℕ) (sizes remaining : List ℕ) (i best : ℕ) : Type 0 where
-  pub within : i ≤ n
-  pub passed : best < i
-  pub foremost_is : best ≡ foremost sizes remaining i
-
 -- what a search in the order of the places keeps
 pub foremost-one : (sizes remaining : List ℕ) → foremost sizes remaining 1 ≡ 0
 unfolding foremost earlier

@@ -1,6 +1,6 @@
 -- Laws of the sum of a list.
 -- Assumes nothing.
-use mathlib.Core.Path.{◌≡◌, refl}
+use mathlib.Core.Path.{◌≡◌, refl, ap, ◌∙◌}
 use mathlib.Core.List.{List, [], ◌∷◌, ◌++◌, map}
 use Prim.Native.Nat.{ℕ, zero, suc, ◌+◌, ◌*◌, ◌/◌, ◌%◌, ◌≤◌, ◌<◌}
 use native.Mathlib.Nat.{mul-add, div-add-mod', le_of_suc-le-suc, not-suc-le-zero, suc-mul}
@@ -8,7 +8,15 @@ use native.Mathlib.Numerals.{add-one}
 use native.Mathlib.Omega.{arith}
 use lib.ListN.{length, get_or, set, take}
 use lib.Seq.{take-suc}
+use Rattle.std.specs.List as S
+use Rattle.std.proofs.lemmas.List.Sums.{sum_by-cons}
 use Rattle.apportion.specs.Sum.{sum}
+
+-- std's sum is the same
+pub same_sum : (xs : List ℕ) → S.sum xs ≡ sum xs
+unfolding sum
+same_sum [] = refl
+same_sum (x ∷ xs) = sum_by-cons (λ (n : ℕ). n) x xs ∙ ap (λ (n : ℕ). x + n) (same_sum xs)
 
 pub sum-append : (xs ys : List ℕ) → sum (xs ++ ys) ≡ sum xs + sum ys
 unfolding sum

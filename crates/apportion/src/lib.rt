@@ -3,14 +3,17 @@
 
 ghost use Rattle.std.specs.Prelude.{◌≡◌, ◌+◌, ◌^◌, ◌<◌};
 ghost use Rattle.apportion.specs.Sum.{sum};
-ghost use Rattle.apportion.specs.Steps.{DividingEach};
+ghost use Rattle.apportion.specs.Steps.{DividingEach, quotients, spare, claim_at};
 ghost use Rattle.apportion.specs.Share.{floors, remainders, precedes, foremost, award, share};
 
-// The floors and the remainders of all places.
+use exact::Division;
+
+// What a place claims a unit by.
 #[derive(Clone, Copy)]
-struct Divisions {
-    floors: [u64; 16],
-    remainders: [u64; 16],
+struct Claim {
+    remainder: u64,
+    size: u64,
+    place: usize,
 }
 
 // The shares of t by weights; of equal remainders the larger size comes first. Sixteen weights of money or points stay far below the bounds.
@@ -22,9 +25,9 @@ pub fn share(t: u64, weights: [u64; 16], sizes: [u64; 16]) -> [u64; 16]
     if s == 0 {
         return [0u64; 16];
     }
-    let d = divide_each(t, weights, s);
-    let whole = d.floors;
-    award_units(t - sum_of(whole), d, sizes)
+    let places = divide_each(t, weights, s);
+    let whole = sum_of(quotients(places));
+    award_units(t - whole, places, sizes)
 }
 
 // The sum of sixteen numbers.
@@ -32,80 +35,75 @@ pub fn sum_of(numbers: [u64; 16]) -> u64
     requires { sum numbers < 2 ^ 64 }
     ensures { result ≡ sum numbers }
 {
-    let mut t = 0;
-    let mut i = 0;
-    while i < 16 {
-        t += numbers[i];
-        i += 1;
-    }
-    t
+    numbers.iter().sum()
 }
 
 // t * weight / s at each place.
-fn divide_each(t: u64, weights: [u64; 16], s: u64) -> Divisions
+fn divide_each(t: u64, weights: [u64; 16], s: u64) -> [Division; 16]
     requires { DividingEach t weights s }
-    ensures { (result.floors ≡ floors t weights) × (result.remainders ≡ remainders t weights) }
+    ensures { (quotients result ≡ floors t weights) × (spare result ≡ remainders t weights) }
 {
-    let mut whole = [0u64; 16];
-    let mut rest = [0u64; 16];
-    let mut i = 0;
-    while i < 16 {
-        let d = exact::divide_product(t, weights[i], s);
-        whole[i] = d.quotient;
-        rest[i] = d.remainder;
-        i += 1;
-    }
-    Divisions {
-        floors: whole,
-        remainders: rest,
-    }
+    std::array::from_fn(|i| exact::divide_product(t, weights[i], s))
+}
+
+fn quotients(places: [Division; 16]) -> [u64; 16]
+    ensures { result ≡ quotients places }
+{
+    places.map(|d| d.quotient)
 }
 
 // Gives one unit after the other to the foremost place, and spends its remainder.
-fn award_units(units: u64, d: Divisions, sizes: [u64; 16]) -> [u64; 16]
-    requires { sum d.floors + units < 2 ^ 62 }
-    ensures { result ≡ award sizes units d.remainders d.floors }
+fn award_units(units: u64, divisions: [Division; 16], sizes: [u64; 16]) -> [u64; 16]
+    requires { sum (quotients divisions) + units < 2 ^ 62 }
+    ensures { result ≡ award sizes units (spare divisions) (quotients divisions) }
 {
-    let mut shares = d.floors;
-    let mut remaining = d.remainders;
-    let mut left = units;
-    while 0 < left {
-        let place = foremost_place(&remaining, &sizes);
-        shares[place] += 1;
-        remaining[place] = 0;
-        left -= 1;
+    let mut places = divisions;
+    for _ in 0..units {
+        let place = foremost_place(&places, &sizes);
+        places[place] = Division {
+            quotient: places[place].quotient + 1,
+            remainder: 0,
+        };
     }
-    shares
+    quotients(places)
 }
 
-// The place that is served first. Its remainder is kept beside it.
-fn foremost_place(remaining: &[u64; 16], sizes: &[u64; 16]) -> usize
-    ensures { (result ≡ foremost sizes.now remaining.now 16) × (result < 16) }
+// The place that is served first.
+fn foremost_place(places: &[Division; 16], sizes: &[u64; 16]) -> usize
+    ensures { (result ≡ foremost sizes.now (spare places.now) 16) × (result < 16) }
 {
-    let mut best = 0;
-    let mut top = remaining[0];
-    let mut i = 1;
-    while i < 16 {
-        let next = remaining[i];
-        if precedes(next, sizes[i], i, top, sizes[best], best) {
-            best = i;
-            top = next;
+    let mut best = claim_of(places, sizes, 0);
+    for i in 1..16 {
+        let next = claim_of(places, sizes, i);
+        if next.precedes(best) {
+            best = next;
         }
-        i += 1;
     }
-    best
+    best.place
 }
 
-// Whether place i with remainder r and size x is served before place j with remainder q and size y: the larger remainder, at a tie the larger
-// size, and only then the lower place.
-fn precedes(r: u64, x: u64, i: usize, q: u64, y: u64, j: usize) -> bool
-    ensures { result ≡ precedes r x i q y j }
+impl Claim {
+    // Whether this claim is served before another: the larger remainder, at a tie the larger size, and only then the lower place.
+    fn precedes(self, other: Claim) -> bool
+        ensures { result ≡ precedes self.remainder self.size self.place other.remainder other.size other.place }
+    {
+        if self.remainder != other.remainder {
+            return other.remainder < self.remainder;
+        }
+        if self.size != other.size {
+            return other.size < self.size;
+        }
+        self.place < other.place
+    }
+}
+
+fn claim_of(places: &[Division; 16], sizes: &[u64; 16], place: usize) -> Claim
+    requires { place < 16 }
+    ensures { result ≡ claim_at places.now sizes.now place }
 {
-    if r != q {
-        return q < r;
+    Claim {
+        remainder: places[place].remainder,
+        size: sizes[place],
+        place,
     }
-    if x != y {
-        return y < x;
-    }
-    i < j
 }

@@ -2,11 +2,10 @@
 -- Assumes nothing.
 use mathlib.Core.Path.{◌≡◌, ◌∙◌, sym, ap, subst}
 use Prim.Native.Nat.{ℕ, suc, ◌+◌, ◌-◌, ◌*◌, ◌/◌, ◌%◌, ◌^◌, ◌<◌, ◌≤◌}
-use native.Mathlib.Nat.{mul-le-mul_right, mul-le-mul_left, le_of_mul-le-mul_right, pow-le-pow_right, div-le_of_le-mul, mul-add-div_right, mul-add-mod_self_right, div-eq_of_lt, mod-eq_of_lt, add-zero, le-div_iff_mul-le}
+use native.Mathlib.Nat.{mul-le-mul_right, mul-le-mul_left, le_of_mul-le-mul_right, pow-le-pow_right, div-le_of_le-mul, mul-add-div_right, mul-add-mod_self_right, div-eq_of_lt, mod-eq_of_lt, add-zero}
 use native.Mathlib.Omega.{arith}
 use native.Mathlib.Decide.{dec_le}
-use borrow.Author.Tests.{le-leb, lt-leb, lt-ltb, le-ltb}
-use lib.Dec.{leb, ltb, lit<}
+use lib.Dec.{lit<}
 use lib.Pow.{shr-shr, split, pow-add}
 use lib.Count.{count_leading_zeros, leading_length}
 use Rattle.exact.specs.Division.{Appending}
@@ -86,15 +85,3 @@ divided q s r n pos lt e = (
   subst (λ (m : ℕ). q ≡ m / s) e (sym (mul-add-div_right pos q r ∙ ap (λ (z : ℕ). q + z) (div-eq_of_lt lt) ∙ add-zero q)),
   subst (λ (m : ℕ). r ≡ m % s) e (sym (mul-add-mod_self_right q s r ∙ mod-eq_of_lt lt)),
 )
-
--- a product fits 64 bits where one factor is at most the largest number divided by the other
-pub fits-same : (t w : ℕ) → 0 < w → leb t (18446744073709551615 / w) ≡ ltb (t * w) (2 ^ 64)
-fits-same t w pos = go (dec_le t (18446744073709551615 / w))
-  where
-    past : (t ≤ 18446744073709551615 / w → ⊥) → Dec (t * w ≤ 18446744073709551615) → 2 ^ 64 ≤ t * w
-    past gt (yes le) = absurd (gt ((le-div_iff_mul-le pos).1 le))
-    past gt (no more) = omega (arith, more)
-
-    go : Dec (t ≤ 18446744073709551615 / w) → leb t (18446744073709551615 / w) ≡ ltb (t * w) (2 ^ 64)
-    go (yes le) = le-leb _ _ le ∙ sym (lt-ltb (t * w) (2 ^ 64) (omega (arith, (le-div_iff_mul-le pos).0 le)))
-    go (no gt) = lt-leb t (18446744073709551615 / w) (omega (arith, gt)) ∙ sym (le-ltb (t * w) (2 ^ 64) (past gt (dec_le (t * w) 18446744073709551615)))

@@ -2,13 +2,11 @@
 // them (01: "Some products pass 64 bits; the answer is exact all the same").
 #![tactic(auto)]
 
-ghost use Rattle.std.specs.Prelude.{◌≡◌, ◌+◌, ◌*◌, ◌/◌, ◌%◌, ◌^◌, ◌<◌, ◌≤◌, min, ltb};
+ghost use Rattle.std.specs.Prelude.{◌≡◌, ◌+◌, ◌*◌, ◌/◌, ◌%◌, ◌<◌, ◌≤◌};
 ghost use Rattle.exact.specs.Division.{over, Dividing, Appending};
 
-const LARGEST: u64 = 18446744073709551615;
-
 // What a whole division gives.
-#[derive(Clone, Copy)]
+#[derive(Debug, Clone, Copy, PartialEq, Eq)]
 pub struct Division {
     pub quotient: u64,
     pub remainder: u64,
@@ -18,10 +16,7 @@ pub struct Division {
 pub fn divide(dividend: u64, divisor: u64) -> u64
     ensures { (result ≡ over dividend divisor) × (result ≤ dividend) }
 {
-    if divisor == 0 {
-        return 0;
-    }
-    dividend / divisor
+    dividend.checked_div(divisor).unwrap_or(0)
 }
 
 // t * w divided by s, exact over the whole numbers. In each wide product here w is a part of a sum s, or s is the largest of some w,
@@ -30,24 +25,13 @@ pub fn divide_product(t: u64, w: u64, s: u64) -> Division
     requires { Dividing t w s }
     ensures { (result.quotient ≡ t * w / s) × (result.remainder ≡ t * w % s) }
 {
-    if product_fits(t, w) {
-        let product = t * w;
-        return Division {
+    match t.checked_mul(w) {
+        Some(product) => Division {
             quotient: product / s,
             remainder: product % s,
-        };
+        },
+        None => divide_by_digits(t, w, s),
     }
-    divide_by_digits(t, w, s)
-}
-
-// Whether t * w fits 64 bits.
-fn product_fits(t: u64, w: u64) -> bool
-    ensures { result ≡ ltb (t * w) (2 ^ 64) }
-{
-    if w == 0 {
-        return true;
-    }
-    t <= LARGEST / w
 }
 
 // The same division, t taken from the top by digits of as many bits as s leaves free, but for one.
@@ -61,29 +45,14 @@ fn divide_by_digits(t: u64, w: u64, s: u64) -> Division
         quotient: 0,
         remainder: 0,
     };
+    // No `for`: the digits have one width each but the last, which takes the bits that are left.
     while 0 < k {
-        let bits = least(width, k);
-        let base = power_of_two(bits);
+        let bits = width.min(k);
+        let base = 1 << bits;
         k -= bits;
         d = append_digit(d, (t >> k) % base, base, w, s);
     }
     d
-}
-
-fn least(a: u32, b: u32) -> u32
-    ensures { result ≡ min a b }
-{
-    if a < b {
-        return a;
-    }
-    b
-}
-
-fn power_of_two(n: u32) -> u64
-    requires { n < 64 }
-    ensures { result ≡ 2 ^ n }
-{
-    1 << n
 }
 
 // The division of a product whose factor t is one digit longer: t times the digits' base, and the digit added.

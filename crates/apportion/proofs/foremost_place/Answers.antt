@@ -1,36 +1,37 @@
--- `apportion::foremost_place` meets its contract. The loop's invariant: best is the foremost of the places passed, and top is its remainder.
+-- `apportion::foremost_place` meets its contract. The loop's invariant: best is the claim of the foremost of the places passed.
 -- Assumes nothing.
 use mathlib.Core.Path.{◌≡◌, refl, sym, ap, ◌∙◌}
 use mathlib.Core.Bool.{true, false}
-use Prim.Native.Nat.{ℕ}
 use native.Mathlib.Omega.{arith}
-use lib.ListN.{get_or}
-use Rattle.apportion.proofs.Order.{foremost-one, foremost-more}
+use Rattle.apportion.specs.declared.Claim.{Claim}
+use Rattle.apportion.specs.Share.{foremost}
+use Rattle.apportion.specs.Steps.{spare, claim_at}
+use Rattle.apportion.proofs.Order.{foremost-one, foremost-more, foremost-lt}
 use Rattle.apportion.proofs.foremost_place.Goals as goal
 use Rattle.apportion.proofs.foremost_place.Goals.{then-precedes, else-precedes}
 
 pub loop-i-init : goal.loop-i-init
-loop-i-init c = (record { within = omega arith; passed = omega arith; foremost_is = sym (foremost-one c.args.sizes.now c.args.remaining.now) }, refl)
+loop-i-init c =
+    let sizes = c.args.sizes.now in
+    let divisions = c.args.places.now in
+    c.claim_of-best.ensures ∙ ap (claim_at divisions sizes) (sym (foremost-one sizes (spare divisions)))
 
 pub loop-i-preserved : goal.loop-i-preserved
 loop-i-preserved c =
     let here = c.loop-i in
-    let args = c.args in
-    let remaining = args.remaining.now in
-    let tested = rw here.invariant.1 at c.precedes.ensures in
-    let next = foremost-more args.sizes.now remaining here.best here.i in
+    let sizes = c.args.sizes.now in
+    let divisions = c.args.places.now in
+    let tested = rw (c.claim_of-next.ensures, here.invariant) at c.precedes.ensures in
+    let next = foremost-more sizes (spare divisions) (foremost sizes (spare divisions) here.i) here.i in
     elim c.if-precedes.branch [
-      | then-precedes w ↦ (
-        record { within = omega arith; passed = omega arith; foremost_is = w.best-is ∙ sym (next true here.invariant.0.foremost_is (sym tested ∙ w.if-precedes.true)) },
-        w.top-is ∙ ap (λ (place : ℕ). get_or remaining place 0) (sym w.best-is),
-      )
-      | else-precedes w ↦ (
-        record { within = omega arith; passed = omega arith; foremost_is = w.best-is ∙ sym (next false here.invariant.0.foremost_is (sym tested ∙ w.if-precedes.false)) },
-        w.top-is ∙ here.invariant.1 ∙ ap (λ (place : ℕ). get_or remaining place 0) (sym w.best-is),
-      )
+      | then-precedes w ↦ w.best-is ∙ c.claim_of-next.ensures ∙ ap (claim_at divisions sizes) (sym (next true refl (sym tested ∙ w.if-precedes.true)))
+      | else-precedes w ↦ w.best-is ∙ here.invariant ∙ ap (claim_at divisions sizes) (sym (next false refl (sym tested ∙ w.if-precedes.false)))
     ]
 
 pub returns : goal.returns
 returns c =
+    let sizes = c.args.sizes.now in
+    let remaining = spare c.args.places.now in
     let last : c.loop-i.i ≡ 16 = omega arith in
-    (rw last at c.loop-i.invariant.0.foremost_is, omega arith)
+    let found : c.loop-i.best.place ≡ foremost sizes remaining 16 = ap (λ (best : Claim). best.place) c.loop-i.invariant ∙ ap (foremost sizes remaining) last in
+    (found, rw found (foremost-lt sizes remaining 16 (omega arith)))

@@ -1,36 +1,17 @@
--- `apportion::sum_of` meets its contract. The loop's invariant: t is the sum of the numbers passed.
+-- `apportion::sum_of` meets its contract.
 -- Assumes nothing.
-use borrow.Author.Rules.{rules}
-use mathlib.Core.Path.{◌≡◌, refl, ◌∙◌, ap}
-use Prim.Native.Nat.{ℕ, ◌+◌}
+use mathlib.Core.Path.{◌≡◌, ◌∙◌}
 use native.Mathlib.Omega.{arith}
-use lib.ListN.{length, take}
-use lib.Seq.{take_all}
+use Rattle.std.proofs.lemmas.Iterator.{YieldsList-from_slice}
+use Rattle.std.proofs.lemmas.Iterator.Consumers.{sum_from_yields_List, fits_from_yields_list}
 use Rattle.apportion.specs.Sum.{sum}
-use Rattle.apportion.proofs.Sums.{sum-take-suc, take-le}
+use Rattle.apportion.proofs.Sums.{same_sum}
 use Rattle.apportion.proofs.sum_of.Goals as goal
 
-pub loop-i-init : goal.loop-i-init
-unfolding sum
-loop-i-init c = (omega arith, refl)
-
-pub overflow_add-t : goal.overflow_add-t
-overflow_add-t c =
-    let numbers = c.args.numbers in
-    let long : length numbers ≡ 16 = search rules in
-    let i = c.loop-i.i in
-    omega (arith, sum-take-suc numbers i (omega arith), take-le numbers (i + 1))
-
-pub loop-i-preserved : goal.loop-i-preserved
-loop-i-preserved c =
-    let numbers = c.args.numbers in
-    let long : length numbers ≡ 16 = search rules in
-    let i = c.loop-i.i in
-    (omega arith, omega (arith, sum-take-suc numbers i (omega arith)))
+pub sum-requires-clause-fits : goal.sum-requires-clause-fits
+sum-requires-clause-fits c = fits_from_yields_list _ _ (YieldsList-from_slice c.args.numbers cc) (rw same_sum c.requires)
 
 pub returns : goal.returns
 returns c =
-    let numbers = c.args.numbers in
-    let long : length numbers ≡ 16 = search rules in
-    let last : c.loop-i.i ≡ 16 = omega arith in
-    c.loop-i.invariant.1 ∙ ap (λ (n : ℕ). sum (take n numbers)) last ∙ ap sum (take_all 16 numbers (omega arith))
+    let added : c.sum.result ≡ sum c.args.numbers = sum_from_yields_List _ _ c.sum.ensures.ran (YieldsList-from_slice c.args.numbers cc) ∙ same_sum _ in
+    omega arith
