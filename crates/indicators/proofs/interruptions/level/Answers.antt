@@ -1,15 +1,23 @@
--- `indicators::interruptions::level` meets its contract: the operators passed have their weights.
+-- `indicators::interruptions::level` meets its contract.
 -- Assumes nothing.
 use borrow.Author.Rules.{rules}
-use mathlib.Core.Path.{◌≡◌, refl}
+use mathlib.Core.Path.{◌≡◌, ◌∙◌}
+use mathlib.Core.Bool.{cond, ◌&&◌}
+use mathlib.Core.List.{List}
+use lib.Count.{ones}
+use lib.Dec.{eqb, ltb}
+use Rattle.values.specs.Operators.{each}
 use native.Mathlib.Omega.{arith}
-use lib.ListN.{length}
+use Prim.Native.Nat.{ℕ, ◌*◌}
+use lib.ListN.{length, get_or}
+use Rattle.apportion.proofs.FromFn.{callable-each}
+use Rattle.calls.specs.Masks.{has}
 use Rattle.apportion.proofs.Sums.{sum_bound}
 use Rattle.values.specs.Bounds.{score_most}
-use Rattle.values.proofs.Tables.{filling-none, filling-more, filling-each}
+use Rattle.values.proofs.Tables.{made-each}
 use Rattle.indicators.specs.Points.{is_better, levelled}
 use Rattle.indicators.specs.Sequence.{levelled_weights}
-use Rattle.indicators.proofs.interruptions.level.Invariants.{levelled_at}
+use Rattle.weighing.specs.Steps.{LevellingAsked}
 use Rattle.indicators.proofs.interruptions.level.Goals as goal
 
 pub sum_of-sum-requires : goal.sum_of-sum-requires
@@ -25,32 +33,22 @@ pub weigh_better-together-requires : goal.weigh_better-together-requires
 weigh_better-together-requires c =
     record { scores_within = c.requires.sums_within; total_is = c.sum_of-sum.ensures; own_most = c.requires.own_most }
 
-pub loop-i-init : goal.loop-i-init
-loop-i-init c = filling-none _ _ refl
+-- an operator's weight, by what those that take part come to; and 0 for one that takes no part
+abbrev weighed : ℕ → List ℕ → List ℕ → ℕ → ℕ → ℕ → ℕ → ℕ
+weighed mask sums own total g together operator =
+    cond (has mask operator) (cond (eqb g 0) (get_or own operator 0) (cond (has mask operator && ltb (ones mask * get_or sums operator 0) total) together (g * get_or own operator 0))) 0
 
-pub levelled_weight-requires : goal.levelled_weight-requires
-levelled_weight-requires c =
-    let i = c.loop-i.i in
-    record {
-      score_bounded = c.requires.sums_within i;
-      better_few = c.count_better-g.ensures.1;
-      own_most = c.requires.own_most i;
-    }
-
-pub loop-i-preserved : goal.loop-i-preserved
-unfolding levelled is_better
-loop-i-preserved c =
-    let here = c.loop-i in
-    let f = levelled_at c.args.mask c.args.sums c.args.own in
-    let value : c.levelled_weight.result ≡ f here.i =
-    rw (
-      c.sum_of-sum.ensures,
-      c.count_better-g.ensures.0,
-      c.weigh_better-together.ensures,
-    )
-    at c.levelled_weight.ensures in
-    filling-more _ _ here.invariant (omega arith) value
+pub from_fn-requires : goal.from_fn-requires
+from_fn-requires c =
+    let asked : (k : ℕ) → LevellingAsked (get_or c.args.sums k 0) c.count_better-g.result (get_or c.args.own k 0) =
+    λ k. record { score_bounded = c.requires.sums_within k; better_few = c.count_better-g.ensures.1; own_most = c.requires.own_most k } in
+    (omega arith, callable-each _ _ 16 _ (λ i y q call. search rules) (λ i lt. search (rules, asked)))
 
 pub returns : goal.returns
-unfolding levelled_weights
-returns c = filling-each c.loop-i.invariant (omega arith)
+unfolding levelled_weights levelled is_better
+returns c =
+    let mask = c.args.mask in
+    let levelled_by : ℕ → ℕ → ℕ → List ℕ = λ total g together. each (weighed mask c.args.sums c.args.own total g together) in
+    made-each _ _ (weighed mask c.args.sums c.args.own c.sum_of-sum.result c.count_better-g.result c.weigh_better-together.result) (λ i y q lt call. search rules) _
+    c.from_fn.ensures.items
+    ∙ (λ i. levelled_by (c.sum_of-sum.ensures i) (c.count_better-g.ensures.0 i) (c.weigh_better-together.ensures i))

@@ -1,38 +1,38 @@
--- `indicators::interruptions::weigh_better` meets its contract: the operators passed hold their weight if they are better.
+-- `indicators::interruptions::weigh_better` meets its contract.
 -- Assumes nothing.
-use mathlib.Core.Path.{◌≡◌, refl, ◌∙◌, ap}
-use Prim.Native.Nat.{zero-le}
+use borrow.Author.Rules.{rules}
+use mathlib.Core.Path.{◌≡◌, ◌∙◌, ap}
+use mathlib.Core.Bool.{cond}
+use mathlib.Core.List.{List}
+use Prim.Native.Nat.{ℕ, zero-le}
 use native.Mathlib.Omega.{arith}
+use lib.ListN.{get_or}
+use Rattle.apportion.proofs.FromFn.{callable-each}
 use Rattle.apportion.specs.Sum.{sum}
-use Rattle.indicators.specs.Points.{is_better}
-use Rattle.values.proofs.Tables.{filling-none, filling-more, filling-each, sum-each-le}
 use Rattle.exponent.specs.Weight.{first_weight}
+use Rattle.values.specs.Operators.{each}
 use Rattle.values.proofs.CountLaws.{cond-le}
-use Rattle.indicators.proofs.interruptions.weigh_better.Invariants.{counted}
+use Rattle.values.proofs.Tables.{made-each, sum-each-le}
+use Rattle.indicators.specs.Points.{is_better}
 use Rattle.indicators.proofs.interruptions.weigh_better.Goals as goal
+use Rattle.indicators.proofs.interruptions.weigh_better.Goals.{After-from_fn}
 
-pub loop-i-init : goal.loop-i-init
-loop-i-init c = filling-none _ _ refl
+-- an operator's weight if it is better
+abbrev counted : ℕ → List ℕ → List ℕ → ℕ → ℕ
+counted mask scores own operator = cond (is_better mask scores operator) (get_or own operator 0) 0
 
-pub weight_if_better-requires : goal.weight_if_better-requires
-weight_if_better-requires c = c.requires.scores_within c.loop-i.i
-
-pub loop-i-preserved : goal.loop-i-preserved
+made : (m : After-from_fn) → m.from_fn.result ≡ each (counted m.args.mask m.args.scores m.args.own)
 unfolding is_better
-loop-i-preserved c =
-    let here = c.loop-i in
-    let f = counted c.args.mask c.args.scores c.args.own in
-    let value : c.weight_if_better.result ≡ f here.i = rw c.requires.total_is at c.weight_if_better.ensures in
-    filling-more _ _ here.invariant (omega arith) value
+made m = made-each _ _ (counted m.args.mask m.args.scores m.args.own) (λ i y q lt call. search (rules, m.requires.total_is)) _ m.from_fn.ensures.items
+
+pub from_fn-requires : goal.from_fn-requires
+from_fn-requires c = (omega arith, callable-each _ _ 16 _ (λ i y q call. search rules) (λ i lt. search (rules, c.requires.scores_within)))
 
 pub sum_of-requires : goal.sum_of-requires
 sum_of-requires c =
-    let here = c.loop-i in
     let f = counted c.args.mask c.args.scores c.args.own in
-    rw (filling-each here.invariant (omega arith))
+    rw (made (goal.at.sum_of-requires c).After-from_fn)
     (omega (arith, sum-each-le f first_weight (λ k lt. cond-le (is_better c.args.mask c.args.scores k) (c.requires.own_most k) zero-le)))
 
 pub returns : goal.returns
-returns c =
-    let here = c.loop-i in
-    c.sum_of.ensures ∙ ap sum (filling-each here.invariant (omega arith))
+returns c = c.sum_of.ensures ∙ ap sum (made (goal.at.returns c).After-from_fn)
