@@ -6,9 +6,8 @@ ghost use Rattle.std.proofs.Math.Seq.{paste};
 ghost use Rattle.calls.specs.Limits.{indicator_count};
 ghost use Rattle.calls.specs.Indicators.{indicators_of};
 ghost use Rattle.indicators.specs.Points.{pool_numbered, points_numbered};
-ghost use Rattle.values.specs.Bounds.{pool_most, total_most};
+ghost use Rattle.values.specs.Bounds.{pool_most, total_most, Within};
 ghost use Rattle.values.specs.Operators.{each};
-ghost use Rattle.values.specs.Parts.{Within};
 ghost use Rattle.gathering.specs.Steps.{OneGathered, AllGathered};
 
 use book::Book;

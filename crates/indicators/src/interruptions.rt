@@ -4,10 +4,9 @@ ghost use Rattle.std.specs.Prelude.{◌≡◌, cond, ℕ, ◌*◌, ◌≤◌, �
 ghost use Rattle.calls.specs.Limits.{operators, indicator_count};
 ghost use Rattle.apportion.specs.Sum.{sum as sum_of_all};
 ghost use Rattle.exact.specs.Division.{over};
-ghost use Rattle.values.specs.Bounds.{score_most};
+ghost use Rattle.values.specs.Bounds.{score_most, Within};
 ghost use Rattle.values.specs.Operators.{each, count};
 ghost use Rattle.values.specs.Indicator.{reliable_mask, numbered};
-ghost use Rattle.values.specs.Parts.{Within};
 ghost use Rattle.indicators.specs.Steps.{ScoresWithin, WeighingAsked, Thousandths, LevelAsked};
 ghost use Rattle.indicators.specs.Points.{is_better};
 ghost use Rattle.indicators.specs.Sequence.{thousandths as thousandths_of_sums, exponent_weights, levelled_weights, in_sequence};

@@ -1,9 +1,8 @@
 // The pool of an indicator, and its points: the pool shared by the weights.
 ghost use Rattle.std.specs.Prelude.{◌≡◌, ◌≤◌, ◌<◌};
 ghost use Rattle.calls.specs.Limits.{indicator_count};
-ghost use Rattle.values.specs.Bounds.{points_most, pool_most};
+ghost use Rattle.values.specs.Bounds.{points_most, pool_most, Within};
 ghost use Rattle.values.specs.Indicator.{reliable_mask, scores as scores_of_indicator, pool, numbered};
-ghost use Rattle.values.specs.Parts.{Within};
 ghost use Rattle.indicators.specs.Points.{weights, points};
 
 use crate::interruptions::interruption_weights;

@@ -11,8 +11,7 @@ use Rattle.book.specs.declared.Book.{Book}
 use Rattle.calls.specs.Limits.{operators, setting_count, indicator_count, setting_limit, figure_limit, rate_limit}
 use Rattle.book.specs.Book.{setting_of, figure_of, index_of, within_limits}
 use Rattle.book.proofs.Bounds.{most-le, bounded}
-use Rattle.values.specs.Bounds.{access_limit, income_limit}
-use Rattle.values.specs.Parts.{Within}
+use Rattle.values.specs.Bounds.{access_limit, income_limit, Within}
 
 module _ (b : Book) (ranged : within_limits b ≡ true) where
   setting-le : (operator which : ℕ) → operator < operators → which < setting_count → setting_of b operator which ≤ setting_limit which

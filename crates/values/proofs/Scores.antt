@@ -20,8 +20,7 @@ use Rattle.values.specs.Sequence.{values_by_year, sums_of_years}
 use Rattle.values.specs.Steps.{YearsWithin}
 use Rattle.values.specs.Operators.{table}
 use Rattle.values.proofs.Tables.{length-table, table_at, each_at, each_same, each-le}
-use Rattle.values.specs.Bounds.{yearly_most, score_most}
-use Rattle.values.specs.Parts.{Within}
+use Rattle.values.specs.Bounds.{yearly_most, score_most, Within}
 use Rattle.values.proofs.Numbered.{of-numbered}
 
 pub over-le : (dividend divisor : ℕ) → over dividend divisor ≤ dividend

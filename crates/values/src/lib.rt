@@ -7,9 +7,8 @@ mod measures;
 ghost use Rattle.std.specs.Prelude.{◌≡◌, cond, ◌+◌, ◌≤◌, ◌<◌};
 ghost use Rattle.calls.specs.Limits.{years, indicator_count};
 ghost use Rattle.calls.specs.Masks.{has};
-ghost use Rattle.values.specs.Bounds.{yearly_most};
+ghost use Rattle.values.specs.Bounds.{yearly_most, Within};
 ghost use Rattle.values.specs.Indicator.{yearly_values, reliable_mask, scores, numbered};
-ghost use Rattle.values.specs.Parts.{Within};
 ghost use Rattle.values.specs.Sequence.{values_by_year, sums_of_years};
 ghost use Rattle.values.specs.Steps.{YearsWithin};
 

@@ -5,7 +5,7 @@ ghost use Rattle.calls.specs.Indicators.{frequency, duration, fee};
 ghost use Rattle.book.specs.Book.{KnownFigure, figure_of};
 ghost use Rattle.values.specs.Indicator.{yearly_value, numbered};
 ghost use Rattle.values.specs.Operators.{settings_of};
-ghost use Rattle.values.specs.Parts.{Within};
+ghost use Rattle.values.specs.Bounds.{Within};
 
 use book::{Book, figure_slot, setting_slot};
 use calls::cabins_in;
