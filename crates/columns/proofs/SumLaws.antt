@@ -1,49 +1,42 @@
--- A sum that grows by one element of a list after another.
+-- The points of an operator, added up one indicator after another.
 -- Assumes nothing.
-use Prim.Native.Nat.{ℕ, ◌+◌, ◌*◌, ◌^◌, ◌≤◌, ◌<◌}
+use Prim.Native.Nat.{ℕ, ◌+◌, ◌*◌, ◌^◌, ◌<◌}
 use mathlib.Core.Path.{◌≡◌, refl, sym, ap, ◌∙◌}
-use mathlib.Core.List.{List}
+use mathlib.Core.List.{List, map}
 use native.Mathlib.Omega.{arith}
-use lib.ListN.{length, get_or, take}
-use lib.Seq.{take_all}
+use lib.ListN.{get_or}
+use Rattle.std.specs.List as S
+use Rattle.std.specs.List.{range_with_len}
+use Rattle.std.proofs.lemmas.List.FromFn.{fill_by_all}
+use Rattle.std.proofs.lemmas.List.Recursion.{is_sum_by}
 use Rattle.calls.specs.Limits.{indicator_count}
 use Rattle.apportion.specs.Sum.{sum}
-use Rattle.apportion.proofs.Sums.{sum-take-suc, take-le, sum_bound, element-le}
+use Rattle.apportion.proofs.Sums.{sum_bound, element-le}
 use Rattle.values.specs.Operators.{table}
 use Rattle.values.proofs.Tables.{length-table, table_at}
+use Rattle.settlement.specs.declared.Settlement.{Settlement}
+use Rattle.columns.specs.Columns.{points_of_operator}
 
--- t is the sum of the first i
-pub record Summing (xs : List ℕ) (i t : ℕ) : Type 0 where
-  pub within : i ≤ length xs
-  pub so_far : t ≡ sum (take i xs)
+-- std's sum is the same
+pub same_sum : (xs : List ℕ) → S.sum xs ≡ sum xs
+unfolding sum
+same_sum xs = sym (is_sum_by sum (λ (x : ℕ). x) refl (λ _ _. refl) xs)
 
-module _ (xs : List ℕ) where
-  pub summing-none : Summing xs 0 0
-  unfolding sum
-  summing-none = record { within = omega arith; so_far = refl }
-
-  module _ {i t : ℕ} (summing : Summing xs i t) where
-    pub summing-most : i < length xs → t + get_or xs i 0 ≤ sum xs
-    summing-most lt = omega (arith, summing.so_far, sum-take-suc xs i lt, take-le xs (i + 1))
-
-    pub summing-more : (v : ℕ) → i < length xs → v ≡ get_or xs i 0 → Summing xs (i + 1) (t + v)
-    summing-more v lt e = record { within = omega arith; so_far = omega (arith, summing.so_far, sum-take-suc xs i lt, e) }
-
-    pub summing-all : length xs ≤ i → t ≡ sum xs
-    summing-all all = summing.so_far ∙ ap sum (take_all i xs all)
-
--- six numbers of a list, an operator's
 module _ (points : List ℕ) (operator : ℕ) where
-  abbrev pub operators_points : List ℕ
-  operators_points = table indicator_count (λ (number : ℕ). get_or points (16 * number + operator) 0)
+  abbrev pub point_of : ℕ → ℕ
+  point_of number = get_or points (16 * number + operator) 0
 
-  pub six : length operators_points ≡ indicator_count
-  six = length-table _ indicator_count
+  in_turn : map point_of (range_with_len 0 6) ≡ table indicator_count point_of
+  in_turn = sym (fill_by_all point_of (table 6 point_of) 6 0 (length-table point_of 6) (λ k lt. table_at point_of 6 k 0 lt))
 
-  pub point_at : (number : ℕ) → number < indicator_count → get_or points (16 * number + operator) 0 ≡ get_or operators_points number 0
-  point_at number lt = sym (table_at (λ (number : ℕ). get_or points (16 * number + operator) 0) indicator_count number 0 lt)
-
-  pub points-most : sum points < 2 ^ 60 → sum operators_points < 2 ^ 63
+  pub points-most : sum points < 2 ^ 60 → sum (table indicator_count point_of) < 2 ^ 63
   points-most few =
-      let most = sum_bound operators_points (sum points) (λ k lt. rw (← point_at k (rw six at lt)) (element-le points (16 * k + operator))) in
-      omega (arith, few, six, rw six at most)
+      let most = sum_bound (table 6 point_of) (sum points) (λ k lt. rw (table_at point_of 6 k 0 (rw length-table at lt)) (element-le points (16 * k + operator))) in
+      omega (arith, few, length-table point_of 6, rw length-table at most)
+
+  pub few_points : sum points < 2 ^ 60 → S.sum (map point_of (range_with_len 0 6)) < 2 ^ 64
+  few_points few = rw (same_sum, in_turn) (omega (arith, points-most few))
+
+pub points-added : (s : Settlement) (operator : ℕ) → S.sum (map (point_of s.points operator) (range_with_len 0 6)) ≡ points_of_operator s operator
+unfolding points_of_operator
+points-added s operator = same_sum _ ∙ ap sum (in_turn s.points operator)

@@ -53,25 +53,14 @@ pub fn points_of_operator(s: Settlement, operator: usize) -> u64
     requires { (operator < 16) × (sum s.points < 2 ^ 60) }
     ensures { result ≡ points_of_operator s operator }
 {
-    let points = s.points;
-    let mut t = 0;
-    let mut number = 0;
-    while number < INDICATORS {
-        t += points[16 * number + operator];
-        number += 1;
-    }
-    t
+    (0..INDICATORS)
+        .map(|number| s.points[16 * number + operator])
+        .sum()
 }
 
 pub fn total_points(points: [u64; POINT_PLACES]) -> u64
     requires { sum points < 2 ^ 60 }
     ensures { result ≡ sum points }
 {
-    let mut t = 0;
-    let mut i = 0;
-    while i < POINT_PLACES {
-        t += points[i];
-        i += 1;
-    }
-    t
+    points.iter().sum()
 }

@@ -1,21 +1,14 @@
--- What gathering asks for, and what it gives: the points of one indicator more, and of all.
+-- What gathering gives: the points of one indicator more, and of all.
 -- Assumes nothing.
-use Rattle.std.specs.Prelude.{ℕ, ◌+◌, ◌*◌, ◌≤◌, ◌<◌, ◌≡◌, List, get_or, set}
+use Rattle.std.specs.Prelude.{ℕ, ◌+◌, ◌*◌, ◌≤◌, ◌≡◌, List, get_or, set}
 use Rattle.std.proofs.Math.Seq.{paste}
-use Rattle.calls.specs.Limits.{operators, indicator_count}
+use Rattle.calls.specs.Limits.{operators}
 use Rattle.book.specs.declared.Book.{Book}
 use Rattle.values.specs.Bounds.{total_most}
-use Rattle.values.specs.Parts.{Within}
 use Rattle.values.specs.Operators.{each}
 use Rattle.calls.specs.Indicators.{Indicator}
 use Rattle.indicators.specs.Points.{pool_numbered, points_numbered, pools_of_all, points_of_all, all_points}
 use Rattle.gathering.specs.declared.Gathered.{Gathered}
-
--- what putting in one indicator more asks for
-pub record GatheringAsked (settings figures indices totals : List ℕ) (number : ℕ) : Type 0 where
-  pub within : Within settings figures indices
-  pub number_there : number < indicator_count
-  pub totals_most : (k : ℕ) → get_or totals k 0 ≤ total_most
 
 -- g with the indicator of a number put in, of a list of indicators
 pub record OneGathered (b : Book) (indicators : List Indicator) (number : ℕ) (g more : Gathered) : Type 0 where

@@ -1,12 +1,10 @@
 -- The largest of a list.
 -- Assumes nothing.
 use mathlib.Core.Path.{◌≡◌}
-use mathlib.Core.List.{List, [], ◌∷◌}
-use Prim.Native.Nat.{ℕ, zero, suc, ◌+◌, max, ◌≤◌, ◌<◌}
-use native.Mathlib.Numerals.{add-one}
+use mathlib.Core.List.{List, [], ◌∷◌, ◌++◌}
+use Prim.Native.Nat.{ℕ, zero, suc, max, ◌≤◌}
 use native.Mathlib.Omega.{arith}
-use lib.ListN.{length, get_or, drop}
-use lib.Seq.{drop-cons}
+use lib.ListN.{get_or}
 use Rattle.indicators.specs.Points.{largest}
 
 pub largest-ge : (list : List ℕ) (k : ℕ) → get_or list k 0 ≤ largest list
@@ -20,8 +18,8 @@ unfolding largest
 largest-le [] bound each = omega arith
 largest-le (x ∷ list) bound each = omega (arith, each 0, largest-le list bound (λ k. each (suc k)))
 
--- the largest from a place on
-pub largest-from : (list : List ℕ) (i top : ℕ) → i < length list
-    → max top (largest (drop i list)) ≡ max (max top (get_or list i 0)) (largest (drop (i + 1) list))
+-- one number more at the end
+pub largest-push : (list : List ℕ) (x : ℕ) → largest (list ++ (x ∷ [])) ≡ max (largest list) x
 unfolding largest
-largest-from list i top lt = rw (add-one, drop-cons list i 0 lt) (omega arith)
+largest-push [] x = omega arith
+largest-push (y ∷ list) x = omega (arith, largest-push list x)

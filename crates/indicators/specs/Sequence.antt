@@ -7,7 +7,6 @@ use Rattle.calls.specs.Masks.{has}
 use Rattle.book.specs.declared.Book.{Book}
 use Rattle.exact.specs.Division.{over}
 use Rattle.exponent.specs.Weight.{weight_of}
-use Rattle.values.specs.declared.YearlyValues.{YearlyValues}
 use Rattle.values.specs.Operators.{each}
 use Rattle.values.specs.Indicator.{reliable_mask}
 use Rattle.values.specs.Sequence.{values_by_year, sums_of_years}
@@ -34,7 +33,7 @@ levelled_weights mask sums own =
 unfoldable pub in_sequence : Book → Indicator → List ℕ
 in_sequence b indicator =
     let mask : ℕ = reliable_mask b indicator in
-    let values : YearlyValues = values_by_year b indicator.measure in
+    let values : List (List ℕ) = values_by_year b indicator.measure in
     let sums : List ℕ = sums_of_years mask values in
     let ks : List ℕ = thousandths sums in
     let own : List ℕ = exponent_weights ks in

@@ -1,18 +1,12 @@
 -- What inner functions of weights ask for.
 -- Assumes nothing.
-use Rattle.std.specs.Prelude.{ℕ, ◌≤◌, ◌≡◌, List, get_or}
-use Rattle.apportion.specs.Sum.{sum}
+use Rattle.std.specs.Prelude.{ℕ, ◌≤◌, List, get_or}
 use Rattle.exponent.specs.Weight.{first_weight}
 use Rattle.values.specs.Bounds.{score_most}
 
 -- no score passes three years of the largest yearly value
 abbrev pub ScoresWithin : List ℕ → Type 0
 ScoresWithin scores = (place : ℕ) → get_or scores place 0 ≤ score_most
-
-pub record WeighingAsked (scores own : List ℕ) (total : ℕ) : Type 0 where
-  pub scores_within : ScoresWithin scores
-  pub total_is : total ≡ sum scores
-  pub own_most : (place : ℕ) → get_or own place 0 ≤ first_weight
 
 -- no k passes the table's last
 abbrev pub Thousandths : List ℕ → Type 0

@@ -1,33 +1,30 @@
 // Weights of an A indicator, in the order of annex 9, 4.2.1. What each of the five steps gives stands in Sequence.antt of specs, here and
 // in `values`.
-ghost use Rattle.std.specs.Prelude.{◌≡◌, cond, ℕ, ◌≤◌, ◌<◌, get_or};
+ghost use Rattle.std.specs.Prelude.{◌≡◌, cond, false, ℕ, ◌*◌, ◌≤◌, ◌<◌, get_or};
 ghost use Rattle.calls.specs.Limits.{operators, indicator_count};
-ghost use Rattle.book.specs.declared.Book.{Book};
 ghost use Rattle.apportion.specs.Sum.{sum as sum_of_all};
-ghost use Rattle.values.specs.Operators.{each, count};
+ghost use Rattle.exact.specs.Division.{over};
+ghost use Rattle.exponent.specs.Weight.{first_weight};
+ghost use Rattle.values.specs.Bounds.{score_most, Within};
+ghost use Rattle.values.specs.Operators.{table, each, count};
 ghost use Rattle.values.specs.Indicator.{reliable_mask, numbered};
-ghost use Rattle.values.specs.Parts.{HasMeasures, Within};
-ghost use Rattle.indicators.specs.Steps.{ScoresWithin, WeighingAsked, Thousandths, LevelAsked};
+ghost use Rattle.indicators.specs.Steps.{ScoresWithin, Thousandths, LevelAsked};
 ghost use Rattle.indicators.specs.Points.{is_better};
 ghost use Rattle.indicators.specs.Sequence.{thousandths as thousandths_of_sums, exponent_weights, levelled_weights, in_sequence};
 
 use crate::weights::largest_of;
-use calls::{FIGURE_PLACES, INDICES, SETTING_PLACES};
+use book::Book;
+use calls::has_bit;
+use std::array;
 use values::{sums_of_years, yearly_values};
-use weighing::{is_better, levelled_weight, normalise, weight_if_better};
+use weighing::{is_better, levelled_weight, normalise};
 
 // The five steps in turn, for A1 to A4 alike. The last takes mask and sums again: who is better cannot be told from the weights.
-pub(crate) fn interruption_weights(
-    mask: u16,
-    settings: &[u64; SETTING_PLACES],
-    figures: &[u64; FIGURE_PLACES],
-    indices: &[u32; INDICES],
-    number: u8,
-) -> [u64; 16]
-    requires { Within settings.now figures.now indices.now × (number < indicator_count) }
-    ensures { (b : Book) → HasMeasures b settings.now figures.now indices.now → mask ≡ reliable_mask b (numbered number) → result ≡ in_sequence b (numbered number) }
+pub(crate) fn interruption_weights(mask: u16, b: &Book, number: u8) -> [u64; 16]
+    requires { Within b.now × (number < indicator_count) }
+    ensures { mask ≡ reliable_mask b.now (numbered number) → result ≡ in_sequence b.now (numbered number) }
 {
-    let values = yearly_values(settings, figures, indices, number);
+    let values = yearly_values(b, number);
     let sums = sums_of_years(mask, values);
     let thousandths = thousandths_of(sums);
     let weights = exponent_weights(thousandths);
@@ -40,13 +37,14 @@ fn thousandths_of(sums: [u64; 16]) -> [u64; 16]
     ensures { result ≡ thousandths_of_sums sums }
 {
     let top = largest_of(sums);
-    let mut thousandths = [0u64; 16];
-    let mut i = 0;
-    while i < 16 {
-        thousandths[i] = normalise(1000, sums[i], top);
-        i += 1;
-    }
-    thousandths
+    array::from_fn(|operator| thousandth(sums[operator], top))
+}
+
+fn thousandth(sum: u64, top: u64) -> u64
+    requires { (sum ≤ top) × (top ≤ score_most) }
+    ensures { result ≡ over (1000 * sum) top }
+{
+    normalise(1000, sum, top)
 }
 
 // Step 4: the table's weight of each.
@@ -55,13 +53,7 @@ fn exponent_weights(thousandths: [u64; 16]) -> [u64; 16]
     ensures { result ≡ exponent_weights thousandths }
 {
     let table = exponent::all_weights();
-    let mut weights = [0u64; 16];
-    let mut i = 0;
-    while i < 16 {
-        weights[i] = table[thousandths[i] as usize];
-        i += 1;
-    }
-    weights
+    array::from_fn(|operator| table[thousandths[operator] as usize])
 }
 
 // Step 5: better operators alike. The annex levels points, 01 weights. Whoever takes no part has had the first weight until now, and gets 0.
@@ -69,43 +61,36 @@ fn level(mask: u16, sums: [u64; 16], own: [u64; 16]) -> [u64; 16]
     requires { LevelAsked sums own }
     ensures { result ≡ levelled_weights mask sums own }
 {
-    let sum = apportion::sum_of(sums);
-    let g = count_better(mask, sums, sum);
-    let together = weigh_better(mask, sums, sum, own);
-    let mut weights = [0u64; 16];
-    let mut i = 0;
-    while i < 16 {
-        weights[i] = levelled_weight(mask, sums[i], sum, i as u8, g, together, own[i]);
-        i += 1;
-    }
-    weights
+    let better = better_ones(mask, sums);
+    let g = number_of(better);
+    let together = weight_of(better, own);
+    array::from_fn(|operator| {
+        let takes_part = has_bit(mask, operator as u8);
+        levelled_weight(takes_part, better[operator], g, together, own[operator])
+    })
 }
 
-fn count_better(mask: u16, scores: [u64; 16], sum: u64) -> u64
-    requires { ScoresWithin scores × (sum ≡ sum_of_all scores) }
-    ensures { (result ≡ count operators (is_better mask scores)) × (result ≤ 16) }
+// Who is better than the mean of those that take part.
+fn better_ones(mask: u16, sums: [u64; 16]) -> [bool; 16]
+    requires { ScoresWithin sums }
+    ensures { result ≡ table operators (is_better mask sums) }
 {
-    let mut g = 0;
-    let mut i = 0;
-    while i < 16 {
-        if is_better(mask, scores[i], sum, i as u8) {
-            g += 1;
-        }
-        i += 1;
-    }
-    g
+    let sum = apportion::sum_of(sums);
+    array::from_fn(|operator| is_better(mask, sums[operator], sum, operator as u8))
+}
+
+fn number_of(better: [bool; 16]) -> u64
+    ensures { (result ≡ count operators (λ (operator : ℕ). get_or better operator false)) × (result ≤ operators) }
+{
+    better.iter().filter(|is| **is).count() as u64
 }
 
 // The better operators' weights together.
-fn weigh_better(mask: u16, scores: [u64; 16], sum: u64, own: [u64; 16]) -> u64
-    requires { WeighingAsked scores own sum }
-    ensures { result ≡ sum_of_all (each (λ (operator : ℕ). cond (is_better mask scores operator) (get_or own operator 0) 0)) }
+fn weight_of(better: [bool; 16], own: [u64; 16]) -> u64
+    requires { (place : ℕ) → get_or own place 0 ≤ first_weight }
+    ensures { result ≡ sum_of_all (each (λ (operator : ℕ). cond (get_or better operator false) (get_or own operator 0) 0)) }
 {
-    let mut counted = [0u64; 16];
-    let mut i = 0;
-    while i < 16 {
-        counted[i] = weight_if_better(mask, scores[i], sum, i as u8, own[i]);
-        i += 1;
-    }
-    apportion::sum_of(counted)
+    apportion::sum_of(array::from_fn(|operator| {
+        if better[operator] { own[operator] } else { 0 }
+    }))
 }

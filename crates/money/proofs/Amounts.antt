@@ -3,7 +3,8 @@
 use mathlib.Core.Path.{◌≡◌, refl}
 use mathlib.Core.Bool.{true}
 use mathlib.Core.List.{List}
-use Prim.Native.Nat.{ℕ, ◌*◌, ◌/◌, ◌≤◌, ◌<◌}
+use Prim.Native.Nat.{ℕ, ◌*◌, ◌/◌, ◌^◌, ◌≤◌, ◌<◌}
+use native.Mathlib.Omega.{arith}
 use native.Mathlib.Nat.{le_trans, mul-le-mul}
 use lib.ListN.{length, get_or}
 use Rattle.book.specs.declared.Book.{Book}
@@ -33,11 +34,16 @@ module _ (more less limit : List ℕ) (bounded : (k : ℕ) → k < 16 → get_or
   pub cut-le : (k : ℕ) → k < 16 → get_or (capped more less limit) k 0 ≤ limit_most
   cut-le k lt = le_trans (capped-most more less limit k lt) (bounded k lt)
 
-  pub cut-sum-le : sum (capped more less limit) ≤ operators * limit_most
+  cut-sum-le : sum (capped more less limit) ≤ operators * limit_most
   cut-sum-le = sixteen-le (capped more less limit) limit_most (capped-length more less limit) cut-le
 
   pub balanced-le : (other sizes : List ℕ) (k : ℕ) → k < 16 → get_or (balanced (capped more less limit) other sizes) k 0 ≤ limit_most
   balanced-le other sizes k lt = le_trans (balanced-within (capped more less limit) other sizes k (rw (capped-length more less limit) lt)) (cut-le k lt)
+
+-- the sums of both sides that are cut stay small
+pub cut-sums-small : (received paid limits : List ℕ) → ((k : ℕ) → k < 16 → get_or limits k 0 ≤ limit_most)
+    → (sum (capped received paid limits) < 2 ^ 62) × (sum (capped paid received limits) < 2 ^ 62)
+cut-sums-small received paid limits small = (omega (arith, cut-sum-le received paid limits small), omega (arith, cut-sum-le paid received limits small))
 
 -- the pot and the limits of a book in range
 pub pot_bounded : (b : Book) → within_limits b ≡ true → pot b ≤ pot_most

@@ -10,6 +10,7 @@ ghost use Rattle.values.specs.Operators.{table, each};
 ghost use Rattle.money.specs.Money.{capped, balanced, adjusted_by};
 
 use apportion::{share, sum_of};
+use std::array;
 
 const MILLION: u64 = 1000000;
 
@@ -18,7 +19,7 @@ pub fn pot_of(rate: u32, incomes: [u64; 16]) -> u64
     requires { (rate ≤ rate_limit) × ((k : ℕ) → get_or incomes k 0 ≤ income_limit) }
     ensures { (result ≡ rate * sum incomes / 1000000) × (result ≤ pot_most) }
 {
-    rate as u64 * sum_of(incomes) / MILLION
+    u64::from(rate) * sum_of(incomes) / MILLION
 }
 
 // A rate of each income.
@@ -26,14 +27,8 @@ pub fn limits_of(rate: u32, incomes: [u64; 16]) -> [u64; 16]
     requires { (rate ≤ rate_limit) × ((k : ℕ) → get_or incomes k 0 ≤ income_limit) }
     ensures { (result ≡ each (λ (operator : ℕ). rate * get_or incomes operator 0 / 1000000)) × ((k : ℕ) → get_or result k 0 ≤ limit_most) }
 {
-    let cap = rate as u64;
-    let mut out = [0u64; 16];
-    let mut operator = 0;
-    while operator < 16 {
-        out[operator] = cap * incomes[operator] / MILLION;
-        operator += 1;
-    }
-    out
+    let cap = u64::from(rate);
+    array::from_fn(|operator| cap * incomes[operator] / MILLION)
 }
 
 // Access points times the points of all indicators.
@@ -41,13 +36,7 @@ pub fn return_weights(access: [u64; 16], totals: [u64; 16]) -> [u64; 16]
     requires { ((k : ℕ) → k < 16 → get_or access k 0 ≤ access_limit) × ((k : ℕ) → k < 16 → get_or totals k 0 ≤ total_most) }
     ensures { (result ≡ each (λ (operator : ℕ). get_or access operator 0 * get_or totals operator 0)) × (sum result ≤ operators * (access_limit * total_most)) }
 {
-    let mut out = [0u64; 16];
-    let mut operator = 0;
-    while operator < 16 {
-        out[operator] = access[operator] * totals[operator];
-        operator += 1;
-    }
-    out
+    array::from_fn(|operator| access[operator] * totals[operator])
 }
 
 // What is received less what is paid, each cut to its limit, and the larger side shared again.
@@ -71,25 +60,11 @@ pub fn adjust(
 fn capped_side(more: [u64; 16], less: [u64; 16], limit: [u64; 16]) -> [u64; 16]
     ensures { result ≡ capped more less limit }
 {
-    let mut out = [0u64; 16];
-    let mut operator = 0;
-    while operator < 16 {
-        out[operator] = cut(more[operator], less[operator], limit[operator]);
-        operator += 1;
-    }
-    out
-}
-
-fn cut(more: u64, less: u64, limit: u64) -> u64
-    ensures { result ≡ min (more - less) limit }
-{
-    if more <= less {
-        return 0;
-    }
-    if limit < more - less {
-        return limit;
-    }
-    more - less
+    array::from_fn(|operator| {
+        more[operator]
+            .saturating_sub(less[operator])
+            .min(limit[operator])
+    })
 }
 
 // The larger side is shared again to the smaller sum.
@@ -109,21 +84,5 @@ fn differences(gains: [u64; 16], losses: [u64; 16]) -> [i64; 16]
     requires { ((k : ℕ) → k < 16 → get_or gains k 0 < 2 ^ 62) × ((k : ℕ) → k < 16 → get_or losses k 0 < 2 ^ 62) }
     ensures { result ≡ table operators (λ (operator : ℕ). sub_ℕ (get_or gains operator 0) (get_or losses operator 0)) }
 {
-    let mut out = [0i64; 16];
-    let mut operator = 0;
-    while operator < 16 {
-        out[operator] = difference(gains[operator], losses[operator]);
-        operator += 1;
-    }
-    out
-}
-
-fn difference(gain: u64, loss: u64) -> i64
-    requires { (gain < 2 ^ 62) × (loss < 2 ^ 62) }
-    ensures { result ≡ sub_ℕ gain loss }
-{
-    if loss <= gain {
-        return (gain - loss) as i64;
-    }
-    0 - ((loss - gain) as i64)
+    array::from_fn(|operator| gains[operator] as i64 - losses[operator] as i64)
 }

@@ -1,2 +1,3 @@
 -- The laws that the proofs of `readiness`, and of the crates above it, use.
 pub mod MarkLaws
+pub mod TurnLaws

@@ -1,24 +1,18 @@
 -- A count of connections, or 1; and the divisor of fees, above 0 in a book in range (specs/Laws.antt, `FeesWeigh`).
 -- Assumes nothing.
-use Prim.Native.Nat.{ℕ, ◌*◌, ◌<◌, ◌≤◌}
+use Prim.Native.Nat.{ℕ, ◌*◌, ◌<◌, max}
 use mathlib.Core.Path.{◌≡◌, refl, ap, ◌∙◌}
 use mathlib.Core.Bool.{Bool, true, cond}
 use native.Mathlib.Nat.{mul-pos, one-mul}
 use native.Mathlib.Omega.{arith}
 use native.Mathlib.Decide.{ℕ_discrete}
 use borrow.Author.Tests.{ne_eqb}
-use lib.ListN.{get_or}
-use Rattle.calls.specs.Limits.{years, figure_count, figure_limit}
+use Rattle.calls.specs.Limits.{years}
 use Rattle.book.specs.declared.Book.{Book}
 use Rattle.book.specs.Book.{figure_of, index_of, within_limits}
 use Rattle.book.proofs.Bounds.{bounded}
 use Rattle.values.specs.Indicator.{count_or_one, fee_divisor, yearly_value}
 use Rattle.values.specs.Laws.{FeesWeigh}
-use Rattle.values.specs.Operators.{figures_of}
-use Rattle.values.specs.Parts.{FiguresWithin}
-use Rattle.values.proofs.InRange.{figures-most}
-use Rattle.values.proofs.Numbered.{counts_or_one}
-use Rattle.values.proofs.Tables.{each-le}
 use Rattle.values.proofs.Scores.{over-some}
 
 pub none-as-one : count_or_one 0 ≡ 1
@@ -29,6 +23,14 @@ pub some-as-counted : (count : ℕ) → (count ≡ 0 → ⊥) → count_or_one c
 unfolding count_or_one
 some-as-counted count some = ap (λ (none : Bool). cond none 1 count) (ne_eqb count 0 some)
 
+-- the larger of a count and 1
+pub larger-of-one : (count : ℕ) → max count 1 ≡ count_or_one count
+larger-of-one count = go (ℕ_discrete count 0)
+  where
+    go : Dec (count ≡ 0) → max count 1 ≡ count_or_one count
+    go (yes none) = rw (none, none-as-one) refl
+    go (no some) = rw (some-as-counted count some) (omega (arith, some))
+
 -- what holds of 1, and of a count that is not 0, holds of either
 of_either : (Holds : ℕ → Type 0) (count : ℕ) → Holds 1 → ((count ≡ 0 → ⊥) → Holds count) → Holds (count_or_one count)
 of_either Holds count one other = go (ℕ_discrete count 0)
@@ -36,12 +38,6 @@ of_either Holds count one other = go (ℕ_discrete count 0)
     go : Dec (count ≡ 0) → Holds (count_or_one count)
     go (yes none) = rw (none, none-as-one) one
     go (no some) = rw (some-as-counted count some) (other some)
-
--- counts of a year, so taken, keep to the limit of a figure
-pub counts-most : (b : Book) → FiguresWithin b.figures → (year figure : ℕ) → year < years → figure < figure_count
-    → (k : ℕ) → get_or (counts_or_one (figures_of b year figure)) k 0 ≤ figure_limit
-counts-most b small year figure ly lf =
-    each-le _ _ (λ k lt. of_either (λ (n : ℕ). n ≤ figure_limit) _ (omega arith) (λ some. figures-most b small year figure ly lf k))
 
 index-above : (b : Book) → within_limits b ≡ true → (year : ℕ) → year < years → 0 < index_of b year
 unfolding index_of

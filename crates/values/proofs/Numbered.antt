@@ -1,23 +1,17 @@
--- An indicator by its number: what holds of every indicator of the list holds of the numbered one; and yearly values as quotients.
+-- An indicator by its number: what holds of every indicator of the list holds of the numbered one.
 -- Assumes nothing.
-use Prim.Native.Nat.{ℕ, zero, suc, ◌*◌, ◌<◌}
-use mathlib.Core.Path.{◌≡◌, refl, ap, ap₂, ◌∙◌}
+use Prim.Native.Nat.{ℕ, zero, suc, ◌<◌}
+use mathlib.Core.Path.{◌≡◌, refl}
 use mathlib.Core.Bool.{true, false, false≢true}
 use mathlib.Core.List.{List, [], ◌∷◌}
-use native.Mathlib.Nat.{one-mul, mul_comm, mul_right_comm}
 use native.Mathlib.Omega.{arith}
 use lib.ListN.{length, get_or}
 use Rattle.calls.specs.Limits.{indicator_count}
-use Rattle.book.specs.declared.Book.{Book}
-use Rattle.book.specs.Book.{setting_of, figure_of, index_of}
-use Rattle.values.specs.Operators.{each, settings_of, figures_of}
-use Rattle.exact.specs.Division.{over}
 use Rattle.calls.specs.declared.Kind.{Kind}
 use Rattle.calls.specs.declared.Kind.TheVariants.{Electricity, Gas}
-use Rattle.calls.specs.Indicators.{Indicator, frequency, duration, fee, electricity, gas, indicators_of, takes_mark}
-use Rattle.values.specs.Indicator.{numbered, numbered_in, count_or_one, fee_divisor, yearly_value, yearly_values}
+use Rattle.calls.specs.Indicators.{Indicator, electricity, gas, indicators_of, takes_mark}
+use Rattle.values.specs.Indicator.{numbered, numbered_in}
 use Rattle.calls.proofs.KindLaws.{kinds-opened}
-use Rattle.values.proofs.Tables.{each_at, each_same}
 
 -- a fact of each place of a list and the indicator there
 abbrev pub Throughout : (ℕ → Indicator → Type 0) → List Indicator → Type 0
@@ -54,31 +48,3 @@ kind-numbered Gas number lt taken =
 pub number_of : (number : ℕ) → number < indicator_count → (numbered number).number ≡ number
 unfolding electricity
 number_of = of-numbered (λ number indicator. indicator.number ≡ number) (refl, (refl, (refl, (refl, (refl, (refl, tt))))))
-
--- quotients operator by operator, dividends and divisors each multiplied first
-abbrev pub quotients_by : ℕ → List ℕ → ℕ → List ℕ → List ℕ
-quotients_by factor dividends scale divisors = each (λ (k : ℕ). over (factor * get_or dividends k 0) (scale * get_or divisors k 0))
-
--- counts operator by operator, each 0 taken as 1
-abbrev pub counts_or_one : List ℕ → List ℕ
-counts_or_one counts = each (λ (k : ℕ). count_or_one (get_or counts k 0))
-
-module _ (b : Book) (year : ℕ) where
-  pub frequencies-same : (figure : ℕ) (which : ℕ → ℕ) → quotients_by 1000000 (figures_of b year figure) 1 (settings_of b (which year)) ≡ yearly_values b (frequency figure which) year
-  unfolding yearly_value
-  frequencies-same figure which =
-      each_same _ _ (λ k lt. ap₂ over (omega (arith, each_at (λ (o : ℕ). figure_of b o year figure) k lt)) (omega (arith, each_at (λ (o : ℕ). setting_of b o (which year)) k lt)))
-
-  pub durations-same : (seconds weight : ℕ) → quotients_by 1000 (figures_of b year seconds) 1 (figures_of b year weight) ≡ yearly_values b (duration seconds weight) year
-  unfolding yearly_value
-  durations-same seconds weight =
-      each_same _ _ (λ k lt. ap₂ over (omega (arith, each_at (λ (o : ℕ). figure_of b o year seconds) k lt)) (one-mul _ ∙ each_at (λ (o : ℕ). figure_of b o year weight) k lt))
-
-  pub fees-same : (fees connections : ℕ)
-      → quotients_by (10 * index_of b 3) (figures_of b year fees) (index_of b year) (counts_or_one (figures_of b year connections)) ≡ yearly_values b (fee fees connections) year
-  unfolding yearly_value fee_divisor
-  fees-same fees connections =
-      each_same _ _
-      (λ k lt.
-      let counted = each_at (λ (o : ℕ). count_or_one (get_or (figures_of b year connections) o 0)) k lt ∙ ap count_or_one (each_at (λ (o : ℕ). figure_of b o year connections) k lt) in
-      rw (each_at (λ (o : ℕ). figure_of b o year fees) k lt, counted) (ap₂ over (mul_right_comm 10 (index_of b 3) (figure_of b k year fees)) (mul_comm (index_of b year) (count_or_one (figure_of b k year connections)))))

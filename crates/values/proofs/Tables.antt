@@ -1,13 +1,12 @@
--- Laws of numbers by operator: what stands at a place of a table, sums of tables, and arrays filled from the front with a table's values.
+-- Laws of numbers by operator: what stands at a place of a table, sums of tables, and arrays made by a closure.
 -- Assumes nothing.
 use Prim.Native.Nat.{ℕ, zero, suc, ◌+◌, ◌*◌, ◌≤◌, ◌<◌}
 use mathlib.Core.Path.{◌≡◌, refl, sym, ◌∙◌}
 use mathlib.Core.List.{List, [], ◌∷◌, ◌++◌}
-use native.Mathlib.Numerals.{add-one}
 use native.Mathlib.Omega.{arith}
 use native.Mathlib.Decide.{ℕ_discrete, dec_lt}
-use lib.ListN.{length, get_or, set, take, length-set, length-append, get_or-append, get_or-eq_default}
-use lib.Seq.{take-suc-set, take_all, get_or_at, ext_get_or}
+use lib.ListN.{length, get_or, length-append, get_or-append, get_or-eq_default}
+use lib.Seq.{get_or_at, ext_get_or}
 use denote.Param.Members.{Mut, Called}
 use Rattle.std.specs.Array.{IsFromFnResult}
 use Rattle.apportion.specs.Sum.{sum}
@@ -31,32 +30,6 @@ module _ {A : Type 0} (f : ℕ → A) where
       go (no other) before =
           let less : k < n = omega (arith, other) in
           get_or-append (table n f) _ d k (rw (length-table n) less) ∙ before less
-
-  -- an array of sixteen that holds the table's values at the first i places
-  pub record Filling (i : ℕ) (out : List A) : Type 0 where
-    pub within : i ≤ 16
-    pub long : length out ≡ 16
-    pub same : take i out ≡ table i f
-
-  pub filling-none : (out : List A) → length out ≡ 16 → Filling 0 out
-  unfolding table
-  filling-none out long = record { within = omega arith; long = long; same = refl }
-
-  -- one place more
-  pub filling-more : {i : ℕ} {out : List A} (v : A) → Filling i out → i < 16 → v ≡ f i → Filling (i + 1) (set out i v)
-  unfolding table
-  filling-more {i} {out} v before lt e =
-      record {
-        within = omega arith;
-        long = length-set out i v ∙ before.long;
-        same = rw (add-one, take-suc-set out i v (omega arith), before.same, e) refl;
-      }
-
-  -- all of them
-  pub filling-all : {i : ℕ} {out : List A} → Filling i out → 16 ≤ i → out ≡ table 16 f
-  filling-all {i} {out} before le =
-      let last : i ≡ 16 = omega arith in
-      sym (take_all 16 out (omega arith)) ∙ (rw last at before.same)
 
 -- what a closure that leaves its captures as they were makes of each of sixteen indices
 module _ {F A : Type 0} (g : Mut F (ℕ × Unit {0}) A) (p : F) (f : ℕ → A) (step : (i : ℕ) (y : A) (q : F) → i < 16 → Called g p (i, tt {0}) y q → (y ≡ f i) × (q ≡ p)) where
@@ -114,10 +87,6 @@ pub made-each : {F : Type 0} (g : Mut F (ℕ × Unit {0}) ℕ) (p : F) (f : ℕ 
     → IsFromFnResult g p ys 16 → ys ≡ each f
 unfolding each
 made-each g p f step ys made = made-table g p f step ys made
-
-pub filling-each : {f : ℕ → ℕ} {i : ℕ} {out : List ℕ} → Filling f i out → 16 ≤ i → out ≡ each f
-unfolding each
-filling-each {f} before le = filling-all f before le
 
 -- a list of noughts
 pub sum-none : (l : List ℕ) → ((i : ℕ) → i < length l → get_or l i 0 ≡ 0) → sum l ≡ 0

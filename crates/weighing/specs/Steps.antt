@@ -1,16 +1,9 @@
 -- What functions of one weight ask for.
 -- Assumes nothing.
 use Rattle.std.specs.Prelude.{ℕ, ◌^◌, ◌≤◌, ◌<◌}
-use Rattle.calls.specs.Limits.{operators}
-use Rattle.exponent.specs.Weight.{first_weight}
 use Rattle.values.specs.Bounds.{score_most}
 
 pub record NormalisingAsked (parts score top : ℕ) : Type 0 where
   pub parts_small : parts < 2 ^ 62
   pub score_within : score ≤ top
   pub top_most : top ≤ score_most
-
-pub record LevellingAsked (score g own : ℕ) : Type 0 where
-  pub score_bounded : score ≤ score_most
-  pub better_few : g ≤ operators
-  pub own_most : own ≤ first_weight

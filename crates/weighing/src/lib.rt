@@ -3,10 +3,12 @@
 
 ghost use Rattle.std.specs.Prelude.{◌≡◌, cond, ◌&&◌, ◌-◌, ◌*◌, ◌≤◌, ltb, eqb};
 ghost use Rattle.std.specs.Int.Count.{ones};
+ghost use Rattle.calls.specs.Limits.{operators};
 ghost use Rattle.calls.specs.Masks.{has};
 ghost use Rattle.exact.specs.Division.{over};
+ghost use Rattle.exponent.specs.Weight.{first_weight};
 ghost use Rattle.values.specs.Bounds.{score_most};
-ghost use Rattle.weighing.specs.Steps.{NormalisingAsked, LevellingAsked};
+ghost use Rattle.weighing.specs.Steps.{NormalisingAsked};
 
 use calls::has_bit;
 
@@ -14,7 +16,7 @@ use calls::has_bit;
 pub fn ones_of(mask: u16) -> u64
     ensures { (result ≡ ones mask) × (result ≤ 16) }
 {
-    u16::count_ones(mask) as u64
+    u64::from(mask.count_ones())
 }
 
 // Better than the mean of those that take part.
@@ -28,36 +30,19 @@ pub fn is_better(mask: u16, score: u64, sum: u64, operator: u8) -> bool
     ones_of(mask) * score < sum
 }
 
-pub fn weight_if_better(mask: u16, score: u64, sum: u64, operator: u8, own: u64) -> u64
-    requires { score ≤ score_most }
-    ensures { result ≡ cond (has mask operator && ltb (ones mask * score) sum) own 0 }
+// The weight of one that takes part: each better operator takes the sum of their weights, each other g times its own. 0 for the others.
+pub fn levelled_weight(takes_part: bool, better: bool, g: u64, together: u64, own: u64) -> u64
+    requires few { g ≤ operators }
+    requires own_most { own ≤ first_weight }
+    ensures { result ≡ cond takes_part (cond (eqb g 0) own (cond better together (g * own))) 0 }
 {
-    if is_better(mask, score, sum, operator) {
-        return own;
-    }
-    0
-}
-
-// Each better operator takes the sum of their weights, each other g times its own.
-pub fn levelled_weight(
-    mask: u16,
-    score: u64,
-    sum: u64,
-    operator: u8,
-    g: u64,
-    together: u64,
-    own: u64,
-) -> u64
-    requires { LevellingAsked score g own }
-    ensures { result ≡ cond (has mask operator) (cond (eqb g 0) own (cond (has mask operator && ltb (ones mask * score) sum) together (g * own))) 0 }
-{
-    if !has_bit(mask, operator) {
+    if !takes_part {
         return 0;
     }
     if g == 0 {
         return own;
     }
-    if is_better(mask, score, sum, operator) {
+    if better {
         return together;
     }
     g * own

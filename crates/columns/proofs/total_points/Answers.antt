@@ -1,30 +1,14 @@
--- `columns::total_points` meets its contract. The loop's invariant: t is the sum of the points passed.
+-- `columns::total_points` meets its contract.
 -- Assumes nothing.
-use mathlib.Core.Path.{◌≡◌, refl}
+use mathlib.Core.Path.{◌∙◌}
 use native.Mathlib.Omega.{arith}
-use lib.ListN.{length}
-use borrow.Author.Rules.{rules}
-use Rattle.indicators.specs.Points.{point_places}
-use Rattle.columns.proofs.SumLaws.{summing-none, summing-most, summing-more, summing-all}
+use Rattle.std.proofs.lemmas.Iterator.{YieldsList-from_slice}
+use Rattle.std.proofs.lemmas.Iterator.Consumers.{sum_from_yields_List, fits_from_yields_list}
+use Rattle.columns.proofs.SumLaws.{same_sum}
 use Rattle.columns.proofs.total_points.Goals as goal
 
-pub loop-i-init : goal.loop-i-init
-loop-i-init c = (omega arith, summing-none _)
-
-pub overflow_add-t : goal.overflow_add-t
-overflow_add-t c =
-    let points = c.args.points in
-    let long : length points ≡ point_places = search rules in
-    record { fits = omega (arith, summing-most points c.loop-i.invariant.1 (omega arith)) }
-
-pub loop-i-preserved : goal.loop-i-preserved
-loop-i-preserved c =
-    let points = c.args.points in
-    let long : length points ≡ point_places = search rules in
-    (omega arith, summing-more points c.loop-i.invariant.1 _ (omega arith) refl)
+pub sum-requires-clause-fits : goal.sum-requires-clause-fits
+sum-requires-clause-fits c = fits_from_yields_list _ _ (YieldsList-from_slice c.args.points cc) (rw same_sum (omega arith))
 
 pub returns : goal.returns
-returns c =
-    let points = c.args.points in
-    let long : length points ≡ point_places = search rules in
-    summing-all points c.loop-i.invariant.1 (omega arith)
+returns c = sum_from_yields_List _ _ c.sum.ensures.ran (YieldsList-from_slice c.args.points cc) ∙ same_sum _

@@ -7,12 +7,12 @@ use Rattle.gathering.proofs.Gathering.{pool-of-kind}
 use Rattle.gathering.proofs.pool_in.Goals as goal
 
 pub returns-then-not-takes_mark : goal.returns-then-not-takes_mark
-returns-then-not-takes_mark c = λ b marked.
+returns-then-not-takes_mark c =
     let start = c.args in
-    sym (pool-of-kind b start.kind start.number (search rules) false (sym c.takes_mark.ensures ∙ c.if-not-takes_mark.true))
+    sym (pool-of-kind start.b.now start.kind start.number (search rules) false (sym c.takes_mark.ensures ∙ c.if-not-takes_mark.true))
 
 pub returns : goal.returns
-returns c = λ b marked.
+returns c =
     let start = c.args in
-    c.pool_of.ensures.0 b marked
-    ∙ sym (pool-of-kind b start.kind start.number (search rules) true (sym c.takes_mark.ensures ∙ c.if-not-takes_mark.false))
+    c.pool_of.ensures.0
+    ∙ sym (pool-of-kind start.b.now start.kind start.number (search rules) true (sym c.takes_mark.ensures ∙ c.if-not-takes_mark.false))

@@ -1,37 +1,23 @@
 -- `money::adjust` meets its contract.
 -- Assumes nothing.
-use mathlib.Core.Path.{◌≡◌, refl, ap, ◌∙◌}
+use native.Mathlib.Omega.{arith}
+use Rattle.apportion.specs.Sum.{sum}
+use mathlib.Core.Path.{ap, ◌≡◌, refl, ◌∙◌}
 use native.Mathlib.Nat.{lt_of_le_of_lt}
 use lib.Dec.{lit<}
-use Rattle.apportion.specs.Sum.{sum}
-use native.Mathlib.Omega.{arith}
 use Rattle.money.specs.Money.{balanced, adjusted_by}
-use Rattle.money.proofs.Amounts.{cut-sum-le, balanced-le}
+use Rattle.money.proofs.Amounts.{cut-sums-small, balanced-le}
 use Rattle.money.proofs.adjust.Goals as goal
 
 pub balanced_side-gains-requires : goal.balanced_side-gains-requires
 balanced_side-gains-requires c =
-    let args = c.args in
-    let small = c.requires in
-    omega (
-      arith,
-      ap sum c.capped_side-bonuses.ensures,
-      cut-sum-le args.received args.paid args.limits small,
-      ap sum c.capped_side-maluses.ensures,
-      cut-sum-le args.paid args.received args.limits small,
-    )
+    let small = cut-sums-small c.args.received c.args.paid c.args.limits c.requires in
+    omega (arith, ap sum c.capped_side-bonuses.ensures, ap sum c.capped_side-maluses.ensures)
 
 pub balanced_side-losses-requires : goal.balanced_side-losses-requires
 balanced_side-losses-requires c =
-    let args = c.args in
-    let small = c.requires in
-    omega (
-      arith,
-      ap sum c.capped_side-bonuses.ensures,
-      cut-sum-le args.received args.paid args.limits small,
-      ap sum c.capped_side-maluses.ensures,
-      cut-sum-le args.paid args.received args.limits small,
-    )
+    let small = cut-sums-small c.args.received c.args.paid c.args.limits c.requires in
+    omega (arith, ap sum c.capped_side-bonuses.ensures, ap sum c.capped_side-maluses.ensures)
 
 pub differences-requires : goal.differences-requires
 differences-requires c =

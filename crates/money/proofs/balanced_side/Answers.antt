@@ -1,7 +1,7 @@
 -- `money::balanced_side` meets its contract.
 -- Assumes nothing.
 use mathlib.Core.Path.{◌≡◌, refl, ◌∙◌}
-use Prim.Native.Nat.{◌<◌, ◌≤◌}
+use Prim.Native.Nat.{◌<◌}
 use native.Mathlib.Omega.{arith}
 use borrow.Author.Tests.{lt-ltb, le-ltb}
 use Rattle.apportion.specs.Sum.{sum}
@@ -17,6 +17,4 @@ returns-then-smaller-sum_of c =
 
 pub returns : goal.returns
 unfolding balanced
-returns c =
-    let no-larger : sum c.args.side ≤ sum c.args.other = omega arith in
-    rw (le-ltb _ _ no-larger) refl
+returns c = rw (le-ltb (sum c.args.other) (sum c.args.side) (omega arith)) refl

@@ -15,9 +15,9 @@ sum_of-requires c =
 pub overflow_mul-result : goal.overflow_mul-result
 overflow_mul-result c =
     let long : length c.args.incomes ≡ 16 = search rules in
-    rw c.sum_of.ensures (record { fits = omega (arith, pot-product-le c.args.rate c.args.incomes c.requires.0 c.requires.1 long) })
+    rw (c.from.ensures, c.sum_of.ensures) (record { fits = omega (arith, pot-product-le c.args.rate c.args.incomes c.requires.0 c.requires.1 long) })
 
 pub returns : goal.returns
 returns c =
     let long : length c.args.incomes ≡ 16 = search rules in
-    rw c.sum_of.ensures (refl, pot-le c.args.rate c.args.incomes c.requires.0 c.requires.1 long)
+    rw (c.from.ensures, c.sum_of.ensures) (refl, pot-le c.args.rate c.args.incomes c.requires.0 c.requires.1 long)

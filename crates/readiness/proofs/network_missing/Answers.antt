@@ -1,31 +1,19 @@
--- `readiness::network_missing` meets its contract: no setting passed is asked for and missing.
+-- `readiness::network_missing` meets its contract.
 -- Assumes nothing.
-use mathlib.Core.Path.{sym, ◌∙◌}
-use native.Mathlib.Omega.{arith}
+use mathlib.Core.Path.{refl, ◌∙◌}
+use borrow.Author.Rules.{rules}
+use Prim.Native.Nat.{ℕ}
+use mathlib.Core.Bool.{◌&&◌}
 use Rattle.calls.specs.Limits.{setting_count}
-use Rattle.values.proofs.AnyLaws.{none-of-each, any-passes}
-use Rattle.readiness.specs.Readiness.{network_missing}
-use borrow.Author.Count.{below_more}
+use Rattle.calls.specs.Indicators.{indicators_of, is_network}
+use Rattle.std.proofs.lemmas.Iterator.{YieldsList-from_range}
+use Rattle.std.proofs.lemmas.Iterator.Search.{any_from_yields_List}
+use Rattle.readiness.specs.Readiness.{network_missing, setting_missing}
+use Rattle.readiness.proofs.TurnLaws.{any-in-turn}
 use Rattle.readiness.proofs.network_missing.Goals as goal
 
-pub loop-which-init : goal.loop-which-init
-loop-which-init c = (omega arith, λ b joined settings k lt. absurd (omega (arith, lt)))
-
--- one is
-pub returns-then-asked_and_missing : goal.returns-then-asked_and_missing
-unfolding network_missing
-returns-then-asked_and_missing c = λ b joined settings.
-    let here = c.loop-which in
-    sym (any-passes setting_count _ here.which (omega arith) (sym (c.asked_and_missing.ensures b joined settings) ∙ c.if-asked_and_missing.true))
-
-pub loop-which-preserved : goal.loop-which-preserved
-loop-which-preserved c =
-    let here = c.loop-which in
-    (omega arith, λ b joined settings. below_more _ here.which (here.invariant.1 b joined settings) (sym (c.asked_and_missing.ensures b joined settings) ∙ c.if-asked_and_missing.false))
-
--- none is
 pub returns : goal.returns
 unfolding network_missing
-returns c = λ b joined settings.
-    let here = c.loop-which in
-    sym (none-of-each setting_count _ (λ k lt. here.invariant.1 b joined settings k (omega (arith, lt))))
+returns c =
+    let test = λ (which : ℕ). is_network (indicators_of c.args.kind) which && setting_missing c.args.b.now which in
+    any_from_yields_List test _ _ _ c.any.ensures.ran (YieldsList-from_range 0 setting_count 5 refl refl) (λ x t q k. search rules) ∙ any-in-turn test setting_count

@@ -1,23 +1,17 @@
--- `values::sums_of_years` meets its contract. The loop's invariant: the places passed hold their sums.
+-- `values::sums_of_years` meets its contract.
 -- Assumes nothing.
-use native.Mathlib.Omega.{arith}
-use mathlib.Core.Path.{refl}
+use Prim.Native.Nat.{ℕ, ◌+◌}
+use mathlib.Core.Bool.{cond}
+use mathlib.Core.List.{[]}
+use borrow.Author.Rules.{rules}
+use lib.ListN.{get_or}
+use Rattle.calls.specs.Masks.{has}
 use Rattle.values.specs.Sequence.{sums_of_years}
-use Rattle.values.proofs.Tables.{filling-none, filling-more, filling-each}
+use Rattle.values.proofs.Tables.{made-each}
 use Rattle.values.proofs.sums_of_years.Goals as goal
-
-pub loop-i-init : goal.loop-i-init
-loop-i-init c = filling-none _ _ refl
-
-pub score-requires : goal.score-requires
-score-requires c =
-    let small = c.requires in
-    let i = c.loop-i.i in
-    record { first_most = small.first_within i; second_most = small.second_within i; third_most = small.third_within i }
-
-pub loop-i-preserved : goal.loop-i-preserved
-loop-i-preserved c = filling-more _ _ c.loop-i.invariant (omega arith) c.score.ensures
 
 pub returns : goal.returns
 unfolding sums_of_years
-returns c = filling-each c.loop-i.invariant (omega arith)
+returns c =
+    let value : ℕ → ℕ → ℕ = λ year operator. get_or (get_or c.args.values year []) operator 0 in
+    made-each _ _ (λ (k : ℕ). cond (has c.args.mask k) (value 0 k + value 1 k + value 2 k) 0) (λ i y q lt call. search rules) _ c.from_fn.ensures.items

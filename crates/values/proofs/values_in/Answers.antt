@@ -1,41 +1,12 @@
 -- `values::values_in` meets its contract.
 -- Assumes nothing.
-use native.Mathlib.Omega.{arith}
 use Prim.Native.Nat.{ℕ}
-use mathlib.Core.Path.{◌≡◌, refl, sym}
-use Rattle.calls.specs.Limits.{cabins_in}
-use Rattle.calls.specs.Indicators.{electricity}
-use Rattle.values.specs.Indicator.{numbered, numbered_in}
+use borrow.Author.Rules.{rules}
+use Rattle.values.specs.Indicator.{yearly_value, numbered}
+use Rattle.values.proofs.Tables.{made-each}
 use Rattle.values.proofs.values_in.Goals as goal
 
--- A1
-pub returns-in-0 : goal.returns-in-0
-unfolding numbered numbered_in electricity
-returns-in-0 c = λ b measured. rw c.in-0.is (c.frequencies.ensures b measured.settings_are measured.figures_are cabins_in (sym c.cabins_in-cabins.ensures.0))
-
--- A2
-pub returns-in-1 : goal.returns-in-1
-unfolding numbered numbered_in electricity
-returns-in-1 c = λ b measured. rw c.in-1.is (c.durations.ensures b measured.figures_are)
-
--- A3
-pub returns-in-2 : goal.returns-in-2
-unfolding numbered numbered_in electricity
-returns-in-2 c = λ b measured. rw c.in-2.is (c.frequencies-in-2.ensures b measured.settings_are measured.figures_are (λ (year : ℕ). 1) refl)
-
--- A4
-pub returns-in-3 : goal.returns-in-3
-unfolding numbered numbered_in electricity
-returns-in-3 c = λ b measured. rw c.in-3.is (c.durations-in-3.ensures b measured.figures_are)
-
--- D1
-pub returns-in-4 : goal.returns-in-4
-unfolding numbered numbered_in electricity
-returns-in-4 c = λ b measured. rw c.in-4.is (c.fees.ensures b measured.figures_are measured.indices_are)
-
--- D2
-pub returns-in_default : goal.returns-in_default
-unfolding numbered numbered_in electricity
-returns-in_default c =
-    let last : c.args.number ≡ 5 = omega arith in
-    λ b measured. rw last (c.fees-in_default.ensures b measured.figures_are measured.indices_are)
+pub returns : goal.returns
+returns c =
+    made-each _ _ (λ (k : ℕ). yearly_value c.args.b.now (numbered c.args.number).measure k c.args.year) (λ i y q lt call. search rules) _
+    c.from_fn.ensures.items

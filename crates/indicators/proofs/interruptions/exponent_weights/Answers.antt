@@ -1,27 +1,22 @@
--- `indicators::interruptions::exponent_weights` meets its contract: the operators passed have their weights.
+-- `indicators::interruptions::exponent_weights` meets its contract.
 -- Assumes nothing.
-use mathlib.Core.Path.{refl}
+use Prim.Native.Nat.{ℕ, ◌<◌}
 use native.Mathlib.Omega.{arith}
+use borrow.Author.Rules.{rules}
 use lib.ListN.{get_or}
-use Rattle.values.proofs.Tables.{filling-none, filling-more, filling-each}
+use Rattle.apportion.proofs.FromFn.{callable-each}
+use Rattle.exponent.specs.Weight.{weight_of}
+use Rattle.values.proofs.Tables.{made-each}
 use Rattle.indicators.specs.Sequence.{exponent_weights}
 use Rattle.indicators.proofs.interruptions.exponent_weights.Goals as goal
 
-pub loop-i-init : goal.loop-i-init
-loop-i-init c = filling-none _ _ refl
-
-pub offset_bounds-table-thousandths : goal.offset_bounds-table-thousandths
-offset_bounds-table-thousandths c = omega (arith, c.requires c.loop-i.i)
-
-pub bounds-table-thousandths : goal.bounds-table-thousandths
-bounds-table-thousandths c = omega (arith, c.requires c.loop-i.i)
-
-pub loop-i-preserved : goal.loop-i-preserved
-loop-i-preserved c =
-    let here = c.loop-i in
-    let k = get_or c.args.thousandths here.i 0 in
-    filling-more _ _ here.invariant (omega arith) (c.all_weights-table.ensures k (c.requires here.i))
+pub from_fn-requires : goal.from_fn-requires
+from_fn-requires c =
+    let within : (k : ℕ) → get_or c.args.thousandths k 0 < 1001 = λ k. omega (arith, c.requires k) in
+    (omega arith, callable-each _ _ 16 _ (λ i y q call. search rules) (λ i lt. search (rules, within)))
 
 pub returns : goal.returns
 unfolding exponent_weights
-returns c = filling-each c.loop-i.invariant (omega arith)
+returns c = made-each _ _ (λ (k : ℕ). weight_of (get_or c.args.thousandths k 0)) (λ i y q lt call.
+    let value = c.all_weights-table.ensures (get_or c.args.thousandths i 0) (c.requires i) in
+    search (rules, value)) _ c.from_fn.ensures.items

@@ -3,7 +3,7 @@
 use mathlib.Core.Path.{◌∙◌, ap}
 use Rattle.values.specs.Sequence.{sums_of_years}
 use Rattle.values.specs.Steps.{YearsWithin}
-use Rattle.values.proofs.Scores.{sums_within, lent-within}
+use Rattle.values.proofs.Scores.{sums_within, years-within}
 use Rattle.indicators.specs.Steps.{ScoresWithin}
 use Rattle.indicators.specs.Sequence.{thousandths, exponent_weights, levelled_weights, in_sequence}
 use Rattle.indicators.proofs.SequenceLaws.{thousandths-most, own_most}
@@ -12,16 +12,16 @@ use Rattle.indicators.proofs.interruptions.interruption_weights.Goals.{After-yea
 
 -- what the results of the first two steps are within
 years-known : (m : After-yearly_values-values) → YearsWithin m.yearly_values-values.result
-years-known m = lent-within m.requires.0 m.requires.1 m.yearly_values-values.ensures
+years-known m = rw m.yearly_values-values.ensures (years-within m.args.b.now m.requires.0 m.args.number m.requires.1)
 
 sums-known : (m : After-sums_of_years-sums) → ScoresWithin m.sums_of_years-sums.result
-sums-known m = rw m.sums_of_years-sums.ensures (sums_within _ _ (lent-within m.requires.0 m.requires.1 m.yearly_values-values.ensures))
+sums-known m = rw m.sums_of_years-sums.ensures (sums_within _ _ (years-known m.before))
 
 pub returns : goal.returns
 unfolding in_sequence
 returns c =
-    λ b measured taking.
-    let values = c.yearly_values-values.ensures b measured in
+    λ taking.
+    let values = c.yearly_values-values.ensures in
     let sums = c.sums_of_years-sums.ensures ∙ (λ i. sums_of_years (taking i) (values i)) in
     let ks = c.thousandths_of-thousandths.ensures ∙ ap thousandths sums in
     let own = c.exponent_weights-weights.ensures ∙ ap exponent_weights ks in

@@ -15,14 +15,12 @@ pub returns : goal.returns
 unfolding pool
 returns c =
     let product = mul-le-mul c.points_a_year.ensures.1 c.ones_of.ensures.1 in (
-      λ b marked.
-          c.divide.ensures.0
+      c.divide.ensures.0
           ∙ rw (
             c.points_a_year.ensures.0,
             c.ones_of.ensures.0,
             c.ones_of-2.ensures.0,
-            c.reliable_mask.ensures b marked,
-            marked.joined_are,
+            c.reliable_mask.ensures,
           )
           refl,
       omega (arith, product, c.divide.ensures.1),

@@ -2,12 +2,9 @@
 -- Assumes nothing.
 use mathlib.Core.Path.{◌∙◌}
 use borrow.Author.Tests.{lt-ltb, le-ltb}
-use Rattle.book.specs.declared.Book.{Book}
-use Rattle.values.specs.Indicator.{numbered, scores}
-use Rattle.values.proofs.InRange.{of-lent}
+use Rattle.values.specs.Indicator.{numbered}
 use Rattle.values.proofs.Scores.{scored}
 use Rattle.indicators.specs.Points.{weights}
-use Rattle.indicators.specs.Steps.{ScoresWithin}
 use Rattle.indicators.proofs.Weighting.{level-of}
 use Rattle.indicators.proofs.SequenceLaws.{sequence-weights}
 use Rattle.indicators.proofs.pools.weights_of.Goals as goal
@@ -16,22 +13,17 @@ use Rattle.indicators.proofs.pools.weights_of.Goals as goal
 pub returns-then-number-lt4 : goal.returns-then-number-lt4
 returns-then-number-lt4 c =
     let number = c.args.number in
-    λ b marked measured.
-    c.interruption_weights.ensures b measured (c.reliable_mask-mask.ensures b marked)
-    ∙ sequence-weights b (numbered number) (level-of number c.requires.1 ∙ lt-ltb number 4 c.if-number-lt4.true)
+    c.interruption_weights.ensures c.reliable_mask-mask.ensures
+    ∙ sequence-weights c.args.b.now (numbered number) (level-of number c.requires.1 ∙ lt-ltb number 4 c.if-number-lt4.true)
 
 pub linear_weights-requires : goal.linear_weights-requires
 linear_weights-requires c =
-    let number = c.args.number in
-    of-lent (λ (b : Book). scores b (numbered number)) ScoresWithin
-    (λ b marked measured. c.scores_of-scores.ensures b measured (c.reliable_mask-mask.ensures b marked))
-    (scored _ c.requires.0 number c.requires.1)
+    rw (c.scores_of-scores.ensures c.reliable_mask-mask.ensures) (scored _ c.requires.0 c.args.number c.requires.1)
 
 -- D
 pub returns : goal.returns
 returns c =
     let number = c.args.number in
-    λ b marked measured.
-    let taking = c.reliable_mask-mask.ensures b marked in
+    let taking = c.reliable_mask-mask.ensures in
     c.linear_weights.ensures _ (level-of number c.requires.1 ∙ le-ltb number 4 c.if-number-lt4.false)
-    ∙ (λ i. weights (numbered number).measure (taking i) (c.scores_of-scores.ensures b measured taking i))
+    ∙ (λ i. weights (numbered number).measure (taking i) (c.scores_of-scores.ensures taking i))

@@ -1,32 +1,31 @@
--- `indicators::weights::linear_weights` meets its contract: the operators passed have their weights.
+-- `indicators::weights::linear_weights` meets its contract.
 -- Assumes nothing.
-use mathlib.Core.Path.{◌≡◌, refl, sym, ◌∙◌}
+use borrow.Author.Rules.{rules}
+use mathlib.Core.Path.{sym, ◌∙◌}
+use mathlib.Core.Bool.{cond}
 use native.Mathlib.Omega.{arith}
+use Prim.Native.Nat.{ℕ, ◌≤◌}
+use lib.ListN.{get_or}
+use Rattle.apportion.proofs.FromFn.{callable-each}
+use Rattle.calls.specs.Masks.{has}
 use Rattle.values.specs.Bounds.{score_most}
+use Rattle.values.proofs.Tables.{made-each}
 use Rattle.indicators.specs.Points.{normalised}
-use Rattle.values.proofs.Tables.{filling-none, filling-more, filling-each}
 use Rattle.indicators.proofs.Largest.{largest-ge, largest-le}
+use Rattle.indicators.proofs.WeightLaws.{linear_weight}
 use Rattle.indicators.proofs.Weighting.{linear-same}
-use Rattle.indicators.proofs.weights.linear_weights.Invariants.{linear_at}
 use Rattle.indicators.proofs.weights.linear_weights.Goals as goal
 
-pub loop-i-init : goal.loop-i-init
-loop-i-init c = filling-none _ _ refl
-
-pub linear_weight-requires : goal.linear_weight-requires
-linear_weight-requires c =
-    let i = c.loop-i.i in
+pub from_fn-requires : goal.from_fn-requires
+from_fn-requires c =
     let scores = c.args.scores in
-    omega (arith, largest-ge scores i, largest-le scores score_most c.requires, c.largest_of-top.ensures)
-
-pub loop-i-preserved : goal.loop-i-preserved
-unfolding normalised
-loop-i-preserved c =
-    let f = linear_at c.args.mask c.args.scores in
-    let here = c.loop-i in
-    let value : c.linear_weight.result ≡ f here.i = rw c.largest_of-top.ensures at c.linear_weight.ensures in
-    filling-more _ _ here.invariant (omega arith) value
+    let score_below : (k : ℕ) → get_or scores k 0 ≤ c.largest_of-top.result = λ k. omega (arith, largest-ge scores k, c.largest_of-top.ensures) in
+    let top_below : c.largest_of-top.result ≤ score_most = omega (arith, largest-le scores score_most c.requires, c.largest_of-top.ensures) in
+    (omega arith, callable-each _ _ 16 _ (λ i y q call. search rules) (λ i lt. search (rules, score_below, top_below)))
 
 pub returns : goal.returns
+unfolding normalised
 returns c =
-    λ measure linear. filling-each c.loop-i.invariant (omega arith) ∙ sym (linear-same c.args.mask c.args.scores measure linear)
+    λ measure linear.
+    made-each _ _ (λ (operator : ℕ). cond (has c.args.mask operator) (linear_weight c.args.scores operator) 0) (λ i y q lt call. search rules) _ c.from_fn.ensures.items
+    ∙ sym (linear-same c.args.mask c.args.scores measure linear)
