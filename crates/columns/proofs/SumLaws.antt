@@ -1,26 +1,20 @@
 -- The points of an operator, added up one indicator after another.
 -- Assumes nothing.
 use Prim.Native.Nat.{ℕ, ◌+◌, ◌*◌, ◌^◌, ◌<◌}
-use mathlib.Core.Path.{◌≡◌, refl, sym, ap, ◌∙◌}
+use mathlib.Core.Path.{◌≡◌, sym, ap, ◌∙◌}
 use mathlib.Core.List.{List, map}
 use native.Mathlib.Omega.{arith}
 use lib.ListN.{get_or}
 use Rattle.std.specs.List as S
 use Rattle.std.specs.List.{range_with_len}
 use Rattle.std.proofs.lemmas.List.FromFn.{fill_by_all}
-use Rattle.std.proofs.lemmas.List.Recursion.{is_sum_by}
 use Rattle.calls.specs.Limits.{indicator_count}
 use Rattle.apportion.specs.Sum.{sum}
-use Rattle.apportion.proofs.Sums.{sum_bound, element-le}
+use Rattle.apportion.proofs.Sums.{same_sum, sum_bound, element-le}
 use Rattle.values.specs.Operators.{table}
 use Rattle.values.proofs.Tables.{length-table, table_at}
 use Rattle.settlement.specs.declared.Settlement.{Settlement}
 use Rattle.columns.specs.Columns.{points_of_operator}
-
--- std's sum is the same
-pub same_sum : (xs : List ℕ) → S.sum xs ≡ sum xs
-unfolding sum
-same_sum xs = sym (is_sum_by sum (λ (x : ℕ). x) refl (λ _ _. refl) xs)
 
 module _ (points : List ℕ) (operator : ℕ) where
   abbrev pub point_of : ℕ → ℕ

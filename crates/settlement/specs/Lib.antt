@@ -1,4 +1,3 @@
 -- The definitions of `settlement`.
 pub mod Settlement
 pub mod Laws
-pub mod Steps

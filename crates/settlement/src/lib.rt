@@ -8,7 +8,7 @@ pub use gathering::POINT_PLACES;
 pub use settling::{settle, settle_as, settle_gas};
 
 // All 0 on refusal and for operators not joined.
-#[derive(Clone, Copy)]
+#[derive(Clone, Copy, Default)]
 pub struct Settlement {
     // In hundredths, by the indicators' numbers; 0 where the kind has none.
     pub pools: [u64; INDICATORS],
@@ -22,6 +22,7 @@ pub struct Settlement {
     pub adjustments: [i64; 16],
 }
 
+// Both, and not a Result: 01 asks for the numbers all 0 beside a refusal.
 #[derive(Clone, Copy)]
 pub struct Settled {
     pub settlement: Settlement,

@@ -4,7 +4,7 @@ use mathlib.Core.Path.{◌∙◌}
 use native.Mathlib.Omega.{arith}
 use Rattle.std.proofs.lemmas.Iterator.{YieldsList-from_slice}
 use Rattle.std.proofs.lemmas.Iterator.Consumers.{sum_from_yields_List, fits_from_yields_list}
-use Rattle.columns.proofs.SumLaws.{same_sum}
+use Rattle.apportion.proofs.Sums.{same_sum}
 use Rattle.columns.proofs.total_points.Goals as goal
 
 pub sum-requires-clause-fits : goal.sum-requires-clause-fits

@@ -17,10 +17,10 @@ ranged : (c : Else-not-in_range) → in_range (indicators_of c.args.kind) c.args
 ranged c = sym c.in_range.ensures ∙ c.if-not-in_range.false
 
 missing : (c : After-network_missing) → c.network_missing.result ≡ network_missing c.args.b (indicators_of c.args.kind)
-missing c = c.network_missing.ensures _ refl refl
+missing c = c.network_missing.ensures
 
 marked : (c : After-all_marked) → c.all_marked.result ≡ all_marked c.args.b (indicators_of c.args.kind)
-marked c = c.all_marked.ensures c.args.b (ranged-within _ _ (sym c.in_range.ensures ∙ c.if-not-in_range.false)) (record { joined_are = refl; marks_are = refl })
+marked c = c.all_marked.ensures (ranged-within _ _ (sym c.in_range.ensures ∙ c.if-not-in_range.false))
 
 -- 5
 pub returns-then-not-in_range : goal.returns-then-not-in_range
