@@ -1,18 +1,16 @@
 -- Numbers of a filing: one byte more, a number inside a content, and bits read as a signed number.
 -- Assumes nothing.
-use Prim.Native.Nat.{ℕ, zero, suc, ◌+◌, ◌*◌, ◌-◌, ◌^◌, ◌≤◌, ◌<◌}
+use Prim.Native.Nat.{ℕ, zero, suc, ◌+◌, ◌*◌, ◌^◌, ◌≤◌, ◌<◌}
 use mathlib.Core.Path.{◌≡◌, refl, sym, ap, ◌∙◌}
 use mathlib.Core.List.{List, [], ◌∷◌, ◌++◌}
 use native.Mathlib.Numerals.{add-one}
 use native.Mathlib.Nat.{pow-suc, pow-le-pow_right, add-zero}
 use native.Mathlib.Omega.{arith}
-use lib.IntN.{pos, negsuc, ◌-ℤ◌}
-use lib.ListN.{length, get_or, take, drop, length-append, length-drop}
+use lib.ListN.{length, get_or, take, drop, length-append, length-drop, length-take}
 use lib.Seq.{take-suc, take-take, drop-drop, get_or-take, get_or-drop}
-use borrow.Author.Tests.{lt-ltb, le-ltb}
+use borrow.Author.Tests.{lt-ltb}
 use mir.Syntax.{w64}
-use mir.Val.{SFits, to_z, of_z}
-use mir.Facts.{to_z_pos, to_z-of_z}
+use mir.Val.{to_z}
 use Rattle.contents.specs.Content.{big_endian, unsigned, twos_complement, signed}
 
 big-endian-more : (bytes : List ℕ) (last : ℕ) → big_endian (bytes ++ (last ∷ [])) ≡ big_endian bytes * 256 + last
@@ -78,27 +76,14 @@ module _ (bytes : List ℕ) (at size place : ℕ) where
   pub byte-in : place < size → get_or (take size (drop at bytes)) place 0 ≡ get_or bytes (at + place) 0
   byte-in lt = rw (get_or-take, get_or-drop) refl
 
+-- a byte of the run that a number's bytes are
+pub byte-of-run : (bytes run : List ℕ) (at width place : ℕ) → run ≡ take width (drop at bytes) → place < length run
+    → (place < width) × (get_or run place 0 ≡ get_or bytes (at + place) 0)
+byte-of-run bytes run at width place is within =
+    let inside : place < width = omega (arith, ap (λ (l : List ℕ). length l) is, length-take width (drop at bytes)) in
+    (inside, ap (λ (l : List ℕ). get_or l place 0) is ∙ byte-in bytes at width place inside)
+
 -- 64 bits read as a signed number
-module _ (bits : ℕ) where
-  pub positive : bits < 2 ^ 63 → to_z w64 bits ≡ twos_complement bits
-  unfolding twos_complement
-  positive small = rw (lt-ltb bits (2 ^ 63) small) refl
-
-  module _ (large : 2 ^ 63 ≤ bits) (fits : bits < 2 ^ 64) where
-    below-zero : (n : ℕ) → negsuc 0 -ℤ pos n ≡ negsuc n
-    below-zero zero = refl
-    below-zero (suc n) = ap negsuc (omega arith)
-
-    negative : negsuc 0 -ℤ to_z w64 (2 ^ 64 - 1 - bits) ≡ twos_complement bits
-    unfolding twos_complement
-    negative =
-        let small : 2 ^ 64 - 1 - bits < 2 ^ 63 = omega arith in
-        let less : 2 ^ 64 - 1 - bits ≡ 2 ^ 64 - suc bits = omega arith in
-        rw (to_z_pos w64 small, le-ltb bits (2 ^ 63) large, lt-ltb bits (2 ^ 64) fits) (below-zero (2 ^ 64 - 1 - bits) ∙ ap negsuc less)
-
-    pub negative_fits : SFits w64 (negsuc 0 -ℤ to_z w64 (2 ^ 64 - 1 - bits))
-    unfolding twos_complement
-    negative_fits = rw (negative, le-ltb bits (2 ^ 63) large, lt-ltb bits (2 ^ 64) fits) (record { sfits = omega arith })
-
-    pub negative-is : to_z w64 (of_z w64 (negsuc 0 -ℤ to_z w64 (2 ^ 64 - 1 - bits))) ≡ twos_complement bits
-    negative-is = to_z-of_z negative_fits ∙ negative
+pub bits-signed : (bits : ℕ) → bits < 2 ^ 64 → to_z w64 bits ≡ twos_complement bits
+unfolding twos_complement
+bits-signed bits fits = rw (lt-ltb bits (2 ^ 64) fits) refl
