@@ -1,4 +1,5 @@
 // A filing from the folder that a program is run in: its bytes, or that it could not be read. What is read no contract can say.
+// The buffers are the caller's, of a fixed size: the programs have no heap.
 #![tactic(auto)]
 
 ghost use Rattle.std.specs.Prelude.{◌≤◌, length};

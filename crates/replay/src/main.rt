@@ -38,6 +38,7 @@ const GAS: u8 = 213;
 const ELECTRICITY: u8 = 214;
 
 fn main(rt: HostRuntime) -> io::Result<()> {
+    // Fixed memory: the programs have no heap.
     let mut bytes = [0u8; 65536];
     let count = read_input(&mut rt.reader(), &mut bytes);
     run(&rt, &bytes[..count], routes::by_value)?;
@@ -48,6 +49,7 @@ fn main(rt: HostRuntime) -> io::Result<()> {
 fn read_input<R: Read>(reader: &mut R, bytes: &mut [u8]) -> usize
     ensures { result ≤ length bytes.new }
 {
+    // Where the next read puts its bytes: `read_to_end`, which keeps count itself, wants a Vec.
     let mut count = 0;
     while let Ok(more @ 1..) = reader.read(&mut bytes[count..]) {
         count += more;
