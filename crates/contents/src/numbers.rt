@@ -16,7 +16,14 @@ pub fn unsigned_at(bytes: &[u8], at: usize, width: usize) -> u64
     number
 }
 
-// Eight bytes by halves, of which the compiler makes one load: a field takes up to a third fewer instructions so.
+pub(crate) fn four_at(bytes: &[u8], at: usize) -> u32
+    requires { at + 4 ≤ length bytes.now }
+    ensures { result ≡ unsigned 4 bytes.now at }
+{
+    u32::from_be_bytes(*bytes[at..].first_chunk().unwrap())
+}
+
+// Eight bytes by halves, of which the compiler makes one load: a number takes three instructions fewer so than by `from_be_bytes`.
 pub(crate) fn eight_at(bytes: &[u8], at: usize) -> u64
     requires { at + 8 ≤ length bytes.now }
     ensures { result ≡ unsigned 8 bytes.now at }
