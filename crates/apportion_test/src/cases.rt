@@ -1,5 +1,4 @@
 // The cases, seventeen numbers each: T and sixteen weights. After them rows of sixteen sizes, with each of which every case is shared.
-pub(crate) const COUNT: usize = 272;
 
 // Where the first row of sizes begins.
 pub(crate) const SIZES: usize = 1156;

@@ -2,7 +2,7 @@
 ghost use Rattle.std.specs.Prelude.{◌≡◌, true, ◌+◌, ◌≤◌, length, take, drop};
 ghost use Rattle.contents.specs.Content.{is_known, tagged};
 
-use crate::numbers::{eight_at, signed_at, unsigned_at};
+use crate::numbers::{eight_at, four_at, signed_at};
 use calls::Call;
 
 // The call of a known tag whose content starts at an offset and does not pass the end.
@@ -45,7 +45,7 @@ fn interruption_at(bytes: &[u8], at: usize) -> Call
         cause: bytes[at + 3],
         start: signed_at(bytes, at + 4),
         end: signed_at(bytes, at + 12),
-        weight: unsigned_at(bytes, at + 20, 4) as u32,
+        weight: four_at(bytes, at + 20),
     }
 }
 
@@ -78,8 +78,8 @@ fn rates_at(bytes: &[u8], at: usize) -> Call
     ensures { result ≡ (tagged 6).call (take 8 (drop at bytes.now)) }
 {
     Call::Rates {
-        pot: unsigned_at(bytes, at, 4) as u32,
-        cap: unsigned_at(bytes, at + 4, 4) as u32,
+        pot: four_at(bytes, at),
+        cap: four_at(bytes, at + 4),
     }
 }
 
@@ -89,6 +89,6 @@ fn index_at(bytes: &[u8], at: usize) -> Call
 {
     Call::Index {
         number: bytes[at],
-        value: unsigned_at(bytes, at + 1, 4) as u32,
+        value: four_at(bytes, at + 1),
     }
 }

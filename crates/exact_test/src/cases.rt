@@ -1,6 +1,4 @@
 // The cases, three numbers each: t, w and s.
-pub(crate) const COUNT: usize = 60;
-
 pub(crate) const CASES: [u64; 180] = [
     0,
     0,

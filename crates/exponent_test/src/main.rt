@@ -5,11 +5,7 @@ use std::io;
 
 fn main(rt: HostRuntime) -> io::Result<()> {
     for k in 0..1001 {
-        print_line(&rt, exponent::weight(k))?;
+        println!(&rt; "{}", exponent::weight(k))?;
     }
     Ok(())
-}
-
-fn print_line(rt: &impl Print, n: u64) -> io::Result<()> {
-    println!(rt; "{n}")
 }

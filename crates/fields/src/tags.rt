@@ -9,8 +9,8 @@ use crate::Field;
 use calls::{Kind, Refusal, takes_interruptions};
 use contents::call_at;
 
-// Of so many bytes of content that start at an offset and do not pass the end. One match on the tag leads to its size and its call, of
-// which the compiler makes one jump.
+// Of so many bytes of content that start at an offset and do not pass the end. The tag is a number of the input, which may be none that is
+// known. One match on it leads to its size and its call, of which the compiler makes one jump.
 pub(crate) fn content_at(kind: Kind, tag: u8, size: usize, bytes: &[u8], at: usize) -> Field
     requires { at + size ≤ length bytes.now }
     ensures { field_said result ≡ content_said (indicators_of kind) tag size bytes.now at }

@@ -5,7 +5,7 @@ ghost use Rattle.book.specs.Book.{fresh_book};
 ghost use Rattle.filing.specs.Reader.{told, read_as, read_gas, read};
 
 use crate::held;
-use calls::{Kind, takes_interruptions};
+use calls::Kind;
 use filing::Reading;
 
 // What reading gives, of the filing alone.
@@ -26,8 +26,8 @@ pub fn read_fresh_gas(bytes: &[u8]) -> Reading
 pub fn read_fresh_as(kind: Kind, bytes: &[u8]) -> Reading
     ensures { told result ≡ read_as (indicators_of kind) fresh_book bytes.now }
 {
-    if takes_interruptions(kind) {
-        return read_fresh(bytes);
+    match kind {
+        Kind::Electricity => read_fresh(bytes),
+        Kind::Gas => read_fresh_gas(bytes),
     }
-    read_fresh_gas(bytes)
 }

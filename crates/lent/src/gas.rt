@@ -1,4 +1,4 @@
-// The filing calls, and reading a filing, with a book of gas lent. Each is its core of the same name, lent.
+// The filing calls, and reading a filing, with a book of gas lent. Each is its core of the same name, lent. 02 wants calls of their own for gas.
 ghost use Rattle.std.specs.Prelude.{◌≡◌};
 ghost use Rattle.ledger.specs.Filed.{FilesGas};
 ghost use Rattle.filing.specs.Reader.{reached_by, read_gas};

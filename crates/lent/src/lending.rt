@@ -1,5 +1,5 @@
 // The filing calls with the book lent. Each is its core of the same name, lent: the core is given a copy of the book, the book that it leaves is
-// stored where the lent one stands, and its answer is the answer.
+// stored where the lent one stands, and its answer is the answer. 01 wants such a thin call for each.
 ghost use Rattle.ledger.specs.Filed.{Files};
 
 use book::Book;

@@ -4,17 +4,20 @@
 #![tactic(auto)]
 
 mod asked;
-mod gas_routes;
+mod commands;
 mod routes;
 mod show;
 mod stores;
 
-ghost use Rattle.std.specs.Prelude.{◌+◌, ◌≤◌, ◌<◌, length};
+ghost use Rattle.std.specs.Prelude.{◌≤◌, length};
 
 use book::Book;
-use calls::Kind;
+use bookkeeping::Answered;
+use calls::{Call, Kind};
+use commands::{Command, Commands, HEADER};
 use fields::{Field, field_at};
-use printing::print::{equals, put, word};
+use printing::print::answered;
+use printing::{arguments, words};
 use std::io;
 use std::io::Read;
 
@@ -34,45 +37,51 @@ const GAS: u8 = 213;
 
 const ELECTRICITY: u8 = 214;
 
-// Tag and length.
-const HEADER: usize = 3;
-
 fn main(rt: HostRuntime) -> io::Result<()> {
+    // Fixed memory: the programs have no heap.
     let mut bytes = [0u8; 65536];
     let count = read_input(&mut rt.reader(), &mut bytes);
-    replay(&rt, &bytes[..count])
+    run(&rt, &bytes[..count], routes::by_value)?;
+    run(&rt, &bytes[..count], routes::lent)
 }
 
 // As much of the input as there is room for. Where it cannot be read on it ends.
 fn read_input<R: Read>(reader: &mut R, bytes: &mut [u8]) -> usize
     ensures { result ≤ length bytes.new }
 {
+    // Where the next read puts its bytes: `read_to_end`, which keeps count itself, wants a Vec.
     let mut count = 0;
-    while count < bytes.len() {
-        match reader.read(&mut bytes[count..]) {
-            Ok(0) => break,
-            Ok(more) => count += more,
-            Err(_) => break,
-        }
+    while let Ok(more @ 1..) = reader.read(&mut bytes[count..]) {
+        count += more;
     }
     count
 }
 
-fn replay(rt: &impl Print, bytes: &[u8]) -> io::Result<()> {
-    run(rt, bytes, false)?;
-    run(rt, bytes, true)
-}
-
-fn run(rt: &impl Print, bytes: &[u8], lends: bool) -> io::Result<()> {
+// Filing calls are done by a route.
+fn run<F: Fn(Kind, Book, Call) -> Answered>(
+    rt: &impl Print,
+    bytes: &[u8],
+    route: F,
+) -> io::Result<()>
+    requires { F.IsAlwaysCallable route }
+{
     let mut kind = Kind::Electricity;
     let mut b = book::fresh();
-    let mut at = 0;
-    while HEADER <= bytes.len() - at {
-        word(rt, bytes[at] % 200)?;
-        kind = kind_by(bytes[at], kind);
-        b = step(rt, kind, b, lends, bytes, at)?;
-        put(rt, b'\n')?;
-        at = after(bytes, at);
+    for command in Commands(bytes) {
+        print!(rt; "{}", words::word_of(command.tag % 200))?;
+        match field_at(command.bytes, 0) {
+            Field::CallThen { filing_call, .. } => {
+                arguments::print(rt, filing_call)?;
+                let filed = route(kind, b, filing_call);
+                b = filed.book;
+                answered(rt, filed.answer)?;
+            }
+            _ => {
+                kind = kind_by(command.tag, kind);
+                other(rt, kind, &mut b, command)?;
+            }
+        }
+        println!(rt)?;
     }
     Ok(())
 }
@@ -86,58 +95,19 @@ fn kind_by(command: u8, kind: Kind) -> Kind {
     }
 }
 
-// Where the next field starts. No content here takes 256 bytes.
-fn after(bytes: &[u8], at: usize) -> usize
-    requires { at + 3 ≤ length bytes.now }
-    ensures { (at < result) × (result ≤ length bytes.now) }
-{
-    let size = wide(bytes[at + 2]);
-    if bytes.len() - at - HEADER < size {
-        return bytes.len();
-    }
-    at + HEADER + size
-}
-
-fn wide(byte: u8) -> usize
-    ensures { result < 256 }
-{
-    byte as usize
-}
-
-// One command; bytes that are none do nothing.
-fn step(
-    rt: &impl Print,
-    kind: Kind,
-    b: Book,
-    lends: bool,
-    bytes: &[u8],
-    at: usize,
-) -> io::Result<Book>
-    requires { at + 3 ≤ length bytes.now }
-{
-    match field_at(bytes, at) {
-        Field::CallThen { filing_call, next } => routes::filed(rt, kind, b, lends, filing_call),
-        _ => other(rt, kind, b, bytes, at),
-    }
-}
-
-fn other(rt: &impl Print, kind: Kind, b: Book, bytes: &[u8], at: usize) -> io::Result<Book>
-    requires { at + 3 ≤ length bytes.now }
-{
-    match bytes[at] {
-        FRESH => show::book(rt, book::fresh()),
+// A command that is no filing call; bytes that are none do nothing.
+fn other(rt: &impl Print, kind: Kind, b: &mut Book, command: Command) -> io::Result<()> {
+    match command.tag {
+        FRESH => {
+            *b = book::fresh();
+            show::book(rt, b)
+        }
         SHOW => show::book(rt, b),
-        SETTLE => show::settled(rt, kind, b),
-        STORE => stores::stored(rt, b, field_at(bytes, at + HEADER)),
-        SHEET => asked::sheet(rt, b, field_at(bytes, at + HEADER)),
-        GAS | ELECTRICITY => named(rt, b),
-        _ => Ok(b),
+        SETTLE => show::settled(rt, kind, *b),
+        STORE => stores::stored(rt, b, field_at(command.bytes, HEADER)),
+        SHEET => asked::sheet(rt, *b, field_at(command.bytes, HEADER)),
+        // Naming a kind has no answer, and leaves the book.
+        GAS | ELECTRICITY => print!(rt; " = "),
+        _ => Ok(()),
     }
-}
-
-// Naming a kind has no answer, and leaves the book.
-fn named(rt: &impl Print, b: Book) -> io::Result<Book> {
-    equals(rt)?;
-    put(rt, b' ')?;
-    Ok(b)
 }

@@ -3,11 +3,10 @@ use crate::show;
 use book::{Book, figure_slot, setting_slot};
 use calls::{Call, FIGURES, INDICATORS, INDICES, OPERATORS, SETTINGS, YEARS};
 use fields::Field;
-use printing::print::{byte, label, number};
-use printing::words;
+use printing::words::{self, word_of};
 use std::io;
 
-// The kinds of values.
+// The kinds of values, numbers of the input: one that there is not has some other word, and its value becomes a setting.
 const JOINED: u8 = 0;
 
 const MARKS: u8 = 1;
@@ -23,67 +22,54 @@ const INDEX: u8 = 5;
 const SETTING: u8 = 6;
 
 // The field inside a store: in place of an amount's operator the kind, of year, figure and sign the place.
-pub(crate) fn stored(rt: &impl Print, b: Book, field: Field) -> io::Result<Book> {
-    let Field::CallThen { filing_call, next } = field else {
-        return Ok(b);
-    };
-    let Call::Amount {
-        operator,
-        year,
-        figure,
-        sign,
-        value,
-    } = filing_call
+pub(crate) fn stored(rt: &impl Print, b: &mut Book, field: Field) -> io::Result<()> {
+    let Field::CallThen {
+        filing_call: Call::Amount {
+            operator: kind,
+            year: first,
+            figure: second,
+            sign: third,
+            value,
+        },
+        ..
+    } = field
     else {
-        return Ok(b);
+        return Ok(());
     };
-    print_store(rt, operator, year, figure, sign)?;
-    number(rt, value)?;
-    show::book(rt, store(b, operator, year, figure, sign, value))
+    print_place(rt, kind, first, second, third)?;
+    print!(rt; " {value}")?;
+    store(b, kind, first, second, third, value);
+    show::book(rt, b)
 }
 
-fn print_store(rt: &impl Print, kind: u8, first: u8, second: u8, third: u8) -> io::Result<()> {
-    // A kind that there is not has some other word.
-    label(rt, words::JOINED + kind % 64)?;
+fn print_place(rt: &impl Print, kind: u8, first: u8, second: u8, third: u8) -> io::Result<()> {
+    print!(rt; " {}", word_of(words::JOINED + kind % 64))?;
     match kind {
         JOINED | POT | CAP => Ok(()),
-        FIGURE => {
-            byte(rt, first)?;
-            byte(rt, second)?;
-            byte(rt, third)
-        }
-        SETTING => {
-            byte(rt, first)?;
-            byte(rt, second)
-        }
-        _ => byte(rt, first),
+        FIGURE => print!(rt; " {first} {second} {third}"),
+        SETTING => print!(rt; " {first} {second}"),
+        _ => print!(rt; " {first}"),
     }
 }
 
-fn store(b: Book, kind: u8, first: u8, second: u8, third: u8, value: u64) -> Book {
-    let mut next = b;
+fn store(b: &mut Book, kind: u8, first: u8, second: u8, third: u8, value: u64) {
     match kind {
-        JOINED => next.joined = half(value),
-        MARKS => next.marks[first as usize % INDICATORS] = half(value),
-        FIGURE => next.figures[figure_slot(
-            first % OPERATORS as u8,
-            second % YEARS as u8,
-            third % FIGURES as u8,
-        )] = value,
-        POT => next.pot_rate = thirty_two(value),
-        CAP => next.cap_rate = thirty_two(value),
-        INDEX => next.indices[first as usize % INDICES] = thirty_two(value),
+        JOINED => b.joined = (value % 65536) as u16,
+        MARKS => b.marks[first as usize % INDICATORS] = (value % 65536) as u16,
+        FIGURE => {
+            let slot = figure_slot(
+                first % OPERATORS as u8,
+                second % YEARS as u8,
+                third % FIGURES as u8,
+            );
+            b.figures[slot] = value;
+        }
+        POT => b.pot_rate = (value % 4294967296) as u32,
+        CAP => b.cap_rate = (value % 4294967296) as u32,
+        INDEX => b.indices[first as usize % INDICES] = (value % 4294967296) as u32,
         _ => {
-            next.settings[setting_slot(first % OPERATORS as u8, second % SETTINGS as u8)] = value;
+            let slot = setting_slot(first % OPERATORS as u8, second % SETTINGS as u8);
+            b.settings[slot] = value;
         }
     }
-    next
-}
-
-fn half(n: u64) -> u16 {
-    (n % 65536) as u16
-}
-
-fn thirty_two(n: u64) -> u32 {
-    (n % 4294967296) as u32
 }

@@ -6,10 +6,10 @@ ghost use Rattle.std.specs.Prelude.{◌<◌};
 ghost use Rattle.calls.specs.Limits.{operators, setting_count};
 
 use book::Book;
-use calls::{Answer, FIGURE_PLACES, SETTING_PLACES, SETTINGS};
+use calls::{Answer, SETTINGS};
 use std::env::FillError;
-use std::io;
 use std::rt::Env;
+use std::{array, io};
 
 fn main(rt: HostRuntime) -> io::Result<()> {
     let b = full_book();
@@ -37,13 +37,8 @@ fn settled(b: Book, i: usize) -> u64 {
     let mut next = b;
     next.settings[2] = 1000000000 + (i % 1000) as u64;
     let s = settlement::settle(next);
-    let answer = s.answer;
-    match answer {
-        Answer::Yes => {
-            let numbers = s.settlement;
-            let returns = numbers.returns;
-            returns[0]
-        }
+    match s.answer {
+        Answer::Yes => s.settlement.returns[0],
         _ => 0,
     }
 }
@@ -52,21 +47,11 @@ fn settled(b: Book, i: usize) -> u64 {
 fn full_book() -> Book {
     let mut b = book::fresh();
     b.joined = 65535;
-    let list = settings();
-    b.settings = list;
-    let amounts = figures();
-    b.figures = amounts;
+    b.settings = array::from_fn(|i| setting((i / SETTINGS) as u64, (i % SETTINGS) as u64));
+    b.figures = array::from_fn(|i| 100000000000 - 1234567 * i as u64);
     b.pot_rate = 20000;
     b.cap_rate = 10000;
     b
-}
-
-fn settings() -> [u64; SETTING_PLACES] {
-    let mut list = [0u64; SETTING_PLACES];
-    for i in 0..SETTING_PLACES {
-        list[i] = setting((i / SETTINGS) as u64, (i % SETTINGS) as u64);
-    }
-    list
 }
 
 // Access points, income, or the cabins of a year, which differ from year to year.
@@ -78,12 +63,4 @@ fn setting(operator: u64, which: u64) -> u64
         2 => 100000000000 - 12345 * operator,
         _ => 1000 + 37 * operator + 500 * which,
     }
-}
-
-fn figures() -> [u64; FIGURE_PLACES] {
-    let mut list = [0u64; FIGURE_PLACES];
-    for i in 0..FIGURE_PLACES {
-        list[i] = 100000000000 - 1234567 * i as u64;
-    }
-    list
 }

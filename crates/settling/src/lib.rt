@@ -3,7 +3,7 @@
 #![tactic(auto)]
 
 use calls::Kind;
-use load::{Begun, Loaded, begin_filing, load_rest};
+use load::{Begun, Told, begin_filing, load_rest};
 use output::output_as;
 use std::fs::File;
 use std::rt::Files;
@@ -14,9 +14,9 @@ const FRONT: usize = 2048;
 pub fn print_settlement<R: Files<File = File> + Print + Eprint>(rt: &R, kind: Kind) {
     let mut front = [0u8; FRONT];
     match begin_filing(rt, &mut front) {
-        Begun::Whole(length) => print_output(rt, kind, &front[..length]),
-        Begun::Full(file) => print_long(rt, kind, file, &front),
-        Begun::Failed => {}
+        Ok(Begun::Whole(length)) => print_output(rt, kind, &front[..length]),
+        Ok(Begun::Full(file)) => print_long(rt, kind, file, &front),
+        Err(Told) => {}
     }
 }
 
@@ -24,9 +24,8 @@ pub fn print_settlement<R: Files<File = File> + Print + Eprint>(rt: &R, kind: Ki
 fn print_long<R: Print + Eprint>(rt: &R, kind: Kind, file: File, front: &[u8; FRONT]) {
     // One byte more than a filing may have, so that a longer one shows.
     let mut filing = [0u8; 65537];
-    match load_rest(rt, file, front, &mut filing) {
-        Loaded::Bytes(length) => print_output(rt, kind, &filing[..length]),
-        Loaded::Failed => {}
+    if let Ok(length) = load_rest(rt, file, front, &mut filing) {
+        print_output(rt, kind, &filing[..length]);
     }
 }
 

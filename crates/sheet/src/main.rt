@@ -2,7 +2,7 @@
 // that its two arguments give. What is printed for them is `sheet_output`'s to say.
 #![tactic(auto)]
 
-use load::{Loaded, load_filing};
+use load::load_filing;
 use sheet_output::{Argument, argument_of, sheet_output};
 use std::fs::File;
 use std::rt::{Env, Files};
@@ -32,9 +32,8 @@ fn argument<R: Env>(rt: &R, i: usize) -> Argument {
 fn print_sheet<R: Files<File = File> + Print + Eprint>(rt: &R, operator: u8, year: u8) {
     // One byte more than a filing may have, so that a longer one shows.
     let mut filing = [0u8; 65537];
-    match load_filing(rt, &mut filing) {
-        Loaded::Bytes(length) => print_output(rt, &filing[..length], operator, year),
-        Loaded::Failed => {}
+    if let Ok(length) = load_filing(rt, &mut filing) {
+        print_output(rt, &filing[..length], operator, year);
     }
 }
 

@@ -3,100 +3,76 @@
 #![tactic(auto)]
 
 use book::Book;
-use calls::{Answer, Kind, Reason, Refusal};
+use calls::{Answer, Kind, Reason};
 use fields::Field;
-use load::{Loaded, load_filing};
+use load::load_filing;
 use std::fs::File;
 use std::rt::Files;
-
-// The book by now, and the offset of the next field.
-#[derive(Clone, Copy)]
-struct Walk {
-    book: Book,
-    offset: usize,
-}
 
 pub fn print_outcomes<R: Files<File = File> + Print + Eprint>(rt: &R, kind: Kind) {
     // One byte more than a filing may have, so that a longer one shows.
     let mut filing = [0u8; 65537];
-    match load_filing(rt, &mut filing) {
-        Loaded::Bytes(length) => tell(rt, kind, &filing[..length]),
-        Loaded::Failed => {}
+    if let Ok(length) = load_filing(rt, &mut filing) {
+        tell(rt, kind, &filing[..length]);
     }
 }
 
 fn tell<R: Print>(rt: &R, kind: Kind, filing: &[u8]) {
     if 65536 < filing.len() {
-        put(rt, b"too long\n");
+        let _ = println!(rt; "too long");
         return;
     }
-    let book = book::fresh();
-    let mut walk = Walk { book, offset: 0 };
+    let mut book = book::fresh();
+    let mut offset = 0;
     // A filing has fewer fields than bytes.
-    let mut i = 0;
-    while i < filing.len() {
-        walk = step(rt, kind, walk, filing);
-        i += 1;
+    for _ in filing {
+        let Some(next) = step(rt, kind, &mut book, filing, offset) else {
+            return;
+        };
+        offset = next;
     }
 }
 
-// One field; a refused one is followed by the end.
-fn step<R: Print>(rt: &R, kind: Kind, walk: Walk, filing: &[u8]) -> Walk {
-    let mut book = walk.book;
-    let mut offset = filing.len();
-    match fields::field_in(kind, filing, walk.offset) {
+// One field: where the next one starts, or none after the end and after a field that is refused.
+fn step<R: Print>(
+    rt: &R,
+    kind: Kind,
+    book: &mut Book,
+    filing: &[u8],
+    offset: usize,
+) -> Option<usize> {
+    match fields::field_in(kind, filing, offset) {
         Field::CallThen { filing_call, next } => {
-            let filed = bookkeeping::file_as(kind, book, filing_call);
-            let answer = filed.answer;
-            book = filed.book;
-            if put_answer(rt, walk.offset, answer) {
-                offset = next;
+            let filed = bookkeeping::file_as(kind, *book, filing_call);
+            *book = filed.book;
+            put_answer(rt, offset, filed.answer);
+            if let Answer::Refused(_) = filed.answer {
+                return None;
             }
+            Some(next)
         }
-        Field::End => {}
-        Field::Refused(refusal) => put_refusal(rt, walk.offset, refusal),
-    }
-    Walk { book, offset }
-}
-
-// Whether a call was accepted, which is printed.
-fn put_answer<R: Print>(rt: &R, offset: usize, answer: Answer) -> bool {
-    match answer {
-        Answer::Yes => put_word(rt, offset, b" yes\n"),
-        Answer::Counted { year } => put_numbered(rt, offset, b" counted ", year),
-        Answer::LeftOut(reason) => put_reason(rt, offset, reason),
-        Answer::Refused(refusal) => {
-            put_refusal(rt, offset, refusal);
-            return false;
+        Field::End => None,
+        Field::Refused(refusal) => {
+            put_answer(rt, offset, Answer::Refused(refusal));
+            None
         }
     }
-    true
 }
 
-fn put_reason<R: Print>(rt: &R, offset: usize, reason: Reason) {
+fn put_answer<R: Print>(rt: &R, offset: usize, answer: Answer) {
+    let _ = match answer {
+        Answer::Yes => println!(rt; "{offset} yes"),
+        Answer::Counted { year } => println!(rt; "{offset} counted {year}"),
+        Answer::LeftOut(reason) => println!(rt; "{offset} {}", name_of(reason)),
+        Answer::Refused(refusal) => println!(rt; "{offset} refused {}", calls::number_of(refusal)),
+    };
+}
+
+fn name_of(reason: Reason) -> &'static str {
     match reason {
-        Reason::Short => put_word(rt, offset, b" short\n"),
-        Reason::Planned => put_word(rt, offset, b" planned\n"),
-        Reason::Coupled => put_word(rt, offset, b" coupled\n"),
-        Reason::Exceptional => put_word(rt, offset, b" exceptional\n"),
+        Reason::Short => "short",
+        Reason::Planned => "planned",
+        Reason::Coupled => "coupled",
+        Reason::Exceptional => "exceptional",
     }
-}
-
-fn put_refusal<R: Print>(rt: &R, offset: usize, refusal: Refusal) {
-    put_numbered(rt, offset, b" refused ", calls::number_of(refusal));
-}
-
-fn put_numbered<R: Print>(rt: &R, offset: usize, word: &[u8], number: u8) {
-    put_word(rt, offset, word);
-    let _ = rt.print(number);
-    put(rt, b"\n");
-}
-
-fn put_word<R: Print>(rt: &R, offset: usize, word: &[u8]) {
-    let _ = rt.print(offset);
-    put(rt, word);
-}
-
-fn put<R: Print>(rt: &R, text: &[u8]) {
-    let _ = rt.write_all(text);
 }

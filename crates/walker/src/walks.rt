@@ -14,7 +14,8 @@ pub fn walk(bytes: &[u8]) -> Walked
     let mut fields = 0;
     let mut walker = walker_over(bytes);
     let mut taken = next(walker);
-    // A field moves the walker on by 3 bytes or more; nothing else does.
+    // A field moves the walker on by 3 bytes or more; nothing else does. No iterator: it would end by None, and the walk tells where it ends
+    // and what stands there, which `next` gives.
     while walker.offset < taken.walker.offset {
         fields += 1;
         walker = taken.walker;

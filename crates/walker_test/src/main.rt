@@ -1,7 +1,7 @@
 // Walks over a few filings, and prints each as bytes = well formed fields, the offset where the walk ends, what stands there.
 #![tactic(auto)]
 
-use calls::{Refusal, number_of};
+use calls::number_of;
 use fields::Field;
 use std::io;
 
@@ -32,42 +32,14 @@ fn main(rt: HostRuntime) -> io::Result<()> {
 
 // The filing's bytes, then what the walk comes to.
 fn show(rt: &impl Print, bytes: &[u8]) -> io::Result<()> {
-    put_bytes(rt, bytes)?;
-    let walked = walker::walk(bytes);
-    put(rt, b"= ")?;
-    put_number(rt, walked.fields)?;
-    put(rt, b" ")?;
-    put_number(rt, walked.offset)?;
-    let field = walked.field;
-    match field {
-        Field::CallThen { filing_call, next } => put(rt, b" field\n"),
-        Field::End => put(rt, b" end\n"),
-        Field::Refused(refusal) => put_refusal(rt, refusal),
-    }
-}
-
-fn put_bytes(rt: &impl Print, bytes: &[u8]) -> io::Result<()> {
     for byte in bytes {
-        put_byte(rt, *byte)?;
+        print!(rt; "{byte} ")?;
     }
-    Ok(())
-}
-
-fn put_byte(rt: &impl Print, byte: u8) -> io::Result<()> {
-    put_number(rt, byte as usize)?;
-    put(rt, b" ")
-}
-
-fn put_refusal(rt: &impl Print, refusal: Refusal) -> io::Result<()> {
-    put(rt, b" refused ")?;
-    put_number(rt, number_of(refusal) as usize)?;
-    put(rt, b"\n")
-}
-
-fn put(rt: &impl Print, text: &[u8]) -> io::Result<()> {
-    rt.write_all(text)
-}
-
-fn put_number(rt: &impl Print, n: usize) -> io::Result<()> {
-    print!(rt; "{n}")
+    let walked = walker::walk(bytes);
+    print!(rt; "= {} {}", walked.fields, walked.offset)?;
+    match walked.field {
+        Field::CallThen { .. } => println!(rt; " field"),
+        Field::End => println!(rt; " end"),
+        Field::Refused(refusal) => println!(rt; " refused {}", number_of(refusal)),
+    }
 }

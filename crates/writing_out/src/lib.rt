@@ -4,7 +4,7 @@
 #![tactic(auto)]
 
 use calls::Kind;
-use load::{Loaded, load_filing};
+use load::load_filing;
 use rewriting::{Stream, rewritten_as};
 use std::fs::File;
 use std::rt::Files;
@@ -13,9 +13,8 @@ use writer::WRITTEN_MOST;
 pub fn print_book<R: Files<File = File> + Print + Eprint>(rt: &R, kind: Kind) {
     // One byte more than a filing may have, so that a longer one shows.
     let mut filing = [0u8; 65537];
-    match load_filing(rt, &mut filing) {
-        Loaded::Bytes(length) => print_rewritten(rt, kind, &filing[..length]),
-        Loaded::Failed => {}
+    if let Ok(length) = load_filing(rt, &mut filing) {
+        print_rewritten(rt, kind, &filing[..length]);
     }
 }
 

@@ -2,8 +2,8 @@
 use Rattle.std.proofs.Common.{length, ◌-◌, ◌≤◌}
 use Rattle.replay.proofs.read_input.Given as goal
 
-abbrev pub invariant-loop-count : goal.invariant-loop-count
-invariant-loop-count g l = l.count ≤ length l.bytes
+abbrev pub invariant-loop-more : goal.invariant-loop-more
+invariant-loop-more g l = l.count ≤ length l.bytes
 
-abbrev pub decreases-loop-count : goal.decreases-loop-count
-decreases-loop-count g l = length l.initial.bytes - l.count
+abbrev pub decreases-loop-more : goal.decreases-loop-more
+decreases-loop-more g l = length l.initial.bytes - l.count

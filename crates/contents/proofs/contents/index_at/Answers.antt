@@ -14,4 +14,4 @@ returns c =
     let at = c.args.at in
     let byte = byte-in bytes at 5 in
     let unsigned = unsigned-in bytes at 5 in
-    rw (byte 0 (omega arith), add-zero, unsigned 1 4 (omega arith), ← c.unsigned_at.ensures.0) refl
+    rw (byte 0 (omega arith), add-zero, unsigned 1 4 (omega arith), ← c.four_at.ensures) refl

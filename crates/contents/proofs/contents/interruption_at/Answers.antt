@@ -20,4 +20,4 @@ returns c =
     let byte = byte-in bytes at 24 in
     let unsigned = unsigned-in bytes at 24 in
     let signed = signed-in bytes at 24 in
-    rw (byte 0 (omega arith), add-zero, byte 1 (omega arith), byte 2 (omega arith), byte 3 (omega arith), signed 4 (omega arith), signed 12 (omega arith), unsigned 20 4 (omega arith), back start_fits, back end_fits, ← c.signed_at.ensures, ← c.signed_at-2.ensures, ← c.unsigned_at.ensures.0) refl
+    rw (byte 0 (omega arith), add-zero, byte 1 (omega arith), byte 2 (omega arith), byte 3 (omega arith), signed 4 (omega arith), signed 12 (omega arith), unsigned 20 4 (omega arith), back start_fits, back end_fits, ← c.signed_at.ensures, ← c.signed_at-2.ensures, ← c.four_at.ensures) refl

@@ -13,4 +13,4 @@ returns c =
     let bytes = c.args.bytes.now in
     let at = c.args.at in
     let unsigned = unsigned-in bytes at 8 in
-    rw (unsigned 0 4 (omega arith), add-zero, unsigned 4 4 (omega arith), ← c.unsigned_at.ensures.0, ← c.unsigned_at-2.ensures.0) refl
+    rw (unsigned 0 4 (omega arith), add-zero, unsigned 4 4 (omega arith), ← c.four_at.ensures, ← c.four_at-2.ensures) refl

@@ -5,10 +5,11 @@ use mir.Syntax.{w64}
 use mir.Val.{SFits}
 use Rattle.calls.proofs.Times.{back}
 use Rattle.contents.specs.Content.{twos_complement, signed}
+use Rattle.contents.proofs.NumberLaws.{bits-signed}
 use Rattle.contents.proofs.numbers.signed_at.Goals as goal
 
 pub returns : goal.returns
 unfolding signed
 returns c =
-    let fits : SFits w64 c.signed_of.result = record { sfits = c.signed_of.type_inv } in
-    back fits ∙ c.signed_of.ensures ∙ ap twos_complement c.eight_at.ensures
+    let fits : SFits w64 c.cast_signed.result = record { sfits = c.cast_signed.type_inv } in
+    back fits ∙ c.cast_signed.ensures ∙ bits-signed _ c.eight_at.type_inv ∙ ap twos_complement c.eight_at.ensures
