@@ -3,7 +3,7 @@
 use Rattle.writer.proofs.size_of.Goals as goal
 
 pub field_size-requires : goal.field_size-requires
-field_size-requires c = rw c.in-Differs.is at c.requires
+field_size-requires c = rw c.in-Some.is at c.requires
 
-pub returns-in-Differs : goal.returns-in-Differs
-returns-in-Differs c = rw c.in-Differs.is c.field_size.ensures
+pub returns-in-Some : goal.returns-in-Some
+returns-in-Some c = rw c.in-Some.is c.field_size.ensures
