@@ -9,12 +9,6 @@ use Rattle.writer.proofs.written_size.Goals as goal
 pub loop-place-init : goal.loop-place-init
 loop-place-init c = (rw so-far-none refl, omega arith)
 
-pub size_of-size-requires : goal.size_of-size-requires
-size_of-size-requires c = c.entry_at.ensures.short
-
-pub overflow_add-size : goal.overflow_add-size
-overflow_add-size c = record { fits = omega (arith, c.entry_at.ensures.short, c.size_of-size.ensures, c.loop-place.invariant.1) }
-
 pub loop-place-preserved : goal.loop-place-preserved
 loop-place-preserved c =
     let here = c.loop-place in
