@@ -25,7 +25,7 @@ others-text (negsuc n) above = absurd (true≢false above)
 
 -- a number is its bits, read again
 module _ (z : ℤ) (fits : SFits w64 z) where
-  again : to_z w64 (of_z w64 z) ≡ z
+  pub again : to_z w64 (of_z w64 z) ≡ z
   again = to_z-of_z fits
 
   pub size-again : {size : ℕ} → size ≡ nat_abs (to_z w64 (of_z w64 z)) → size ≡ nat_abs z
