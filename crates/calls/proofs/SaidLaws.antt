@@ -1,12 +1,7 @@
 -- Answers are told apart by what they say (specs/Laws.antt).
 -- Assumes nothing.
-use Prim.Native.Nat.{ℕ, ◌-◌, ◌<◌}
-use mathlib.Core.Logic.{inl, inr}
+use Prim.Native.Nat.{ℕ, ◌-◌}
 use mathlib.Core.Bool.{false, true≢false}
-use native.Mathlib.Omega.{arith}
-use types.Run.{OneOf}
-use denote.Enum.Declared.{tag_of}
-use Rattle.calls.specs.contracts.Answer.{the_type}
 use mathlib.Core.List.{[], ◌∷◌}
 use lib.ListN.{get_or}
 use mathlib.Core.Path.{◌≡◌, refl, sym, ap, ◌∙◌}
@@ -65,18 +60,13 @@ answer_back (Refused refusal) = ap Refused (refusal-back refusal)
 pub answers-apart : ToldApart said
 answers-apart answer other same = sym (answer_back answer) ∙ ap answer_saying same ∙ answer_back other
 
--- one of the first three kinds, told by its tag, is no refusal
-first_three : (tag : ℕ) → OneOf (0 ∷ 1 ∷ 2 ∷ []) tag → tag < 3
-first_three tag (inl e) = omega arith
-first_three tag (inr (inl e)) = omega arith
-first_three tag (inr (inr e)) = omega arith
-
-pub told-accepted : (answer : Answer) → OneOf (0 ∷ 1 ∷ 2 ∷ []) (tag_of the_type answer) → is_refused (said answer) ≡ false
+-- an answer that is told to be no refusal
+pub told-accepted : (answer : Answer) → ((refusal : Refusal) → answer ≡ Refused refusal → ⊥) → is_refused (said answer) ≡ false
 unfolding is_refused on_answer
-told-accepted Yes tag = refl
-told-accepted (Counted year) tag = refl
-told-accepted (LeftOut reason) tag = refl
-told-accepted (Refused refusal) tag = absurd (omega (arith, first_three 3 tag))
+told-accepted Yes other = refl
+told-accepted (Counted year) other = refl
+told-accepted (LeftOut reason) other = refl
+told-accepted (Refused refusal) other = absurd (other refusal refl)
 
 -- what follows from an answer that is no refusal
 pub otherwise-given : {A B : Type 0} (refused : ℕ → B) (otherwise : B) (answer : Said A) → is_refused answer ≡ false → on_answer refused (λ (value : A). otherwise) answer ≡ otherwise

@@ -6,6 +6,7 @@ use Rattle.apportion.specs.Sum.{sum}
 use Rattle.values.specs.Operators.{table}
 use Rattle.settlement.specs.declared.Settlement.{Settlement}
 use Rattle.text.specs.Text.{decimal, signed_decimal}
+use Rattle.columns.specs.declared.Row.{Row}
 
 -- "single spaces, each line ended by byte 10"
 unfoldable pub line : List ℕ → List ℕ → List ℕ → List ℕ → List ℕ → List ℕ
@@ -14,6 +15,10 @@ line name points out received adjustment = name ++ (32 ∷ points) ++ (32 ∷ ou
 -- "Points in hundredths, money in cents"
 abbrev pub number_line : List ℕ → ℕ → ℕ → ℕ → ℤ → List ℕ
 number_line name points out received adjustment = line name (decimal points) (decimal out) (decimal received) (signed_decimal adjustment)
+
+-- all of a line but its name
+abbrev pub columns_of : Row → List ℕ
+columns_of row = number_line [] row.points row.paid row.received row.adjustment
 
 -- an operator's points over all indicators
 unfoldable pub points_of_operator : Settlement → ℕ → ℕ

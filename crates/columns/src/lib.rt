@@ -2,32 +2,34 @@
 // What puts something answers with the place after it.
 #![tactic(auto)]
 
-ghost use Rattle.std.specs.Prelude.{◌≡◌, [], ◌∷◌, ◌++◌, ◌+◌, ◌^◌, ◌≤◌, ◌<◌, nat_abs, length};
+ghost use Rattle.std.specs.Prelude.{◌≡◌, [], ◌∷◌, ◌++◌, ◌+◌, ◌^◌, ◌≤◌, ◌<◌, length};
 ghost use Rattle.apportion.specs.Sum.{sum};
 ghost use Rattle.text.specs.Text.{decimal, signed_decimal};
-ghost use Rattle.columns.specs.Columns.{number_line, points_of_operator};
+ghost use Rattle.columns.specs.Columns.{columns_of, points_of_operator};
 ghost use Rattle.text.specs.Steps.{with_text_at};
 
 use calls::INDICATORS;
 use settlement::{POINT_PLACES, Settlement};
 use text::{put_byte, put_decimal, put_signed};
 
+// The numbers of a line.
+#[derive(Clone, Copy)]
+pub struct Row {
+    pub points: u64,
+    pub paid: u64,
+    pub received: u64,
+    pub adjustment: i64,
+}
+
 // All of a line but its name.
-pub fn put_columns(
-    out: &mut [u8],
-    at: usize,
-    points: u64,
-    paid: u64,
-    received: u64,
-    adjustment: i64,
-) -> usize
-    requires { (nat_abs adjustment < 2 ^ 62) × (at + length (number_line [] points paid received adjustment) ≤ length out.old) }
-    ensures { (out.new ≡ with_text_at out.old at (number_line [] points paid received adjustment)) × (result ≡ at + length (number_line [] points paid received adjustment)) }
+pub fn put_columns(out: &mut [u8], at: usize, row: Row) -> usize
+    requires { at + length (columns_of row) ≤ length out.old }
+    ensures { (out.new ≡ with_text_at out.old at (columns_of row)) × (result ≡ at + length (columns_of row)) }
 {
-    let first = put_column(out, at, points);
-    let second = put_column(out, first, paid);
-    let third = put_column(out, second, received);
-    put_adjustment(out, third, adjustment)
+    let first = put_column(out, at, row.points);
+    let second = put_column(out, first, row.paid);
+    let third = put_column(out, second, row.received);
+    put_adjustment(out, third, row.adjustment)
 }
 
 fn put_column(out: &mut [u8], at: usize, n: u64) -> usize
@@ -40,7 +42,7 @@ fn put_column(out: &mut [u8], at: usize, n: u64) -> usize
 
 // The last column, and the end of the line.
 fn put_adjustment(out: &mut [u8], at: usize, n: i64) -> usize
-    requires { (nat_abs n < 2 ^ 62) × (at + length ((32 ∷ signed_decimal n) ++ (10 ∷ [])) ≤ length out.old) }
+    requires { at + length ((32 ∷ signed_decimal n) ++ (10 ∷ [])) ≤ length out.old }
     ensures { (out.new ≡ with_text_at out.old at ((32 ∷ signed_decimal n) ++ (10 ∷ []))) × (result ≡ at + length ((32 ∷ signed_decimal n) ++ (10 ∷ []))) }
 {
     let first = put_byte(out, at, b' ');

@@ -23,11 +23,9 @@ fn put_number(out: &mut [u8], at: usize, number: u64, width: usize) -> usize
     ensures { (out.new ≡ with_text_at out.old at (in_bytes width number)) × (result ≡ at + length (in_bytes width number)) }
 {
     let mut rest = number;
-    let mut left = width;
-    while 0 < left {
-        left -= 1;
+    for left in (0..width).rev() {
         out[at + left] = (rest % 256) as u8;
-        rest = rest / 256;
+        rest /= 256;
     }
     at + width
 }

@@ -1,6 +1,6 @@
 -- The calls of a written filing by place, one at each place or none, and what an entry has of them.
 -- Assumes nothing.
-use Rattle.std.specs.Prelude.{ℕ, ◌+◌, ◌*◌, ◌-◌, ◌/◌, ◌%◌, ◌≤◌, ◌≡◌, cond, not, ◌&&◌, List, [], ◌∷◌, eqb, ltb, length, get_or}
+use Rattle.std.specs.Prelude.{ℕ, ◌+◌, ◌*◌, ◌-◌, ◌/◌, ◌%◌, ◌≤◌, ◌≡◌, cond, not, ◌&&◌, List, [], ◌∷◌, eqb, ltb, length, get_or, Option, Some, None}
 use Rattle.book.specs.declared.Book.{Book}
 use Rattle.calls.specs.declared.Call.{Call}
 use Rattle.calls.specs.declared.Call.TheVariants.{Join, Setting, Amount, Mark, Rates, Index}
@@ -10,16 +10,15 @@ use Rattle.calls.specs.Masks.{has}
 use Rattle.book.specs.Book.{setting_slot, figure_slot}
 use Rattle.encoding.specs.Fields.{bytes_in}
 use Rattle.writing.specs.Written.{unless_fresh, filing_of}
-use Rattle.entries.specs.declared.Entry.{Entry}
-use Rattle.entries.specs.declared.Entry.TheVariants.{Fresh, Differs}
+use Rattle.encoding.specs.declared.Encoded.{Encoded}
 
--- the bytes of an entry
-abbrev pub entry_bytes : Entry → List ℕ
-entry_bytes Fresh = []
-entry_bytes (Differs field) = bytes_in field
+-- the bytes of an entry: a field, or nothing
+abbrev pub entry_bytes : Option Encoded → List ℕ
+entry_bytes None = []
+entry_bytes (Some field) = bytes_in field
 
 -- an entry has the bytes of some calls, one or none
-pub record EntryOf (entry : Entry) (calls : List Call) : Type 0 where
+pub record EntryOf (entry : Option Encoded) (calls : List Call) : Type 0 where
   pub bytes : entry_bytes entry ≡ filing_of calls
   pub short : length (entry_bytes entry) ≤ 15
 

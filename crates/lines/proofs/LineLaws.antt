@@ -15,25 +15,26 @@ use Rattle.apportion.specs.Sum.{sum}
 use Rattle.settlement.specs.declared.Settlement.{Settlement}
 use Rattle.money.specs.Money.{sumℤ}
 use Rattle.text.specs.Text.{bytes_of, decimal}
-use Rattle.columns.specs.Columns.{points_of_operator}
-use Rattle.columns.proofs.ColumnLaws.{columns, line-named}
+use Rattle.columns.specs.declared.Row.{Row}
+use Rattle.columns.specs.Columns.{columns_of, points_of_operator}
+use Rattle.columns.proofs.ColumnLaws.{line-named}
 use Rattle.lines.specs.Lines.{operator_line, operator_lines, last_line}
 
 module _ (s : Settlement) where
-  abbrev pub operator_columns : ℕ → List ℕ
-  operator_columns operator =
-      columns (points_of_operator s operator) (get_or s.contributions operator 0) (get_or s.returns operator 0) (get_or s.adjustments operator (pos 0))
+  abbrev pub operator_row : ℕ → Row
+  operator_row operator =
+      record { points = points_of_operator s operator; paid = get_or s.contributions operator 0; received = get_or s.returns operator 0; adjustment = get_or s.adjustments operator (pos 0) }
 
-  pub operator-parts : (operator : ℕ) → operator_line s operator ≡ decimal operator ++ operator_columns operator
+  pub operator-parts : (operator : ℕ) → operator_line s operator ≡ decimal operator ++ columns_of (operator_row operator)
   unfolding operator_line
-  operator-parts operator = line-named (decimal operator) _ _ _ _
+  operator-parts operator = line-named (decimal operator) (operator_row operator)
 
-  abbrev pub last_columns : List ℕ
-  last_columns = columns (sum s.points) (sum s.contributions) (sum s.returns) (pos 0)
+  abbrev pub last_row : Row
+  last_row = record { points = sum s.points; paid = sum s.contributions; received = sum s.returns; adjustment = pos 0 }
 
-  pub last-parts : sumℤ s.adjustments ≡ pos 0 → last_line s ≡ (97 ∷ 108 ∷ 108 ∷ []) ++ last_columns
+  pub last-parts : sumℤ s.adjustments ≡ pos 0 → last_line s ≡ (97 ∷ 108 ∷ 108 ∷ []) ++ columns_of last_row
   unfolding last_line bytes_of
-  last-parts cancel = rw cancel (line-named (97 ∷ 108 ∷ 108 ∷ []) _ _ _ _)
+  last-parts cancel = rw cancel (line-named (97 ∷ 108 ∷ 108 ∷ []) last_row)
 
 module _ (b : Book) (s : Settlement) where
   -- what one operator more adds

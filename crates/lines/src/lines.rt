@@ -6,7 +6,7 @@ ghost use Rattle.text.specs.Steps.{with_text_at};
 
 use apportion::sum_of;
 use book::{Book, is_joined};
-use columns::{points_of_operator, put_columns, total_points};
+use columns::{Row, points_of_operator, put_columns, total_points};
 use settlement::Settlement;
 use text::{put_decimal, put_word};
 
@@ -25,10 +25,8 @@ fn put_operators(out: &mut [u8], at: usize, b: Book, s: Settlement) -> usize
     ensures { (out.new ≡ with_text_at out.old at (operator_lines b s 16)) × (result ≡ at + length (operator_lines b s 16)) }
 {
     let mut next = at;
-    let mut operator: u8 = 0;
-    while operator < 16 {
+    for operator in 0..16 {
         next = put_if_joined(out, next, b, s, operator);
-        operator += 1;
     }
     next
 }
@@ -47,18 +45,14 @@ fn put_operator(out: &mut [u8], at: usize, s: Settlement, operator: usize) -> us
     requires { LineFits s operator at (operator_line s operator) out.old }
     ensures { (out.new ≡ with_text_at out.old at (operator_line s operator)) × (result ≡ at + length (operator_line s operator)) }
 {
-    let paid = s.contributions;
-    let received = s.returns;
-    let adjustments = s.adjustments;
+    let row = Row {
+        points: points_of_operator(s, operator),
+        paid: s.contributions[operator],
+        received: s.returns[operator],
+        adjustment: s.adjustments[operator],
+    };
     let next = put_decimal(out, at, operator as u64);
-    put_columns(
-        out,
-        next,
-        points_of_operator(s, operator),
-        paid[operator],
-        received[operator],
-        adjustments[operator],
-    )
+    put_columns(out, next, row)
 }
 
 // The adjustments' sum is 0: `adjustments_cancel` of the settlement's laws.
@@ -66,16 +60,12 @@ fn put_last(out: &mut [u8], at: usize, s: Settlement) -> usize
     requires { Printable s × (at + length (last_line s) ≤ length out.old) }
     ensures { (out.new ≡ with_text_at out.old at (last_line s)) × (result ≡ at + length (last_line s)) }
 {
-    let points = s.points;
-    let paid = s.contributions;
-    let received = s.returns;
+    let row = Row {
+        points: total_points(s.points),
+        paid: sum_of(s.contributions),
+        received: sum_of(s.returns),
+        adjustment: 0,
+    };
     let next = put_word(out, at, b"all");
-    put_columns(
-        out,
-        next,
-        total_points(points),
-        sum_of(paid),
-        sum_of(received),
-        0,
-    )
+    put_columns(out, next, row)
 }

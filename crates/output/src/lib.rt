@@ -11,7 +11,7 @@ use book::Book;
 use calls::{Answer, Kind, number_of};
 use lent::read_fresh_as;
 use report::report_as;
-use text::{Filled, put_decimal, put_word};
+use text::{put_decimal, put_word};
 
 pub const LONGEST_FILING: usize = 65536;
 
@@ -40,13 +40,10 @@ pub fn output_as(kind: Kind, filing: &[u8], out: &mut [u8; 2048]) -> usize
         return put_word(out, 0, b"too long\n");
     }
     let reading = read_fresh_as(kind, filing);
-    let b = reading.book;
     let progress = reading.progress;
-    let offset = progress.offset;
-    let answer = progress.answer;
-    match answer {
-        Answer::Refused(refusal) => put_refused_field(out, number_of(refusal), offset),
-        _ => put_settlement(kind, out, b),
+    match progress.answer {
+        Answer::Refused(refusal) => put_refused_field(out, number_of(refusal), progress.offset),
+        _ => put_settlement(kind, out, reading.book),
     }
 }
 
@@ -57,8 +54,8 @@ fn put_settlement(kind: Kind, out: &mut [u8], b: Book) -> usize
     ensures out_after { out.new ≡ put_into out.old (settlement_text_as (indicators_of kind) b) }
 {
     match report_as(kind, b, out) {
-        Filled::Bytes(count) => count,
-        Filled::Refused(refusal) => put_refused_line(out, number_of(refusal)),
+        Ok(count) => count,
+        Err(refusal) => put_refused_line(out, number_of(refusal)),
     }
 }
 

@@ -10,10 +10,10 @@ use book::Book;
 use calls::{Answer, Kind, Refusal};
 use lines::put_lines;
 use settlement::{Settlement, settle_as};
-use text::{Filled, put_word};
+use text::put_word;
 
 // A refusal leaves the buffer; otherwise the bytes after the text stay.
-pub fn report(b: Book, buffer: &mut [u8]) -> Filled
+pub fn report(b: Book, buffer: &mut [u8]) -> Result<usize, Refusal>
     ensures result_value { filled_said result ≡ report_answer b buffer.old }
     ensures buffer_after { buffer.new ≡ report_buffer b buffer.old }
 {
@@ -21,7 +21,7 @@ pub fn report(b: Book, buffer: &mut [u8]) -> Filled
 }
 
 // Of a book of gas.
-pub fn report_gas(b: Book, buffer: &mut [u8]) -> Filled
+pub fn report_gas(b: Book, buffer: &mut [u8]) -> Result<usize, Refusal>
     ensures result_value { filled_said result ≡ gas_report_answer b buffer.old }
     ensures buffer_after { buffer.new ≡ gas_report_buffer b buffer.old }
 {
@@ -29,21 +29,19 @@ pub fn report_gas(b: Book, buffer: &mut [u8]) -> Filled
 }
 
 // Of a book of a kind.
-pub fn report_as(kind: Kind, b: Book, buffer: &mut [u8]) -> Filled
+pub fn report_as(kind: Kind, b: Book, buffer: &mut [u8]) -> Result<usize, Refusal>
     ensures result_value { filled_said result ≡ reporting_answer (indicators_of kind) b buffer.old }
     ensures buffer_after { buffer.new ≡ reporting_buffer (indicators_of kind) b buffer.old }
 {
     let settled = settle_as(kind, b);
-    let s = settled.settlement;
-    let answer = settled.answer;
-    match answer {
-        Answer::Refused(refusal) => Filled::Refused(refusal),
-        _ => print(b, s, buffer),
+    match settled.answer {
+        Answer::Refused(refusal) => Err(refusal),
+        _ => print(b, settled.settlement, buffer),
     }
 }
 
 // 13, or the lines.
-fn print(b: Book, s: Settlement, buffer: &mut [u8]) -> Filled
+fn print(b: Book, s: Settlement, buffer: &mut [u8]) -> Result<usize, Refusal>
     requires { Printable s }
     ensures result_value { filled_said result ≡ fitting buffer.old (printed b s) }
     ensures buffer_after { buffer.new ≡ buffer_after buffer.old (printed b s) (fitting buffer.old (printed b s)) }
@@ -51,8 +49,8 @@ fn print(b: Book, s: Settlement, buffer: &mut [u8]) -> Filled
     let mut text = [0u8; 2048];
     let count = put_lines(&mut text, b, s);
     if buffer.len() < count {
-        return Filled::Refused(Refusal::BufferTooShort);
+        return Err(Refusal::BufferTooShort);
     }
     put_word(buffer, 0, &text[..count]);
-    Filled::Bytes(count)
+    Ok(count)
 }

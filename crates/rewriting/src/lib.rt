@@ -13,7 +13,7 @@ use book::Book;
 use calls::{Answer, Kind, number_of};
 use lent::read_fresh_as;
 use output::{LONGEST_FILING, put_refused_field};
-use text::{Filled, put_word};
+use text::put_word;
 use writer::{WRITTEN_MOST, WRITTEN_MOST_GAS, write_as};
 
 #[derive(Clone, Copy)]
@@ -60,18 +60,15 @@ pub fn rewritten_as(kind: Kind, filing: &[u8], out: &mut [u8]) -> Printed
         };
     }
     let reading = read_fresh_as(kind, filing);
-    let b = reading.book;
     let progress = reading.progress;
-    let offset = progress.offset;
-    let answer = progress.answer;
-    match answer {
+    match progress.answer {
         Answer::Refused(refusal) => Printed {
             stream: Stream::Error,
-            count: put_refused_field(out, number_of(refusal), offset),
+            count: put_refused_field(out, number_of(refusal), progress.offset),
         },
         _ => Printed {
             stream: Stream::Output,
-            count: put_book(kind, out, b),
+            count: put_book(kind, out, reading.book),
         },
     }
 }
@@ -82,8 +79,5 @@ fn put_book(kind: Kind, out: &mut [u8], b: Book) -> usize
     ensures value { result ≡ length (written_as (indicators_of kind) b) }
     ensures out_after { out.new ≡ put_into out.old (written_as (indicators_of kind) b) }
 {
-    match write_as(kind, b, out) {
-        Filled::Bytes(count) => count,
-        Filled::Refused(refusal) => 0,
-    }
+    write_as(kind, b, out).unwrap_or(0)
 }

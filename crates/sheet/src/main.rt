@@ -3,27 +3,19 @@
 #![tactic(auto)]
 
 use load::load_filing;
-use sheet_output::{Argument, argument_of, sheet_output};
+use sheet_output::{argument_of, sheet_output};
 use std::fs::File;
 use std::rt::{Env, Files};
 
 fn main(rt: HostRuntime) {
-    match argument(&rt, 1) {
-        Argument::Number(operator) => asked(&rt, operator),
-        Argument::Other => tell_usage(&rt),
-    }
-}
-
-// Once the operator is known.
-fn asked<R: Env + Files<File = File> + Print + Eprint>(rt: &R, operator: u8) {
-    match argument(rt, 2) {
-        Argument::Number(year) => print_sheet(rt, operator, year),
-        Argument::Other => tell_usage(rt),
+    match (argument(&rt, 1), argument(&rt, 2)) {
+        (Some(operator), Some(year)) => print_sheet(&rt, operator, year),
+        _ => tell_usage(&rt),
     }
 }
 
 // One that is missing, or longer than four bytes, comes as empty, which is no number.
-fn argument<R: Env>(rt: &R, i: usize) -> Argument {
+fn argument<R: Env>(rt: &R, i: usize) -> Option<u8> {
     let mut text = [0u8; 4];
     let length = rt.arg(i, &mut text).unwrap_or(0);
     argument_of(&text[..length])

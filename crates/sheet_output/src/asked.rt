@@ -1,51 +1,34 @@
 // A number of one byte by its decimal digits.
-ghost use Rattle.std.specs.Prelude.{◌≡◌};
+ghost use Rattle.std.specs.Prelude.{◌≡◌, ◌-◌, cond, Some, None};
 ghost use Rattle.sheet_output.specs.Argument.{is_digit, of_digits, argument_of};
-
-use crate::Argument;
 
 const ZERO: u8 = b'0';
 
 // One to three digits.
-pub fn argument_of(text: &[u8]) -> Argument
+pub fn argument_of(text: &[u8]) -> Option<u8>
     ensures { result ≡ argument_of text.now }
 {
-    if text.len() == 1 {
-        return of_digits(ZERO, ZERO, text[0]);
+    match text {
+        [ones] => of_digits(ZERO, ZERO, *ones),
+        [tens, ones] => of_digits(ZERO, *tens, *ones),
+        [hundreds, tens, ones] => of_digits(*hundreds, *tens, *ones),
+        _ => None,
     }
-    if text.len() == 2 {
-        return of_digits(ZERO, text[0], text[1]);
-    }
-    if text.len() == 3 {
-        return of_digits(text[0], text[1], text[2]);
-    }
-    Argument::Other
 }
 
-fn of_digits(hundreds: u8, tens: u8, ones: u8) -> Argument
+fn of_digits(hundreds: u8, tens: u8, ones: u8) -> Option<u8>
     ensures { result ≡ of_digits hundreds tens ones }
 {
-    if !is_digit(hundreds) {
-        return Argument::Other;
-    }
-    if !is_digit(tens) {
-        return Argument::Other;
-    }
-    if !is_digit(ones) {
-        return Argument::Other;
-    }
-    let value = 100 * (hundreds - ZERO) as u32 + 10 * (tens - ZERO) as u32 + (ones - ZERO) as u32;
-    if 255 < value {
-        return Argument::Other;
-    }
-    Argument::Number(value as u8)
+    let value = 100 * digit(hundreds)? + 10 * digit(tens)? + digit(ones)?;
+    u8::try_from(value).ok()
 }
 
-fn is_digit(byte: u8) -> bool
-    ensures { result ≡ is_digit byte }
+// The number that a digit stands for.
+fn digit(byte: u8) -> Option<u16>
+    ensures { result ≡ cond (is_digit byte) (Some (byte - 48)) None }
 {
-    if byte < ZERO {
-        return false;
+    if !byte.is_ascii_digit() {
+        return None;
     }
-    byte <= b'9'
+    Some(u16::from(byte - ZERO))
 }

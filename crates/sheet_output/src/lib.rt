@@ -6,10 +6,3 @@ mod printing;
 
 pub use asked::argument_of;
 pub use printing::sheet_output;
-
-// A number of one byte, or something else.
-#[derive(Clone, Copy)]
-pub enum Argument {
-    Number(u8),
-    Other,
-}

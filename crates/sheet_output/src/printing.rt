@@ -20,13 +20,10 @@ pub fn sheet_output(filing: &[u8], operator: u8, year: u8, out: &mut [u8; 2048])
         return put_word(out, 0, b"too long\n");
     }
     let reading = read_fresh(filing);
-    let b = reading.book;
     let progress = reading.progress;
-    let offset = progress.offset;
-    let answer = progress.answer;
-    match answer {
-        Answer::Refused(refusal) => put_refused_field(out, number_of(refusal), offset),
-        _ => put_sheet(out, b, operator, year),
+    match progress.answer {
+        Answer::Refused(refusal) => put_refused_field(out, number_of(refusal), progress.offset),
+        _ => put_sheet(out, reading.book, operator, year),
     }
 }
 
@@ -37,11 +34,9 @@ fn put_sheet(out: &mut [u8], b: Book, operator: u8, year: u8) -> usize
     ensures out_after { out.new ≡ put_into out.old (sheet_text operator year b) }
 {
     let asked = sheet(b, operator, year);
-    let answer = asked.answer;
-    let counts = asked.counts;
-    match answer {
+    match asked.answer {
         Answer::Refused(refusal) => put_refused_line(out, number_of(refusal)),
-        _ => put_counts(out, counts),
+        _ => put_counts(out, asked.counts),
     }
 }
 

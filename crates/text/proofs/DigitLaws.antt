@@ -1,6 +1,6 @@
 -- The decimal digits of a number: how many there are, and that distinct numbers have distinct ones, as specs/Laws.antt says.
 -- Assumes nothing.
-use Prim.Native.Nat.{ℕ, zero, suc, ◌+◌, ◌*◌, ◌-◌, ◌/◌, ◌%◌, ◌^◌, ◌≤◌, ◌<◌}
+use Prim.Native.Nat.{ℕ, zero, suc, ◌+◌, ◌*◌, ◌-◌, ◌/◌, ◌%◌, ◌^◌, ◌≤◌, ◌<◌, max}
 use mathlib.Core.Path.{◌≡◌, refl, sym, ap, ◌∙◌}
 use mathlib.Core.Bool.{Bool, true, false}
 use mathlib.Core.List.{List, [], ◌∷◌, ◌++◌}
@@ -48,6 +48,33 @@ some-digit n = go (ltb n 10) refl
     go : (t : Bool) → ltb n 10 ≡ t → 1 ≤ length (decimal n)
     go true small = rw (decimal-small n (ltb-true n 10 small)) (omega arith)
     go false large = rw (decimal-large n (ltb-false n 10 large), length-append) (omega arith)
+
+some-power : (n : ℕ) → 1 ≤ 10 ^ n
+some-power zero = omega arith
+some-power (suc n) = omega (arith, some-power n, pow-suc 10 n)
+
+-- 0 has a digit, as 1 has
+pub decimal-longer : (most n : ℕ) → 10 ^ most ≤ max n 1 → suc most ≤ length (decimal n)
+decimal-longer zero n le = some-digit n
+decimal-longer (suc most) n le =
+    let large : 10 ≤ n = omega (arith, le, pow-suc 10 most, some-power most) in
+    let rest = decimal-longer most (n / 10) (omega (arith, le, pow-suc 10 most, large)) in
+    omega (arith, rest, ap length (decimal-large n large), length-append (decimal (n / 10)) ((48 + n % 10) ∷ []))
+
+pub one-digit : (n : ℕ) → length (decimal n) ≤ 1 → n < 10
+one-digit n few = go (ltb n 10) refl
+  where
+    go : (t : Bool) → ltb n 10 ≡ t → n < 10
+    go true small = ltb-true n 10 small
+    go false large =
+        absurd (omega (arith, few, some-digit (n / 10), ap length (decimal-large n (ltb-false n 10 large)), length-append (decimal (n / 10)) ((48 + n % 10) ∷ [])))
+
+pub many-digits : (n : ℕ) → 2 ≤ length (decimal n) → 10 ≤ n
+many-digits n many = go (ltb n 10) refl
+  where
+    go : (t : Bool) → ltb n 10 ≡ t → 10 ≤ n
+    go true small = absurd (omega (arith, many, ap length (decimal-small n (ltb-true n 10 small))))
+    go false large = ltb-false n 10 large
 
 pub signed-length : (x : ℤ) → nat_abs x < 10 ^ 20 → length (signed_decimal x) ≤ 21
 unfolding signed_decimal bytes_of

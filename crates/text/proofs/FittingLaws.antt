@@ -10,17 +10,17 @@ use borrow.Author.Tests.{lt-ltb, le-ltb}
 use Rattle.calls.specs.Answers.{refused_by, accepted, on_answer, first_of, number_of}
 use Rattle.calls.specs.Laws.{ToldApart}
 use Rattle.calls.proofs.SaidLaws.{numbers_apart}
-use Rattle.text.specs.declared.Filled.TheVariants.{Bytes, Refused}
+use Rattle.std.specs.Prelude.{Ok, Err}
 use Rattle.text.specs.Buffer.{too_short, filled_said, put_into, buffer_after, fitting}
 use Rattle.text.specs.Steps.{with_text_at}
 
 pub fillings-apart : ToldApart filled_said
-fillings-apart (Bytes count) (Bytes other) same = cc
-fillings-apart (Bytes count) (Refused refusal) same = cc
-fillings-apart (Refused refusal) (Bytes count) same = cc
-fillings-apart (Refused refusal) (Refused other) same =
+fillings-apart (Ok count) (Ok other) same = cc
+fillings-apart (Ok count) (Err refusal) same = cc
+fillings-apart (Err refusal) (Ok count) same = cc
+fillings-apart (Err refusal) (Err other) same =
     let number : number_of refusal ≡ number_of other = cc in
-    ap Refused (numbers_apart refusal other number)
+    ap Err (numbers_apart refusal other number)
 
 -- a text put at the front, and the front of what holds it
 pub written-front : (buffer text : List ℕ) → with_text_at buffer 0 text ≡ put_into buffer text

@@ -9,7 +9,7 @@ use lib.Seq.{append_snoc}
 use Rattle.text.specs.Text.{decimal}
 use Rattle.text.specs.Steps.{with_text_at}
 use Rattle.text.proofs.WrittenLaws.{put-nothing, byte-before}
-use Rattle.text.proofs.DigitLaws.{decimal-small, decimal-large, some-digit}
+use Rattle.text.proofs.DigitLaws.{decimal-small, decimal-large, some-digit, one-digit, many-digits}
 
 -- those stored so far, and the number whose digits, so many, come before them
 pub record Storing (old : List ℕ) (at n : ℕ) (new : List ℕ) (rest left : ℕ) : Type 0 where
@@ -31,10 +31,10 @@ module _ {old : List ℕ} {at n : ℕ} where
       omega (arith, storing.room, storing.counted, length-append (decimal rest) storing.text, ap length storing.parts),
     )
 
-    pub storing-more : 10 ≤ rest → Storing old at n (set new (at + (left - 1)) (48 + rest % 10)) (rest / 10) (left - 1)
+    pub storing-more : 2 ≤ left → Storing old at n (set new (at + (left - 1)) (48 + rest % 10)) (rest / 10) (left - 1)
     storing-more more =
         let digit : ℕ = 48 + rest % 10 in
-        let large = decimal-large rest more in
+        let large = decimal-large rest (many-digits rest (omega (arith, more, storing.counted))) in
         let place : at + left ≡ at + (left - 1) + 1 = omega (arith, storing-room.0) in
         record {
           text = digit ∷ storing.text;
@@ -44,9 +44,12 @@ module _ {old : List ℕ} {at n : ℕ} where
           room = storing.room;
         }
 
-    pub storing-last : rest < 10 → set new at (48 + rest) ≡ with_text_at old at (decimal n)
+    pub last-digit : left ≤ 1 → rest < 10
+    last-digit last = one-digit rest (omega (arith, last, storing.counted))
+
+    pub storing-last : left ≤ 1 → set new at (48 + rest) ≡ with_text_at old at (decimal n)
     storing-last last =
-        let small = decimal-small rest last in
+        let small = decimal-small rest (last-digit last) in
         let one : left ≡ 1 = omega (arith, storing.counted, ap length small) in
         rw (storing.bytes, one) (byte-before old at (48 + rest) storing.text (omega (arith, storing-room.1, one)))
         ∙ ap (with_text_at old at) (ap (λ (l : List ℕ). l ++ storing.text) (sym small) ∙ storing.parts)

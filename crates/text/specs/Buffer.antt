@@ -1,18 +1,17 @@
 -- What a call leaves in a lent buffer, whose text fits or does not (01, "Answers other than yes", number 13).
 -- Assumes nothing.
-use Rattle.std.specs.Prelude.{ℕ, Bool, List, [], ◌∷◌, ◌++◌, ltb, length, drop}
+use Rattle.std.specs.Prelude.{ℕ, Bool, List, [], ◌∷◌, ◌++◌, ltb, length, drop, Result, Ok, Err}
+use Rattle.calls.specs.declared.Refusal.{Refusal}
 use Rattle.calls.specs.Answers.{Said, refused_by, accepted, on_answer, first_of, number_of}
-use Rattle.text.specs.declared.Filled.{Filled}
-use Rattle.text.specs.declared.Filled.TheVariants.{Bytes, Refused}
 
 -- 13: "lent buffer too short"
 unfoldable pub too_short : List ℕ → List ℕ → Bool
 too_short buffer text = ltb (length buffer) (length text)
 
 -- what the answer of a call that fills a lent buffer says: "with the number of bytes written"
-abbrev pub filled_said : Filled → Said ℕ
-filled_said (Bytes count) = accepted count
-filled_said (Refused refusal) = refused_by (number_of refusal)
+abbrev pub filled_said : Result ℕ Refusal → Said ℕ
+filled_said (Ok count) = accepted count
+filled_said (Err refusal) = refused_by (number_of refusal)
 
 -- bytes put at the front of a buffer; those after them stay
 unfoldable pub put_into : List ℕ → List ℕ → List ℕ

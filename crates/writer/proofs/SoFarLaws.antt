@@ -10,7 +10,8 @@ use Rattle.book.specs.declared.Book.{Book}
 use Rattle.calls.specs.Indicators.{Indicator}
 use Rattle.writing.specs.Written.{in_turn, filing_of, written_as}
 use Rattle.writing.proofs.WrittenLength.{filing-then}
-use Rattle.entries.specs.declared.Entry.{Entry}
+use Rattle.encoding.specs.declared.Encoded.{Encoded}
+use Rattle.std.specs.Prelude.{Option}
 use Rattle.entries.specs.Entries.{places, entry_bytes, EntryOf, calls_at}
 use Rattle.entries.proofs.PlaceLaws.{turns-split, all_placed}
 
@@ -40,7 +41,7 @@ module _ (kind : List Indicator) (b : Book) where
       rw (← so-far-all, ← rest, whole, length-append) (omega arith)
 
   -- the entry at the next place
-  module _ (place : ℕ) {entry : Entry} (here : EntryOf entry (calls_at kind b place)) where
+  module _ (place : ℕ) {entry : Option Encoded} (here : EntryOf entry (calls_at kind b place)) where
     pub so-far-entry : so_far kind b (place + 1) ≡ so_far kind b place ++ entry_bytes entry
     so-far-entry = so_far_more place ∙ ap (λ (bytes : List ℕ). so_far kind b place ++ bytes) (sym here.bytes)
 

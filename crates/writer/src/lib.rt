@@ -11,10 +11,9 @@ ghost use Rattle.entries.specs.Entries.{entry_bytes};
 
 use book::Book;
 use calls::{Kind, Refusal};
-use encoding::{field_size, put_field};
-use entries::{Entry, PLACES, entry_at};
+use encoding::{Encoded, field_size, put_field};
+use entries::{PLACES, entry_at};
 use range::in_range;
-use text::Filled;
 
 // The most that a written filing has, of electricity and of gas.
 pub const WRITTEN_MOST: usize = 11083;
@@ -22,7 +21,7 @@ pub const WRITTEN_MOST: usize = 11083;
 pub const WRITTEN_MOST_GAS: usize = 3595;
 
 // A refusal leaves the buffer; otherwise the bytes after the filing stay.
-pub fn write(b: Book, buffer: &mut [u8]) -> Filled
+pub fn write(b: Book, buffer: &mut [u8]) -> Result<usize, Refusal>
     ensures result_value { filled_said result ≡ writer_answer b buffer.old }
     ensures buffer_after { buffer.new ≡ writer_buffer b buffer.old }
 {
@@ -30,7 +29,7 @@ pub fn write(b: Book, buffer: &mut [u8]) -> Filled
 }
 
 // Of a book of gas.
-pub fn write_gas(b: Book, buffer: &mut [u8]) -> Filled
+pub fn write_gas(b: Book, buffer: &mut [u8]) -> Result<usize, Refusal>
     ensures result_value { filled_said result ≡ gas_writer_answer b buffer.old }
     ensures buffer_after { buffer.new ≡ gas_writer_buffer b buffer.old }
 {
@@ -38,81 +37,58 @@ pub fn write_gas(b: Book, buffer: &mut [u8]) -> Filled
 }
 
 // Of a book of a kind.
-pub fn write_as(kind: Kind, b: Book, buffer: &mut [u8]) -> Filled
+pub fn write_as(kind: Kind, b: Book, buffer: &mut [u8]) -> Result<usize, Refusal>
     ensures result_value { filled_said result ≡ writing_answer (indicators_of kind) b buffer.old }
     ensures buffer_after { buffer.new ≡ writing_buffer (indicators_of kind) b buffer.old }
 {
     if !in_range(kind, b) {
-        return Filled::Refused(Refusal::OutOfRange);
+        return Err(Refusal::OutOfRange);
     }
-    let size = written_size(kind, b);
+    let size = written_size(kind, &b);
     if buffer.len() < size {
-        return Filled::Refused(Refusal::BufferTooShort);
+        return Err(Refusal::BufferTooShort);
     }
-    put_entries(kind, b, buffer);
-    Filled::Bytes(size)
+    put_entries(kind, &b, buffer);
+    Ok(size)
 }
 
-fn written_size(kind: Kind, b: Book) -> usize
-    ensures { result ≡ length (written_as (indicators_of kind) b) }
+fn written_size(kind: Kind, b: &Book) -> usize
+    ensures { result ≡ length (written_as (indicators_of kind) b.now) }
 {
-    let marks = b.marks;
-    let settings = b.settings;
-    let figures = b.figures;
-    let indices = b.indices;
-    let joined = b.joined;
-    let pot_rate = b.pot_rate;
-    let cap_rate = b.cap_rate;
     let mut size = 0;
-    let mut place = 0;
-    while place < PLACES {
-        size += size_of(entry_at(
-            kind, joined, &marks, &settings, &figures, pot_rate, cap_rate, &indices, place,
-        ));
-        place += 1;
+    for place in 0..PLACES {
+        size += size_of(entry_at(kind, b, place));
     }
     size
 }
 
-fn size_of(entry: Entry) -> usize
+fn size_of(entry: Option<Encoded>) -> usize
     requires { length (entry_bytes entry) ≤ 15 }
     ensures { result ≡ length (entry_bytes entry) }
 {
     match entry {
-        Entry::Fresh => 0,
-        Entry::Differs(field) => field_size(field),
+        None => 0,
+        Some(field) => field_size(field),
     }
 }
 
 // Puts the whole filing at the front of a buffer that has room for it.
-fn put_entries(kind: Kind, b: Book, out: &mut [u8])
-    requires { length (written_as (indicators_of kind) b) ≤ length out.old }
-    ensures { out.new ≡ put_into out.old (written_as (indicators_of kind) b) }
+fn put_entries(kind: Kind, b: &Book, out: &mut [u8])
+    requires { length (written_as (indicators_of kind) b.now) ≤ length out.old }
+    ensures { out.new ≡ put_into out.old (written_as (indicators_of kind) b.now) }
 {
-    let marks = b.marks;
-    let settings = b.settings;
-    let figures = b.figures;
-    let indices = b.indices;
-    let joined = b.joined;
-    let pot_rate = b.pot_rate;
-    let cap_rate = b.cap_rate;
     let mut at = 0;
-    let mut place = 0;
-    while place < PLACES {
-        let entry = entry_at(
-            kind, joined, &marks, &settings, &figures, pot_rate, cap_rate, &indices, place,
-        );
-        at = put_entry(out, at, entry);
-        place += 1;
+    for place in 0..PLACES {
+        at = put_entry(out, at, entry_at(kind, b, place));
     }
 }
 
-fn put_entry(out: &mut [u8], at: usize, entry: Entry) -> usize
+fn put_entry(out: &mut [u8], at: usize, entry: Option<Encoded>) -> usize
     requires { at + length (entry_bytes entry) ≤ length out.old }
     ensures { (out.new ≡ with_text_at out.old at (entry_bytes entry)) × (result ≡ at + length (entry_bytes entry)) }
 {
     match entry {
-        Entry::Fresh => at,
-        Entry::Differs(field) => put_field(out, at, field),
+        None => at,
+        Some(field) => put_field(out, at, field),
     }
 }

@@ -5,10 +5,9 @@
 ghost use Rattle.std.specs.Prelude.{◌≤◌};
 
 use book::Book;
-use calls::number_of;
+use calls::{Refusal, number_of};
 use lent::read_fresh;
 use std::io;
-use text::Filled;
 use writer::write;
 
 // Case M with cap rate 10,000: joins, settings, amounts, cleared marks and rates.
@@ -44,10 +43,10 @@ fn show(rt: &impl Print, b: Book, length: usize) -> io::Result<()>
     print_bytes(rt, &buffer)
 }
 
-fn print_answer(rt: &impl Print, answer: Filled) -> io::Result<()> {
+fn print_answer(rt: &impl Print, answer: Result<usize, Refusal>) -> io::Result<()> {
     match answer {
-        Filled::Bytes(count) => print!(rt; "{count} "),
-        Filled::Refused(refusal) => print!(rt; "refused {} ", number_of(refusal)),
+        Ok(count) => print!(rt; "{count} "),
+        Err(refusal) => print!(rt; "refused {} ", number_of(refusal)),
     }
 }
 

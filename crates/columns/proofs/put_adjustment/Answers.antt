@@ -8,12 +8,12 @@ use Rattle.columns.proofs.put_adjustment.Goals as goal
 
 pub put_signed-last-requires : goal.put_signed-last-requires
 put_signed-last-requires c =
-    rw (again c.args.n c.requires.0) (c.requires.0, three-second c.args.out.now c.args.at (32 ∷ []) (signed_decimal c.args.n) (10 ∷ []) c.requires.1 c.put_byte-first.ensures)
+    rw (again c.args.n c.ranges.n) (three-second c.args.out.now c.args.at (32 ∷ []) (signed_decimal c.args.n) (10 ∷ []) c.requires c.put_byte-first.ensures)
 
 pub put_byte-requires : goal.put_byte-requires
 put_byte-requires c =
-    three_third c.args.out.now c.args.at (32 ∷ []) (signed_decimal c.args.n) (10 ∷ []) c.requires.1 c.put_byte-first.ensures (rw (again c.args.n c.requires.0) at c.put_signed-last.ensures)
+    three_third c.args.out.now c.args.at (32 ∷ []) (signed_decimal c.args.n) (10 ∷ []) c.requires c.put_byte-first.ensures (rw (again c.args.n c.ranges.n) at c.put_signed-last.ensures)
 
 pub returns : goal.returns
 returns c =
-    put_three c.args.out.now c.args.at (32 ∷ []) (signed_decimal c.args.n) (10 ∷ []) c.requires.1 c.put_byte-first.ensures (rw (again c.args.n c.requires.0) at c.put_signed-last.ensures) c.put_byte.ensures
+    put_three c.args.out.now c.args.at (32 ∷ []) (signed_decimal c.args.n) (10 ∷ []) c.requires c.put_byte-first.ensures (rw (again c.args.n c.ranges.n) at c.put_signed-last.ensures) c.put_byte.ensures

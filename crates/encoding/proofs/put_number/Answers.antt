@@ -11,12 +11,6 @@ use Rattle.encoding.proofs.put_number.Goals as goal
 pub loop-left-init : goal.loop-left-init
 loop-left-init c = (omega arith, storing-none (omega (arith, bytes-length c.args.width c.args.number)), refl)
 
-pub overflow_add-out : goal.overflow_add-out
-overflow_add-out c = omega (arith, c.loop-left.invariant.1.room)
-
-pub bounds-out-at : goal.bounds-out-at
-bounds-out-at c = omega (arith, c.loop-left.invariant.1.room)
-
 pub loop-left-preserved : goal.loop-left-preserved
 loop-left-preserved c = (omega arith, storing-more (c.loop-left.left - 1) (omega arith) c.loop-left.invariant.1, simp length-set c.loop-left.invariant.2)
 

@@ -8,6 +8,3 @@ use Rattle.encoding.proofs.put_number.Given as goal
 
 abbrev pub invariant-loop-left : goal.invariant-loop-left
 invariant-loop-left l = (l.left ≤ l.width) × Storing l.initial.out l.at l.width l.number l.out l.rest l.left × (length l.out ≡ length l.initial.out)
-
-abbrev pub decreases-loop-left : goal.decreases-loop-left
-decreases-loop-left l = l.left

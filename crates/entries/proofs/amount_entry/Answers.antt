@@ -22,5 +22,5 @@ pub returns : goal.returns
 unfolding amount_at
 returns c =
     let place = c.args.place in
-    let figures = c.args.figures.now in
+    let figures = c.args.b.now.figures in
     amount-there (place / operator_figures) (omega arith) {calls = amount_at figures place} (place % operator_figures / figure_count) (place % figure_count) (get_or figures c.figure_slot.result 0) (omega arith) (omega arith) (rw (← c.figure_slot.ensures.0, ne_eqb _ 0 c.if-value-eq0.false) refl)

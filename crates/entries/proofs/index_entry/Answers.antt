@@ -14,4 +14,4 @@ returns-then-index-eq-FRESH_INDEX c = nothing-there (rw (eq-eqb _ fresh_index c.
 
 pub returns : goal.returns
 unfolding index_at
-returns c = rw c.wide.ensures (index-there c.args.place _ (omega arith) (rw (ne_eqb _ fresh_index c.if-index-eq-FRESH_INDEX.false) refl))
+returns c = rw c.from.ensures (index-there c.args.place _ (omega arith) (rw (ne_eqb _ fresh_index c.if-index-eq-FRESH_INDEX.false) refl))

@@ -1,9 +1,9 @@
 -- `entries::is_cleared` meets its contract.
 -- Assumes nothing.
 use mathlib.Core.Path.{◌≡◌, refl, sym, ◌∙◌}
-use mathlib.Core.Bool.{true, false}
+use mathlib.Core.Bool.{true}
 use Rattle.calls.specs.Masks.{has}
-use Rattle.calls.proofs.Flags.{and-true-right, and-false-right}
+use Rattle.calls.proofs.Flags.{and-false-right}
 use Rattle.entries.proofs.is_cleared.Goals as goal
 
 -- marked
@@ -11,13 +11,3 @@ pub returns-then-has_bit : goal.returns-then-has_bit
 returns-then-has_bit c =
     let marked : has c.args.marked c.args.operator ≡ true = sym c.has_bit.ensures ∙ c.if-has_bit.true in
     rw (marked, and-false-right c.args.taken, and-false-right (has c.args.joined c.args.operator)) refl
-
--- not marked: whether it has joined
-pub returns-then-taken : goal.returns-then-taken
-returns-then-taken c =
-    let marked : has c.args.marked c.args.operator ≡ false = sym c.has_bit.ensures ∙ c.if-has_bit.false in
-    c.has_bit-then-taken.ensures ∙ rw (marked, c.if-taken.true, and-true-right) refl
-
--- the kind has no such mark
-pub returns : goal.returns
-returns c = rw (c.if-taken.false, and-false-right) refl

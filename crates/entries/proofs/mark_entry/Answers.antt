@@ -22,9 +22,9 @@ written-if place cleared = cond cleared (Mark (place / indicator_count) (place %
 
 -- what was found of the mark
 cleared : (m : After-is_cleared) → m.is_cleared.result
-    ≡ has m.args.joined (m.args.place / indicator_count)
+    ≡ has m.args.b.now.joined (m.args.place / indicator_count)
     && (takes_mark (indicators_of m.args.kind) (m.args.place % indicator_count)
-    && not (has (get_or m.args.marks.now (m.args.place % indicator_count) 0) (m.args.place / indicator_count)))
+    && not (has (get_or m.args.b.now.marks (m.args.place % indicator_count) 0) (m.args.place / indicator_count)))
 cleared m =
     let taken : m.takes_mark-taken.result ≡ takes_mark (indicators_of m.args.kind) (m.args.place % indicator_count) = m.takes_mark-taken.ensures in
     rw (← taken) m.is_cleared.ensures

@@ -5,7 +5,6 @@ use native.Mathlib.Omega.{arith}
 use Rattle.calls.specs.Indicators.{indicators_of}
 use Rattle.text.specs.Text.{bytes_of}
 use Rattle.output.specs.Output.{settlement_text_as, output_as}
-use borrow.Enum.Refused.{opened}
 use Rattle.calls.proofs.SaidLaws.{told-accepted}
 use Rattle.output.proofs.RefusalLaws.{at_front}
 use Rattle.output.proofs.OutputLaws.{printed-long, at_field, at_end, as-printed}
@@ -33,5 +32,5 @@ unfolding output_as
 returns-in_default c =
     let reading = c.read_fresh_as-reading in
     let done = as-printed c.args.out.now (c.put_settlement.ensures.value, c.put_settlement.ensures.out_after)
-    (at_end (indicators_of c.args.kind) (settlement_text_as (indicators_of c.args.kind)) c.args.filing.now (omega (arith, c.if-filing-gt-LONGEST_FILING.false)) reading.result reading.ensures (told-accepted reading.result.progress.answer (opened c.in_default.in_default-own.keys2))) in
+    (at_end (indicators_of c.args.kind) (settlement_text_as (indicators_of c.args.kind)) c.args.filing.now (omega (arith, c.if-filing-gt-LONGEST_FILING.false)) reading.result reading.ensures (told-accepted reading.result.progress.answer c.in_default.not-Refused)) in
     record { value = done.0; out_after = done.1 }

@@ -1,25 +1,19 @@
 -- `rewriting::put_book` meets its contract.
 -- Assumes nothing.
-use Prim.Native.Nat.{ℕ}
-use mathlib.Core.Path.{◌≡◌, sym, ap, ◌∙◌}
-use native.Mathlib.Omega.{arith}
+use mathlib.Core.Path.{refl, sym, ◌∙◌}
+use lib.ListN.{length}
+use Rattle.std.specs.Prelude.{Ok}
 use Rattle.calls.specs.Indicators.{indicators_of}
-use Rattle.text.specs.Buffer.{filled_said}
+use Rattle.text.proofs.FittingLaws.{fillings-apart}
+use Rattle.writing.specs.Written.{written_as}
 use Rattle.writer.proofs.AnswerLaws.{write-fits}
-use Rattle.rewriting.proofs.PrintoutLaws.{wrote-all}
 use Rattle.rewriting.proofs.put_book.Goals as goal
 
--- written
-pub returns-in-Bytes : goal.returns-in-Bytes
-returns-in-Bytes c =
+-- what the writer says is the number of bytes
+pub returns : goal.returns
+returns c =
+    let kind = indicators_of c.args.kind in
     let wrote = c.write_as in
-    let counted = sym (ap filled_said c.in-Bytes.is) ∙ wrote-all (indicators_of c.args.kind) c.args.b c.args.out.now c.requires.0 c.requires.1 wrote.result wrote.ensures.result_value in
-    record { value = cc; out_after = wrote.ensures.buffer_after ∙ sym (write-fits (indicators_of c.args.kind) c.args.b c.args.out.now c.requires.0 c.requires.1).1 }
-
--- refused, which cannot be
-pub returns-in-Refused : goal.returns-in-Refused
-returns-in-Refused c =
-    let wrote = c.write_as in
-    let refused = sym (ap filled_said c.in-Refused.is) ∙ wrote-all (indicators_of c.args.kind) c.args.b c.args.out.now c.requires.0 c.requires.1 wrote.result wrote.ensures.result_value in
-    let never : ◌≡◌ {A = ℕ} 0 1 = cc in
-    absurd (omega arith)
+    let whole = write-fits kind c.args.b c.args.out.now c.requires.0 c.requires.1 in
+    let counted = fillings-apart wrote.result (Ok (length (written_as kind c.args.b))) (wrote.ensures.result_value ∙ sym whole.0) in
+    record { value = c.unwrap_or.ensures ∙ rw counted refl; out_after = wrote.ensures.buffer_after ∙ sym whole.1 }

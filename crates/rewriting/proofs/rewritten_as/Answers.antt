@@ -6,7 +6,6 @@ use mathlib.Core.Bool.{true}
 use Rattle.calls.specs.Indicators.{indicators_of}
 use Rattle.book.specs.Book.{fresh_book, in_range}
 use Rattle.calls.specs.Answers.{is_refused, said}
-use borrow.Enum.Refused.{opened}
 use Rattle.calls.proofs.SaidLaws.{told-accepted}
 use Rattle.filing.specs.Reader.{Reached, read_as, told}
 use Rattle.text.specs.Text.{bytes_of}
@@ -55,7 +54,7 @@ returns-in_default c =
     let filing = c.args.filing.now in
     let reading = c.read_fresh_as-reading in
     let same : told reading.result ≡ read_as (indicators_of c.args.kind) fresh_book filing = reading.ensures in
-    let fine = ap (λ (r : Reached). is_refused r.said) (sym same) ∙ told-accepted reading.result.progress.answer (opened c.in_default.in_default-own.keys2) in
+    let fine = ap (λ (r : Reached). is_refused r.said) (sym same) ∙ told-accepted reading.result.progress.answer c.in_default.not-Refused in
     let bytes = c.put_book.ensures in
     let text = ap (λ (r : Reached). on_stream Output (written_as (indicators_of c.args.kind) r.book)) same ∙ printout-read (indicators_of c.args.kind) filing (omega (arith, c.if-filing-gt-LONGEST_FILING.false)) fine in
     record { count_value = (λ i. (Output, bytes.value i)) ∙ ap told_of text; out_after = bytes.out_after ∙ ap (λ (p : Printout). put_into c.args.out.now p.text) text }

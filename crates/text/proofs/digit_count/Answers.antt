@@ -1,21 +1,14 @@
--- `text::digit_count` meets its contract: the digits counted and those of the rest are one more than all.
+-- `text::digit_count` meets its contract.
 -- Assumes nothing.
-use mathlib.Core.Path.{ap}
-use mathlib.Core.List.{[], ◌∷◌}
-use Prim.Native.Nat.{◌+◌, ◌/◌, ◌%◌}
+use native.Mathlib.Nat.{pow-suc}
 use native.Mathlib.Omega.{arith}
-use lib.ListN.{length, length-append}
-use Rattle.text.specs.Text.{decimal}
-use Rattle.text.proofs.DigitLaws.{decimal-small, decimal-large, decimal-length}
+use Rattle.text.proofs.DigitLaws.{decimal-length, decimal-longer}
 use Rattle.text.proofs.digit_count.Goals as goal
 
-pub overflow_add-count : goal.overflow_add-count
-overflow_add-count c = omega (arith, c.loop-rest.invariant, decimal-length 19 c.args.n (omega arith))
-
-pub loop-rest-preserved : goal.loop-rest-preserved
-loop-rest-preserved c =
-    let rest = c.loop-rest.rest in
-    omega (arith, c.loop-rest.invariant, ap length (decimal-large rest (omega arith)), length-append (decimal (rest / 10)) ((48 + rest % 10) ∷ []))
-
 pub returns : goal.returns
-returns c = omega (arith, c.loop-rest.invariant, ap length (decimal-small c.loop-rest.rest (omega arith)))
+returns c =
+    let power = c.ilog10.result in
+    let bounds = c.ilog10.ensures in
+    let most = decimal-length power c.args.n (omega (arith, bounds.next_power_gt, pow-suc 10 power, c.max.ensures)) in
+    let least = decimal-longer power c.args.n (rw c.max.ensures at bounds.power_le) in
+    omega (arith, most, least)

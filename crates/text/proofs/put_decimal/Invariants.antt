@@ -5,8 +5,5 @@ use lib.ListN.{length}
 use Rattle.text.proofs.StoredDigits.{Storing}
 use Rattle.text.proofs.put_decimal.Given as goal
 
-abbrev pub invariant-loop-rest : goal.invariant-loop-rest
-invariant-loop-rest l = Storing l.initial.out l.at l.n l.out l.rest l.left × (length l.out ≡ length l.initial.out)
-
-abbrev pub decreases-loop-rest : goal.decreases-loop-rest
-decreases-loop-rest l = l.rest
+abbrev pub invariant-loop-left : goal.invariant-loop-left
+invariant-loop-left l = Storing l.initial.out l.at l.n l.out l.rest l.left × (length l.out ≡ length l.initial.out)

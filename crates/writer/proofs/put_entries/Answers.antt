@@ -11,27 +11,26 @@ use Rattle.writer.proofs.SoFarLaws.{so_far, so-far-none, so-far-all, so-far-entr
 use Rattle.writer.proofs.put_entries.Goals as goal
 
 pub loop-place-init : goal.loop-place-init
-loop-place-init c = (omega arith, rw so-far-none (put-nothing c.args.out.now 0), refl)
+loop-place-init c = (rw so-far-none (put-nothing c.args.out.now 0), refl)
 
 pub put_entry-at-requires : goal.put_entry-at-requires
 put_entry-at-requires c =
     let here = c.loop-place in
-    let entry = c.entry_at-entry.ensures in
-    room_after c.args.out.now 0 (so_far (indicators_of c.args.kind) c.args.b here.place) _ (room-more (indicators_of c.args.kind) c.args.b here.place entry c.args.out.now (omega arith) c.requires) here.invariant.1
+    let entry = c.entry_at.ensures in
+    room_after c.args.out.now 0 (so_far (indicators_of c.args.kind) c.args.b.now here.place) _ (room-more (indicators_of c.args.kind) c.args.b.now here.place entry c.args.out.now (omega arith) c.requires) here.invariant.0
 
 pub loop-place-preserved : goal.loop-place-preserved
 loop-place-preserved c =
     let here = c.loop-place in
-    let entry = c.entry_at-entry.ensures in
+    let entry = c.entry_at.ensures in
     let put = c.put_entry-at in (
-      omega arith,
-      rw (so-far-entry (indicators_of c.args.kind) c.args.b here.place entry)
-          (put_then c.args.out.now 0 (so_far (indicators_of c.args.kind) c.args.b here.place) _ (room-more (indicators_of c.args.kind) c.args.b here.place entry c.args.out.now (omega arith) c.requires) here.invariant.1 put.ensures),
-      put.auto.out ∙ here.invariant.2,
+      rw (so-far-entry (indicators_of c.args.kind) c.args.b.now here.place entry)
+          (put_then c.args.out.now 0 (so_far (indicators_of c.args.kind) c.args.b.now here.place) _ (room-more (indicators_of c.args.kind) c.args.b.now here.place entry c.args.out.now (omega arith) c.requires) here.invariant.0 put.ensures),
+      put.auto.out ∙ here.invariant.1,
     )
 
 pub returns : goal.returns
 returns c =
     let here = c.loop-place in
     let last : here.place ≡ places = omega arith in
-    here.invariant.1.0 ∙ rw (last, so-far-all) (written-front c.args.out.now (written_as (indicators_of c.args.kind) c.args.b))
+    here.invariant.0.0 ∙ rw (last, so-far-all) (written-front c.args.out.now (written_as (indicators_of c.args.kind) c.args.b.now))

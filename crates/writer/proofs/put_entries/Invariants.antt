@@ -1,17 +1,11 @@
 -- `writer::put_entries` meets its contract.
 -- Assumes nothing.
-use Prim.Native.Nat.{◌-◌, ◌≤◌}
 use mathlib.Core.Path.{◌≡◌}
 use lib.ListN.{length}
 use Rattle.calls.specs.Indicators.{indicators_of}
-use Rattle.book.specs.Book.{book_with}
 use Rattle.text.proofs.WrittenLaws.{Put}
-use Rattle.entries.specs.Entries.{places}
 use Rattle.writer.proofs.SoFarLaws.{so_far}
 use Rattle.writer.proofs.put_entries.Given as goal
 
 abbrev pub invariant-loop-place : goal.invariant-loop-place
-invariant-loop-place l = (l.place ≤ places) × Put l.initial.out 0 (so_far (indicators_of l.kind) (book_with l.joined l.marks l.settings l.figures l.pot_rate l.cap_rate l.indices) l.place) l.out l.at × (length l.out ≡ length l.initial.out)
-
-abbrev pub decreases-loop-place : goal.decreases-loop-place
-decreases-loop-place l = places - l.place
+invariant-loop-place l = Put l.initial.out 0 (so_far (indicators_of l.kind) l.b l.place) l.out l.at × (length l.out ≡ length l.initial.out)

@@ -17,9 +17,6 @@ returns-then-buffer-size c =
     let leaves = write-too-short _ c.args.b c.args.buffer.now (sym c.in_range.ensures ∙ c.if-not-in_range.false) (omega (arith, c.written_size-size.ensures)) in
     record { result_value = leaves.0; buffer_after = leaves.1 }
 
-pub put_entries-requires : goal.put_entries-requires
-put_entries-requires c = omega (arith, c.written_size-size.ensures)
-
 -- written
 pub returns : goal.returns
 returns c =

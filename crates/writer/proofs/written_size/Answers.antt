@@ -7,25 +7,18 @@ use Rattle.writer.proofs.SoFarLaws.{so-far-none, so-far-all, size-more}
 use Rattle.writer.proofs.written_size.Goals as goal
 
 pub loop-place-init : goal.loop-place-init
-loop-place-init c = (omega arith, rw so-far-none refl, omega arith)
-
-pub size_of-size-requires : goal.size_of-size-requires
-size_of-size-requires c = c.entry_at.ensures.short
-
-pub overflow_add-size : goal.overflow_add-size
-overflow_add-size c = record { fits = omega (arith, c.entry_at.ensures.short, c.size_of-size.ensures, c.loop-place.invariant.0, c.loop-place.invariant.2) }
+loop-place-init c = (rw so-far-none refl, omega arith)
 
 pub loop-place-preserved : goal.loop-place-preserved
 loop-place-preserved c =
     let here = c.loop-place in
     let entry = c.entry_at.ensures in (
-      omega arith,
-      rw (here.invariant.1, c.size_of-size.ensures) (size-more _ _ here.place entry),
-      omega (arith, entry.short, c.size_of-size.ensures, here.invariant.2),
+      rw (here.invariant.0, c.size_of-size.ensures) (size-more _ _ here.place entry),
+      omega (arith, entry.short, c.size_of-size.ensures, here.invariant.1),
     )
 
 pub returns : goal.returns
 returns c =
     let here = c.loop-place in
     let last : here.place ≡ places = omega arith in
-    here.invariant.1 ∙ rw (last, so-far-all) refl
+    here.invariant.0 ∙ rw (last, so-far-all) refl

@@ -3,7 +3,6 @@
 use mathlib.Core.Path.{sym, ap, ◌∙◌}
 use lib.ListN.{length}
 use Rattle.calls.specs.Answers.{is_refused, said}
-use borrow.Enum.Refused.{opened}
 use Rattle.calls.proofs.SaidLaws.{told-accepted}
 use Rattle.text.specs.Buffer.{put_into}
 use Rattle.output.specs.Output.{refused_line}
@@ -24,7 +23,7 @@ returns-in-Refused c =
 pub returns-in_default : goal.returns-in_default
 returns-in_default c =
     let asked = c.sheet-asked in
-    let fine = ap is_refused (sym asked.ensures.answer_value) ∙ told-accepted asked.result.answer (opened c.in_default.in_default-own.keys2) in
+    let fine = ap is_refused (sym asked.ensures.answer_value) ∙ told-accepted asked.result.answer c.in_default.not-Refused in
     let lines = c.put_counts.ensures in
     let text = ap count_lines asked.ensures.counts_value ∙ sheet-given c.args.operator c.args.year c.args.b fine in
     record { value = lines.value ∙ ap length text; out_after = lines.out_after ∙ ap (put_into _) text }

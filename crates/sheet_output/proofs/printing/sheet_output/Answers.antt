@@ -4,7 +4,6 @@ use mathlib.Core.Path.{refl}
 use native.Mathlib.Omega.{arith}
 use Rattle.calls.specs.Indicators.{electricity}
 use Rattle.text.specs.Text.{bytes_of}
-use borrow.Enum.Refused.{opened}
 use Rattle.calls.proofs.SaidLaws.{told-accepted}
 use Rattle.output.proofs.RefusalLaws.{at_front}
 use Rattle.output.proofs.OutputLaws.{printed-long, at_field, at_end, as-printed}
@@ -33,5 +32,5 @@ unfolding sheet_output_of
 returns-in_default c =
     let reading = c.read_fresh-reading in
     let done = as-printed c.args.out.now (c.put_sheet.ensures.value, c.put_sheet.ensures.out_after)
-    (at_end electricity (sheet_text c.args.operator c.args.year) c.args.filing.now (omega (arith, c.if-filing-gt-LONGEST_FILING.false)) reading.result reading.ensures (told-accepted reading.result.progress.answer (opened c.in_default.in_default-own.keys2))) in
+    (at_end electricity (sheet_text c.args.operator c.args.year) c.args.filing.now (omega (arith, c.if-filing-gt-LONGEST_FILING.false)) reading.result reading.ensures (told-accepted reading.result.progress.answer c.in_default.not-Refused)) in
     record { value = done.0; out_after = done.1 }
