@@ -4,6 +4,7 @@ use mathlib.Core.Path.{◌≡◌, refl, sym, ◌∙◌}
 use mathlib.Core.Bool.{true}
 use mathlib.Core.List.{List}
 use Prim.Native.Nat.{ℕ, ◌<◌, ◌≤◌}
+use native.Mathlib.Omega.{arith}
 use lib.IntN.{ℤ}
 use mir.Syntax.{w64}
 use mir.Val.{SFits, to_z, of_z}
@@ -122,7 +123,7 @@ enter-requires c =
       operator_known = (passed (known m)).small;
       year_known = year_known m;
       figure_known = rw c.count_figure.ensures (left-out-known c.in-Some.reason);
-      sign_most = (within (known m)).sign_most;
+      sign_most = omega (arith, (within (known m)).sign_most);
     }
 
 -- counted, but for 8 or 9
