@@ -8,7 +8,13 @@ ghost use Rattle.admission.specs.Admission.{admission_said};
 use calls::{FIRST_START, LAST_END, LAST_OPERATOR, Refusal, has_bit};
 
 // It has the checks of `admit` again: as one function for both it took 14 instructions more for each amount.
-pub fn admit_interruption(joined: u16, operator: u8, valid: bool, start: i64, end: i64) -> Result<(), Refusal>
+pub fn admit_interruption(
+    joined: u16,
+    operator: u8,
+    valid: bool,
+    start: i64,
+    end: i64,
+) -> Result<(), Refusal>
     ensures { admission_said result ≡ first_of (interruption_lines joined operator valid start end) tt }
 {
     if LAST_OPERATOR < operator {

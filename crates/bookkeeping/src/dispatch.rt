@@ -39,9 +39,7 @@ fn post(kind: Kind, b: &mut Book, filing_call: Call) -> Result<Answer, Refusal>
             end,
             weight,
         } => {
-            return posting::interruption(
-                kind, b, operator, sign, level, cause, start, end, weight,
-            );
+            return posting::interruption(kind, b, operator, sign, level, cause, start, end, weight);
         }
         Call::Amount {
             operator,

@@ -1,6 +1,6 @@
 -- A filing call on a book in range that is lent.
 -- Assumes nothing.
-use Rattle.std.specs.Prelude.{◌≡◌, List, Result, Ok, Err}
+use Rattle.std.specs.Prelude.{ℕ, ◌≡◌, List, Result, Ok, Err}
 use Rattle.calls.specs.declared.Call.{Call}
 use Rattle.calls.specs.declared.Answer.{Answer}
 use Rattle.calls.specs.declared.Answer.TheVariants.{Yes, Refused}
@@ -8,7 +8,9 @@ use Rattle.calls.specs.declared.Refusal.{Refusal}
 use Rattle.calls.specs.Indicators.{Indicator}
 use Rattle.calls.specs.Answers.{said}
 use Rattle.book.specs.declared.Book.{Book}
-use Rattle.ledger.specs.Calls.{apply}
+use Rattle.calls.specs.Call.{interruption_entries, outcome}
+use Rattle.ledger.specs.Calls.{Outcome, apply}
+use Rattle.ledger.specs.Steps.{entering}
 
 -- a call on a book in the range of a kind, by value or lent: the answer, and the book afterwards
 abbrev pub Leaves : List Indicator → Book → Call → Answer → Book → Type 0
@@ -26,3 +28,9 @@ yes_or = answer_as (λ done. Yes)
 -- of a call that has an answer of its own there
 abbrev pub answer_or : Result Answer Refusal → Answer
 answer_or = answer_as (λ answer. answer)
+
+-- an interruption that nothing refuses before 8 and 9: what its outcome enters, and the outcome as its answer
+abbrev pub EntersJudged : Book → ℕ → ℕ → ℕ → ℕ → ℕ → ℕ → ℕ → Answer → Book → Type 0
+EntersJudged old cause operator sign level weight seconds year answer new =
+    let given : Outcome = entering old (interruption_entries operator sign level weight seconds year (outcome cause seconds year)) (outcome cause seconds year) in
+    (said answer ≡ given.said) × (new ≡ given.book)

@@ -2,7 +2,7 @@
 // 5, an interruption 14 and 15, 6 or 7, then 8 and 9.
 ghost use Rattle.std.specs.Prelude.{List};
 ghost use Rattle.calls.specs.Indicators.{Indicator, indicators_of};
-ghost use Rattle.posting.specs.Parts.{Leaves, yes_or, answer_or};
+ghost use Rattle.posting.specs.Parts.{Leaves, yes_or, answer_or, EntersJudged};
 
 use admission::{admit, admit_interruption, mark_unattested};
 use arguments::{
@@ -14,7 +14,7 @@ use calls::{
     Answer, Call, Kind, LAST_OPERATOR, Refusal, has_bit, include_bit, remask, takes_interruptions,
 };
 use judging::{count_figure, judge, seconds_of, year_of};
-use ledger::{enter, enter_counted};
+use ledger::{Counted, Entry, enter, enter_counted};
 
 pub fn join(kind: Kind, b: &mut Book, operator: u8) -> Result<(), Refusal>
     ensures { Leaves (indicators_of kind) b.old (Call.Join operator) (yes_or result) b.new }
@@ -31,13 +31,7 @@ pub fn join(kind: Kind, b: &mut Book, operator: u8) -> Result<(), Refusal>
 }
 
 // Which: 1 active access points, 2 income, else the cabins of a year.
-pub fn setting(
-    kind: Kind,
-    b: &mut Book,
-    operator: u8,
-    which: u8,
-    value: u64,
-) -> Result<(), Refusal>
+pub fn setting(kind: Kind, b: &mut Book, operator: u8, which: u8, value: u64) -> Result<(), Refusal>
     ensures { Leaves (indicators_of kind) b.old (Call.Setting operator which value) (yes_or result) b.new }
 {
     admit(b.joined, operator, setting_in_range(kind, which, value))?;
@@ -67,13 +61,36 @@ pub fn interruption(
     admit_interruption(b.joined, operator, valid, start, end)?;
     let seconds = seconds_of(start, end);
     let year = year_of(start, end);
-    match judge(cause, seconds) {
+    let counted = Counted {
+        operator,
+        sign,
+        level,
+        year,
+        weight,
+        seconds,
+    };
+    enter_judged(b, cause, counted)
+}
+
+// What counts is entered whole, and of what is left out its count.
+fn enter_judged(b: &mut Book, cause: u8, counted: Counted) -> Result<Answer, Refusal>
+    ensures { EntersJudged b.old cause counted.operator counted.sign counted.level counted.weight counted.seconds counted.year (answer_or result) b.new }
+{
+    let year = counted.year;
+    match judge(cause, counted.seconds) {
         None => {
-            enter_counted(b, operator, sign, level, year, weight, seconds)?;
+            enter_counted(b, counted)?;
             Ok(Answer::Counted { year })
         }
         Some(reason) => {
-            enter(b, operator, year, count_figure(reason), sign, 1)?;
+            let one = Entry {
+                operator: counted.operator,
+                year,
+                figure: count_figure(reason),
+                sign: counted.sign,
+                value: 1,
+            };
+            enter(b, one)?;
             Ok(Answer::LeftOut(reason))
         }
     }
@@ -91,8 +108,19 @@ pub fn amount(
 ) -> Result<(), Refusal>
     ensures { Leaves (indicators_of kind) b.old (Call.Amount operator year figure sign value) (yes_or result) b.new }
 {
-    admit(b.joined, operator, amount_in_range(kind, year, figure, sign))?;
-    enter(b, operator, year, figure, sign, value)
+    admit(
+        b.joined,
+        operator,
+        amount_in_range(kind, year, figure, sign),
+    )?;
+    let one = Entry {
+        operator,
+        year,
+        figure,
+        sign,
+        value,
+    };
+    enter(b, one)
 }
 
 // Mark: 1 unreliable, 0 not.

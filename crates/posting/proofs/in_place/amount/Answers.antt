@@ -17,12 +17,12 @@ unfolding facts_of
 returns-in_err-admit c =
     rw (refused-as _ _ _ c.from_residual.ensures.1, member-decided (indicators_of c.args.kind) c.args.b.now (Amount c.args.operator c.args.year c.args.figure c.args.sign c.args.value) c.args.operator _ refl refl refl (sym c.amount_in_range.ensures) refl refl _ (sym c.in_err-admit.ensures)) (refl, refl)
 
-pub enter-requires : goal.enter-requires
+pub invariant_of-one : goal.invariant_of-one
 unfolding facts_of
-enter-requires c =
+invariant_of-one c =
     let passed = member-decided (indicators_of c.args.kind) c.args.b.now (Amount c.args.operator c.args.year c.args.figure c.args.sign c.args.value) c.args.operator _ refl refl refl (sym c.amount_in_range.ensures) refl refl _ (sym c.in_ok-admit.ensures) in
     let within_range = ranges (indicators_of c.args.kind) (Amount c.args.operator c.args.year c.args.figure c.args.sign c.args.value) (sym c.amount_in_range.ensures ∙ passed.within_range) refl in
-    record { operator_known = passed.small; year_known = within_range.0; figure_known = within_range.1; sign_most = within_range.2 }
+    record { in_range = record { operator_known = passed.small; year_known = within_range.0; figure_known = within_range.1; sign_most = within_range.2 } }
 
 -- entered, 8 or 9
 pub returns : goal.returns

@@ -4,7 +4,6 @@ use mathlib.Core.Path.{◌≡◌, refl, sym, ◌∙◌}
 use mathlib.Core.Bool.{true}
 use mathlib.Core.List.{List}
 use Prim.Native.Nat.{ℕ, ◌<◌, ◌≤◌}
-use native.Mathlib.Omega.{arith}
 use lib.IntN.{ℤ}
 use mir.Syntax.{w64}
 use mir.Val.{SFits, to_z, of_z}
@@ -12,14 +11,13 @@ use Rattle.calls.specs.declared.Call.{Call}
 use Rattle.calls.specs.declared.Call.TheVariants.{Interruption}
 use Rattle.calls.specs.Limits.{years, longest}
 use Rattle.calls.specs.Indicators.{Indicator, indicators_of, takes_interruptions}
-use Rattle.calls.specs.Answers.{Said, accepted, counted_in, left_out_as, first_of}
+use Rattle.calls.specs.Answers.{Said, accepted, first_of}
 use Rattle.calls.specs.Call.{starts_after_end, outside_period, details_in_range, seconds_of, year_of, facts_of}
 use Rattle.book.specs.declared.Book.{Book}
 use Rattle.ledger.specs.Calls.{changed, apply}
 use Rattle.ledger.specs.Steps.{interruption_lines, entering}
 use Rattle.calls.proofs.Times.{back, ends, year_lt, lasts, seconds_most}
 use Rattle.calls.proofs.RangeLaws.{Details, details}
-use Rattle.judging.proofs.JudgedLaws.{left-out-counted, left-out-known}
 use Rattle.ledger.proofs.AdmissionLaws.{unknown-call, Decides, Passed, interruption-decided}
 use Rattle.posting.proofs.AnswerLaws.{refused-as}
 use Rattle.posting.proofs.in_place.interruption.Goals as goal
@@ -91,9 +89,9 @@ returns-in_err-admit_interruption c =
     rw (
       refused-as _ _ _ c.from_residual.ensures.1,
       decided (indicators_of c.args.kind) c.args.b.now
-      c.args.operator c.args.sign c.args.level c.args.cause c.args.weight c.args.start c.args.end
-      (sym c.takes_interruptions.ensures ∙ c.if-not-takes_interruptions.false) c.ranges.start c.ranges.end _
-      (sym (rw c.details_in_range-valid.ensures at c.in_err-admit_interruption.ensures)),
+          c.args.operator c.args.sign c.args.level c.args.cause c.args.weight c.args.start c.args.end
+          (sym c.takes_interruptions.ensures ∙ c.if-not-takes_interruptions.false) c.ranges.start c.ranges.end _
+          (sym (rw c.details_in_range-valid.ensures at c.in_err-admit_interruption.ensures)),
     )
     (refl, refl)
 
@@ -103,57 +101,24 @@ seconds_of-seconds-requires c = rw (back c.ranges.start, back c.ranges.end) ((pa
 pub year_of-year-requires : goal.year_of-year-requires
 year_of-year-requires c = rw (back c.ranges.start, back c.ranges.end) (passed c.before).timely
 
-pub enter_counted-requires : goal.enter_counted-requires
-enter_counted-requires c =
-    let m : After-year_of-year = (goal.at.enter_counted-requires c).After-year_of-year in
+pub invariant_of-counted : goal.invariant_of-counted
+invariant_of-counted c =
+    let m : After-year_of-year = (goal.at.invariant_of-counted c).After-year_of-year in
     let within_range = within (known m) in
     record {
-      operator_known = (passed (known m)).small;
-      sign_most = within_range.sign_most;
-      level_most = within_range.level_most;
-      year_known = year_known m;
-      weight_most = within_range.weight_most;
-      seconds_most = seconds_within m;
+      in_range = record {
+        operator_known = (passed (known m)).small;
+        sign_most = within_range.sign_most;
+        level_most = within_range.level_most;
+        year_known = year_known m;
+        weight_most = within_range.weight_most;
+        seconds_most = seconds_within m;
+      };
     }
 
-pub enter-requires : goal.enter-requires
-enter-requires c =
-    let m : After-year_of-year = (goal.at.enter-requires c).After-year_of-year in
-    record {
-      operator_known = (passed (known m)).small;
-      year_known = year_known m;
-      figure_known = rw c.count_figure.ensures (left-out-known c.in-Some.reason);
-      sign_most = omega (arith, (within (known m)).sign_most);
-    }
-
--- counted, but for 8 or 9
-pub returns-in_err-enter_counted-in-None : goal.returns-in_err-enter_counted-in-None
+-- judged
+pub returns : goal.returns
 unfolding facts_of
-returns-in_err-enter_counted-in-None c =
-    let m : After-year_of-year = (goal.at.returns-in_err-enter_counted-in-None c).After-year_of-year in
-    rw (refused-as _ _ _ c.from_residual-in_err-enter_counted-in-None.ensures.1, entered (known m), ← rw (seconds-is m) at (c.judge.ensures (year_of c.args.end)), c.in-None.is)
-    (rw (year-is m, seconds-is m) at (c.in_err-enter_counted-in-None.ensures (counted_in m.year_of-year.result)))
-
--- counted
-pub returns-in_ok-enter_counted-in-None : goal.returns-in_ok-enter_counted-in-None
-unfolding facts_of
-returns-in_ok-enter_counted-in-None c =
-    let m : After-year_of-year = (goal.at.returns-in_ok-enter_counted-in-None c).After-year_of-year in
-    rw (year-is m, entered (known m), ← rw (seconds-is m) at (c.judge.ensures (year_of c.args.end)), c.in-None.is)
-    (rw (year-is m, seconds-is m) at (c.in_ok-enter_counted-in-None.ensures (counted_in m.year_of-year.result)))
-
--- left out, but for 8 or 9
-pub returns-in_err-enter-in-Some : goal.returns-in_err-enter-in-Some
-unfolding facts_of
-returns-in_err-enter-in-Some c =
-    let m : After-year_of-year = (goal.at.returns-in_err-enter-in-Some c).After-year_of-year in
-    rw (refused-as _ _ _ c.from_residual-in_err-enter-in-Some.ensures.1, entered (known m), ← rw (seconds-is m) at (c.judge.ensures (year_of c.args.end)), c.in-Some.is, left-out-counted)
-    (rw (year-is m, c.count_figure.ensures) at (c.in_err-enter-in-Some.ensures (left_out_as c.in-Some.reason)))
-
--- left out
-pub returns-in_ok-enter-in-Some : goal.returns-in_ok-enter-in-Some
-unfolding facts_of
-returns-in_ok-enter-in-Some c =
-    let m : After-year_of-year = (goal.at.returns-in_ok-enter-in-Some c).After-year_of-year in
-    rw (entered (known m), ← rw (seconds-is m) at (c.judge.ensures (year_of c.args.end)), c.in-Some.is, left-out-counted)
-    (rw (year-is m, c.count_figure.ensures) at (c.in_ok-enter-in-Some.ensures (left_out_as c.in-Some.reason)))
+returns c =
+    let m : After-year_of-year = (goal.at.returns c).After-year_of-year in
+    rw (entered (known m)) (rw (year-is m, seconds-is m) at c.enter_judged.ensures)
