@@ -5,31 +5,36 @@ ghost use Rattle.calls.specs.Call.{outside_period};
 ghost use Rattle.ledger.specs.Steps.{interruption_lines};
 ghost use Rattle.admission.specs.Admission.{admission_said};
 
-use crate::Admission;
 use calls::{FIRST_START, LAST_END, LAST_OPERATOR, Refusal, has_bit};
 
 // It has the checks of `admit` again: as one function for both it took 14 instructions more for each amount.
-pub fn admit_interruption(joined: u16, operator: u8, valid: bool, start: i64, end: i64) -> Admission
+pub fn admit_interruption(
+    joined: u16,
+    operator: u8,
+    valid: bool,
+    start: i64,
+    end: i64,
+) -> Result<(), Refusal>
     ensures { admission_said result ≡ first_of (interruption_lines joined operator valid start end) tt }
 {
     if LAST_OPERATOR < operator {
-        return Admission::Refused(Refusal::UnknownOperator);
+        return Err(Refusal::UnknownOperator);
     }
     let member = has_bit(joined, operator);
     let outside = is_outside(start, end);
     if !valid {
-        return Admission::Refused(Refusal::OutOfRange);
+        return Err(Refusal::OutOfRange);
     }
     if end < start {
-        return Admission::Refused(Refusal::StartsAfterEnd);
+        return Err(Refusal::StartsAfterEnd);
     }
     if outside {
-        return Admission::Refused(Refusal::OutsidePeriod);
+        return Err(Refusal::OutsidePeriod);
     }
     if !member {
-        return Admission::Refused(Refusal::NotJoined);
+        return Err(Refusal::NotJoined);
     }
-    Admission::Admitted
+    Ok(())
 }
 
 // Whether it ends outside the three years or starts too early.

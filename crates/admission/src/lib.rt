@@ -15,28 +15,21 @@ ghost use Rattle.admission.specs.Admission.{admission_said};
 use calls::{Kind, LAST_OPERATOR, Refusal, has_bit, include_bit, takes_mark};
 pub use interruptions::admit_interruption;
 
-// Whether a call passes the checks that it shares with others.
-#[derive(Clone, Copy)]
-pub enum Admission {
-    Admitted,
-    Refused(Refusal),
-}
-
 // The checks that setting, amount, mark and a yearly sheet share: 4, 5 and 7, in the order of the table.
-pub fn admit(joined: u16, operator: u8, valid: bool) -> Admission
+pub fn admit(joined: u16, operator: u8, valid: bool) -> Result<(), Refusal>
     ensures { admission_said result ≡ first_of (member_lines joined operator valid) tt }
 {
     if LAST_OPERATOR < operator {
-        return Admission::Refused(Refusal::UnknownOperator);
+        return Err(Refusal::UnknownOperator);
     }
     let member = has_bit(joined, operator);
     if !valid {
-        return Admission::Refused(Refusal::OutOfRange);
+        return Err(Refusal::OutOfRange);
     }
     if !member {
-        return Admission::Refused(Refusal::NotJoined);
+        return Err(Refusal::NotJoined);
     }
-    Admission::Admitted
+    Ok(())
 }
 
 // No attestation is in when an operator joins: its mark is set at every indicator of the kind.
@@ -44,12 +37,10 @@ pub fn mark_unattested(kind: Kind, marks: &mut [u16], operator: u8)
     requires { (operator < operators) × (length marks.old ≤ indicator_count) }
     ensures { marks.new ≡ unattested (indicators_of kind) marks.old operator }
 {
-    let mut indicator = 0;
-    while indicator < marks.len() {
+    for indicator in 0..marks.len() {
         let mask = marks[indicator];
         let marked = mark_newcomer(mask, operator, takes_mark(kind, indicator as u8));
         marks[indicator] = marked;
-        indicator += 1;
     }
 }
 

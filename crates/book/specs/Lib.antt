@@ -1,3 +1,2 @@
 -- The definitions of `book`.
 pub mod Book
-pub mod Steps

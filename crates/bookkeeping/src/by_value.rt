@@ -3,13 +3,13 @@ ghost use Rattle.calls.specs.Indicators.{indicators_of};
 ghost use Rattle.ledger.specs.Filed.{FilesAs, Files};
 
 use crate::Answered;
-use crate::dispatch::apply;
+use crate::dispatch::apply_in;
 use book::Book;
 use calls::{Answer, Call, Kind, Refusal};
 use range::in_range;
 
 // A call that is at hand as a value, on a book of a kind.
-pub fn file_as(kind: Kind, b: Book, filing_call: Call) -> Answered
+pub fn file_as(kind: Kind, mut b: Book, filing_call: Call) -> Answered
     ensures { FilesAs (indicators_of kind) b filing_call result.answer result.book }
 {
     if !in_range(kind, b) {
@@ -18,7 +18,8 @@ pub fn file_as(kind: Kind, b: Book, filing_call: Call) -> Answered
             answer: Answer::Refused(Refusal::OutOfRange),
         };
     }
-    apply(kind, b, filing_call)
+    let answer = apply_in(kind, &mut b, filing_call);
+    Answered { book: b, answer }
 }
 
 // The same on a book of electricity, as all calls that follow.

@@ -1,4 +1,4 @@
-// The filing calls on whole books: a call as a value on the parts of a book, and the calls by value, of electricity and of gas.
+// The filing calls on whole books: a call as a value on a book that is lent, and the calls by value, of electricity and of gas.
 #![tactic(auto)]
 
 mod by_value;

@@ -1,16 +1,14 @@
 -- A figure that is filed to or withdrawn from: its new value, or the number by which that is refused (01, numbers 8 and 9).
 -- Assumes nothing.
-use Rattle.std.specs.Prelude.{ℕ, ◌+◌, ◌-◌, cond, not, ◌&&◌, [], ◌∷◌, ltb, eqb}
-use Rattle.judging.specs.declared.Moved.{Moved}
-use Rattle.judging.specs.declared.Moved.TheVariants.{To, Above, Below}
+use Rattle.std.specs.Prelude.{ℕ, ◌+◌, ◌-◌, cond, not, ◌&&◌, [], ◌∷◌, ltb, eqb, Result}
+use Rattle.calls.specs.declared.Refusal.{Refusal}
 use Rattle.calls.specs.Limits.{figure_limit}
-use Rattle.calls.specs.Answers.{Said, refused_by, accepted, first_of}
+use Rattle.calls.specs.Answers.{Said, first_of}
+use Rattle.judging.specs.Results.{said_as}
 
 -- what the code's answer says
-abbrev pub moved_said : Moved → Said ℕ
-moved_said (To new) = accepted new
-moved_said Above = refused_by 8
-moved_said Below = refused_by 9
+abbrev pub moved_said : Result ℕ Refusal → Said ℕ
+moved_said = said_as (λ new. new)
 
 -- a figure with a value added, or with sign 1 subtracted; any other sign subtracts too, and no call gets here with one
 unfoldable pub moved_by : ℕ → ℕ → ℕ → Said ℕ

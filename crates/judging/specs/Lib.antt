@@ -1,3 +1,4 @@
 -- The definitions of `judging`.
+pub mod Results
 pub mod Figures
 pub mod Steps

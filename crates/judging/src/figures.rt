@@ -2,24 +2,23 @@
 ghost use Rattle.std.specs.Prelude.{◌≡◌};
 ghost use Rattle.judging.specs.Figures.{moved_said, moved_by};
 
-use crate::Moved;
-use calls::FIGURE_LIMIT;
+use calls::{FIGURE_LIMIT, Refusal};
 
-// A figure with a value added, or with sign 1 subtracted.
-pub fn move_figure(sign: u8, value: u64, old: u64) -> Moved
+// A figure with a value added, or with sign 1 subtracted; refused above its limit or below 0.
+pub fn move_figure(sign: u8, value: u64, old: u64) -> Result<u64, Refusal>
     ensures { moved_said result ≡ moved_by sign value old }
 {
     if sign == 0 {
         if FIGURE_LIMIT < value {
-            return Moved::Above;
+            return Err(Refusal::AboveLimit);
         }
         if FIGURE_LIMIT - value < old {
-            return Moved::Above;
+            return Err(Refusal::AboveLimit);
         }
-        return Moved::To(old + value);
+        return Ok(old + value);
     }
     if old < value {
-        return Moved::Below;
+        return Err(Refusal::BelowZero);
     }
-    Moved::To(old - value)
+    Ok(old - value)
 }

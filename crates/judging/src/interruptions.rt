@@ -4,7 +4,6 @@ ghost use Rattle.calls.specs.Answers.{left_out_as};
 ghost use Rattle.calls.specs.Call.{starts_after_end, outside_period, year_of, seconds_of, count_figure};
 ghost use Rattle.judging.specs.Steps.{JudgedAs};
 
-use crate::Judged;
 use calls::{FIRST_COUNT, Reason};
 
 const YEAR_LENGTH: u64 = 31536000;
@@ -29,23 +28,23 @@ pub fn seconds_of(start: i64, end: i64) -> u64
     (end - start) as u64
 }
 
-// Whether an interruption counts: short comes before the cause.
-pub fn judge(cause: u8, seconds: u64) -> Judged
+// Why an interruption is left out, if it is: short comes before the cause.
+pub fn judge(cause: u8, seconds: u64) -> Option<Reason>
     ensures { JudgedAs cause seconds result }
 {
     if seconds <= SHORT {
-        return Judged::LeftOut(Reason::Short);
+        return Some(Reason::Short);
     }
     if cause == 1 {
-        return Judged::LeftOut(Reason::Planned);
+        return Some(Reason::Planned);
     }
     if cause == 2 {
-        return Judged::LeftOut(Reason::Coupled);
+        return Some(Reason::Coupled);
     }
     if cause == 3 {
-        return Judged::LeftOut(Reason::Exceptional);
+        return Some(Reason::Exceptional);
     }
-    Judged::Counts
+    None
 }
 
 // The figure that counts those left out for a reason; figure FIRST_COUNT counts those that count.

@@ -1,14 +1,14 @@
 -- An entry after others of other figures: what entering them all gives, by what the others give and what becomes of its figure.
 -- Assumes nothing.
 use mathlib.Core.Path.{◌≡◌, refl, sym, ap, ◌∙◌}
-use mathlib.Core.Logic.{◌≢◌}
+use mathlib.Core.Logic.{◌≢◌, inl, inr}
 use mathlib.Core.Bool.{Bool, true, false, ◌||◌, false≢true}
 use mathlib.Core.List.{List, [], ◌∷◌, ◌++◌}
 use Prim.Native.Nat.{ℕ}
 use lib.ListN.{get_or, set}
-use lib.Seq.{get_or-set_other, set-get_or}
+use lib.Seq.{get_or-set_other}
 use Rattle.book.specs.declared.Book.{Book}
-use Rattle.calls.specs.Answers.{Said, is_refused, on_answer, first_of, Acceptance}
+use Rattle.calls.specs.Answers.{is_refused, on_answer, first_of, Acceptance}
 use Rattle.calls.specs.Call.{Entry}
 use Rattle.calls.proofs.Flags.{or-false-right, or_true_right}
 use Rattle.book.specs.Book.{with_figures, figure_slot, figure_of}
@@ -17,7 +17,7 @@ use Rattle.ledger.specs.Table.{passes_limit, falls_below}
 use Rattle.ledger.specs.Calls.{Outcome, entered, enter_all, outcome_of}
 use Rattle.ledger.specs.Steps.{entering}
 use Rattle.ledger.proofs.AdmissionLaws.{refused_call, accepted_call}
-use Rattle.ledger.proofs.MoveLaws.{passes, falls, no-limit, none_passes, Signed, placed, figure_at, MovesAt, refused-above, refused-below, entered_all}
+use Rattle.ledger.proofs.MoveLaws.{passes, falls, no-limit, none_passes, Signed, placed, figure_at, Stops, MovesAt}
 
 -- none of a list's entries is of a place
 abbrev pub Apart : List Entry → ℕ → Type 0
@@ -50,11 +50,11 @@ module _ (b : Book) (list : List Entry) (entry : Entry) (value : Acceptance) whe
   abbrev both : List Entry
   both = list ++ (entry ∷ [])
 
-  pub last-above : passes entry.sign entry.value (figure_at b entry) ≡ true → entering b both value ≡ refused_call b 8
+  last-above : passes entry.sign entry.value (figure_at b entry) ≡ true → entering b both value ≡ refused_call b 8
   unfolding entering first_of outcome_of on_answer passes_limit
   last-above e = rw (some-last (passes_limit (figure_of b)) list entry, e, or_true_right (some (passes_limit (figure_of b)) list)) refl
 
-  pub last-below : Signed list entry.sign → falls entry.sign entry.value (figure_at b entry) ≡ true → entering b both value ≡ refused_call b 9
+  last-below : Signed list entry.sign → falls entry.sign entry.value (figure_at b entry) ≡ true → entering b both value ≡ refused_call b 9
   unfolding entering first_of outcome_of on_answer passes_limit falls_below
   last-below signs e =
       rw (
@@ -66,6 +66,10 @@ module _ (b : Book) (list : List Entry) (entry : Entry) (value : Acceptance) whe
         or_true_right (some (falls_below (figure_of b)) list),
       )
       refl
+
+  pub last-stopped : (number : ℕ) → Signed list entry.sign → Stops entry.sign entry.value (figure_at b entry) number → entering b both value ≡ refused_call b number
+  last-stopped number signs (inl stop) = rw stop.0 (last-above stop.1)
+  last-stopped number signs (inr stop) = rw stop.0 (last-below signs stop.1)
 
   module _ (new : ℕ) (moves : MovesAt b entry new) where
     -- refused for one of the others
@@ -118,32 +122,3 @@ module _ (b : Book) (list : List Entry) (entry : Entry) (value : Acceptance) whe
         go true t same = absurd (false≢true (sym (ap (λ (o : Outcome). is_refused o.said) same)))
         go false true same = absurd (false≢true (sym (ap (λ (o : Outcome). is_refused o.said) same)))
         go false false same = ap (λ (o : Outcome). accepted_call (stored o.book) value) same
-
-    -- after what the others are answered and leave: the last one's figure moves, or stays where they are refused
-    pub last-follows : Apart list (placed b entry) → (told : Said Acceptance) (after : Book) → told ≡ (entering b list value).said → after ≡ (entering b list value).book
-        → (told ≡ (entering b both value).said)
-        × (with_figures after (set after.figures (placed b entry) (on_answer (λ (number : ℕ). figure_at b entry) (λ (v : Acceptance). new) told)) ≡ (entering b both value).book)
-    unfolding on_answer figure_of
-    last-follows apart told after told_is after_is =
-        rw (told_is, after_is) (go (some (passes_limit (figure_of b)) list) (some (falls_below (figure_of b)) list) refl refl)
-      where
-        follows : Outcome → Outcome
-        follows o =
-            record {
-              book = with_figures o.book (set o.book.figures (placed b entry) (on_answer (λ (number : ℕ). figure_at b entry) (λ (v : Acceptance). new) o.said));
-              said = o.said;
-            }
-
-        same : entering b both value ≡ follows (entering b list value) → ((entering b list value).said ≡ (entering b both value).said) × ((follows (entering b list value)).book ≡ (entering b both value).book)
-        same e = rw e (refl, refl)
-
-        stayed : (number : ℕ) → entering b list value ≡ refused_call b number → entering b both value ≡ follows (entering b list value)
-        stayed number e = rw (last-refused number e, e, set-get_or b.figures (placed b entry) 0) refl
-
-        go : (s t : Bool) → some (passes_limit (figure_of b)) list ≡ s → some (falls_below (figure_of b)) list ≡ t
-            → ((entering b list value).said ≡ (entering b both value).said) × ((follows (entering b list value)).book ≡ (entering b both value).book)
-        go true t p f = same (stayed 8 (refused-above b list value p))
-        go false true p f = same (stayed 9 (refused-below b list value p f))
-        go false false p f =
-            let e = entered_all b list value p f in
-            same (last-moved (enter_all b list) apart e ∙ rw e refl)

@@ -1,7 +1,7 @@
 -- Figures that are filed to or withdrawn from, and the tests of 8 and 9.
 -- Assumes nothing.
-use mathlib.Core.Path.{◌≡◌, refl, sym, ap, subst, ◌∙◌}
-use mathlib.Core.Logic.{◌≢◌}
+use mathlib.Core.Path.{◌≡◌, refl, sym, subst}
+use mathlib.Core.Logic.{◌≢◌, ◌⊎◌, inl, inr}
 use mathlib.Core.Bool.{Bool, true, false, cond, not, ◌&&◌}
 use mathlib.Core.List.{List, [], ◌∷◌}
 use Prim.Native.Nat.{ℕ, ◌+◌, ◌-◌, ◌≤◌}
@@ -10,16 +10,13 @@ use lib.Dec.{ltb, eqb}
 use lib.ListN.{set}
 use borrow.Author.Tests.{eqb-true, eqb-false, eq-eqb, ne_eqb}
 use Rattle.book.specs.declared.Book.{Book}
-use Rattle.judging.specs.declared.Moved.{Moved}
-use Rattle.judging.specs.declared.Moved.TheVariants.{To, Above, Below}
 use Rattle.calls.specs.Limits.{figure_limit}
-use Rattle.calls.specs.Answers.{on_answer, first_of, Acceptance}
+use Rattle.calls.specs.Answers.{Said, refused_by, accepted, on_answer, first_of, Acceptance}
 use Rattle.book.specs.Book.{with_figures, figure_slot, figure_of}
 use Rattle.calls.specs.Indicators.{some}
 use Rattle.calls.specs.Call.{Entry}
-use Rattle.judging.specs.Figures.{moved_said, moved_by}
+use Rattle.judging.specs.Figures.{moved_by}
 use Rattle.calls.proofs.Flags.{and_left}
-use Rattle.judging.proofs.MovedLaws.{moved_saying, moved_back}
 use Rattle.ledger.specs.Table.{passes_limit, falls_below}
 use Rattle.ledger.specs.Calls.{entered, enter_all, outcome_of}
 use Rattle.ledger.specs.Steps.{entering}
@@ -43,33 +40,35 @@ pub record Moves (sign value old new : ℕ) : Type 0 where
   pub above_zero : falls sign value old ≡ false
   pub reaches : cond (eqb sign 0) (old + value) (old - value) ≡ new
 
-module _ (sign value old : ℕ) (valid : sign ≤ 1) where
-  -- what a move says of the tests
-  abbrev pub As : Moved → Type 0
-  As (To new) = Moves sign value old new
-  As Above = passes sign value old ≡ true
-  As Below = falls sign value old ≡ true
+module _ (sign value old : ℕ) where
+  -- what stops a move: the limit, by 8, or 0, by 9
+  abbrev pub Stops : ℕ → Type 0
+  Stops number = ((number ≡ 8) × (passes sign value old ≡ true)) ⊎ ((number ≡ 9) × (falls sign value old ≡ true))
 
-  withdraws : eqb sign 0 ≡ false → eqb sign 1 ≡ true
-  withdraws e = eq-eqb sign 1 (omega (arith, eqb-false sign 0 e))
+  -- what is said of a move, by the tests
+  abbrev pub As : Said ℕ → Type 0
+  As (accepted new) = Moves sign value old new
+  As (refused_by number) = Stops number
 
-  files-only : eqb sign 0 ≡ true → eqb sign 1 ≡ false
-  files-only e = ne_eqb sign 1 (λ o. omega (arith, eqb-true sign 0 e, o))
+  module _ (valid : sign ≤ 1) where
+    withdraws : eqb sign 0 ≡ false → eqb sign 1 ≡ true
+    withdraws e = eq-eqb sign 1 (omega (arith, eqb-false sign 0 e))
 
-  -- a move that is told, and what its answer says
-  pub moved_as : {r m : Moved} → r ≡ m → moved_said r ≡ moved_by sign value old → As m
-  unfolding moved_by first_of
-  moved_as {r} {m} told says =
-      subst As (ap moved_saying (sym says) ∙ moved_back r ∙ told) (go (eqb sign 0) (ltb figure_limit (old + value)) (ltb old value) refl refl refl)
-    where
-      go : (files above below : Bool) → eqb sign 0 ≡ files → ltb figure_limit (old + value) ≡ above → ltb old value ≡ below
-          → As
-          (moved_saying
-          (first_of ((8, files && above) ∷ (9, not files && below) ∷ []) (cond files (old + value) (old - value))))
-      go true true below f a b = rw (f, a) refl
-      go true false below f a b = record { below_limit = rw (f, a) refl; above_zero = rw (files-only f) refl; reaches = rw f refl }
-      go false above true f a b = rw (withdraws f, b) refl
-      go false above false f a b = record { below_limit = rw f refl; above_zero = rw (withdraws f, b) refl; reaches = rw f refl }
+    files-only : eqb sign 0 ≡ true → eqb sign 1 ≡ false
+    files-only e = ne_eqb sign 1 (λ o. omega (arith, eqb-true sign 0 e, o))
+
+    -- of a move, by what is said of it
+    pub moved_as : (answer : Said ℕ) → answer ≡ moved_by sign value old → As answer
+    unfolding moved_by first_of
+    moved_as answer says =
+        subst As (sym says) (go (eqb sign 0) (ltb figure_limit (old + value)) (ltb old value) refl refl refl)
+      where
+        go : (files above below : Bool) → eqb sign 0 ≡ files → ltb figure_limit (old + value) ≡ above → ltb old value ≡ below
+            → As (first_of ((8, files && above) ∷ (9, not files && below) ∷ []) (cond files (old + value) (old - value)))
+        go true true below f a b = inl (refl, rw (f, a) refl)
+        go true false below f a b = record { below_limit = rw (f, a) refl; above_zero = rw (files-only f) refl; reaches = rw f refl }
+        go false above true f a b = inr (refl, rw (withdraws f, b) refl)
+        go false above false f a b = record { below_limit = rw f refl; above_zero = rw (withdraws f, b) refl; reaches = rw f refl }
 
 -- a test over the entries of a list
 pub some-none : (test : Entry → Bool) → some test [] ≡ false
@@ -114,6 +113,11 @@ module _ (b : Book) (list : List Entry) (value : Acceptance) where
   unfolding entering first_of outcome_of on_answer
   entered_all p f = rw (p, f) refl
 
+  -- what is refused leaves the book, and what is accepted is entered
+  pub refused-entering : (number : ℕ) → refused_by number ≡ (entering b list value).said → entering b list value ≡ refused_call b number
+  unfolding entering outcome_of on_answer
+  refused-entering number e = rw (← e) refl
+
 -- one figure moved
 module _ (b : Book) where
   abbrev pub placed : Entry → ℕ
@@ -132,16 +136,20 @@ module _ (b : Book) where
 
   -- one entry, and the first of several, by what became of its figure
   module _ (entry : Entry) (value : Acceptance) where
-    pub one-above : passes entry.sign entry.value (figure_at entry) ≡ true → entering b (entry ∷ []) value ≡ refused_call b 8
+    one-above : passes entry.sign entry.value (figure_at entry) ≡ true → entering b (entry ∷ []) value ≡ refused_call b 8
     unfolding passes_limit
     one-above e = refused-above b (entry ∷ []) value (some-here _ _ _ e)
 
-    pub one_below : falls entry.sign entry.value (figure_at entry) ≡ true → entering b (entry ∷ []) value ≡ refused_call b 9
+    one_below : falls entry.sign entry.value (figure_at entry) ≡ true → entering b (entry ∷ []) value ≡ refused_call b 9
     unfolding passes_limit falls_below
     one_below e =
         refused-below b (entry ∷ []) value
         (some-rest _ _ _ (no-limit entry.sign entry.value (figure_at entry) entry.value (figure_at entry) e) (some-none _))
         (some-here _ _ _ e)
+
+    pub one-stopped : (number : ℕ) → Stops entry.sign entry.value (figure_at entry) number → entering b (entry ∷ []) value ≡ refused_call b number
+    one-stopped number (inl stop) = rw stop.0 (one-above stop.1)
+    one-stopped number (inr stop) = rw stop.0 (one_below stop.1)
 
     pub one-moved : (new : ℕ) → MovesAt entry new → entering b (entry ∷ []) value ≡ accepted_call (with_figures b (set b.figures (placed entry) new)) value
     unfolding passes_limit falls_below
@@ -150,17 +158,22 @@ module _ (b : Book) where
         (entered_all b (entry ∷ []) value (some-rest _ _ _ moves.below_limit (some-none _)) (some-rest _ _ _ moves.above_zero (some-none _)))
 
     module _ (rest : List Entry) where
-      pub first_above : passes entry.sign entry.value (figure_at entry) ≡ true → entering b (entry ∷ rest) value ≡ refused_call b 8
+      first_above : passes entry.sign entry.value (figure_at entry) ≡ true → entering b (entry ∷ rest) value ≡ refused_call b 8
       unfolding passes_limit
       first_above e = refused-above b (entry ∷ rest) value (some-here _ _ _ e)
 
-      pub first_below : Signed rest entry.sign → falls entry.sign entry.value (figure_at entry) ≡ true → entering b (entry ∷ rest) value ≡ refused_call b 9
+      first_below : Signed rest entry.sign → falls entry.sign entry.value (figure_at entry) ≡ true → entering b (entry ∷ rest) value ≡ refused_call b 9
       unfolding passes_limit falls_below
       first_below signs e =
           refused-below b (entry ∷ rest) value
           (some-rest _ _ _ (no-limit entry.sign entry.value (figure_at entry) entry.value (figure_at entry) e)
           (none_passes (figure_of b) rest entry.sign entry.value (figure_at entry) e signs))
           (some-here _ _ _ e)
+
+      pub first-stopped : (number : ℕ) → Signed rest entry.sign → Stops entry.sign entry.value (figure_at entry) number
+          → entering b (entry ∷ rest) value ≡ refused_call b number
+      first-stopped number signs (inl stop) = rw stop.0 (first_above stop.1)
+      first-stopped number signs (inr stop) = rw stop.0 (first_below signs stop.1)
 
 -- figures of one operator and year stand apart
 pub slots_apart : (operator year figure other : ℕ) → figure ≢ other → figure_slot operator year figure ≢ figure_slot operator year other

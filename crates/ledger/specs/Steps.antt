@@ -1,14 +1,15 @@
 -- What inner functions of the calls give and ask: the lines that calls share, and entries made on a book.
 -- Assumes nothing.
-use Rattle.std.specs.Prelude.{ℕ, ◌≤◌, ◌<◌, ◌≡◌, Bool, not, List, [], ◌∷◌, leb, ℤ}
-use Rattle.calls.specs.declared.Answer.{Answer}
+use Rattle.std.specs.Prelude.{ℕ, ◌≤◌, ◌<◌, ◌≡◌, Bool, not, List, [], ◌∷◌, leb, ℤ, Result}
+use Rattle.calls.specs.declared.Refusal.{Refusal}
 use Rattle.calls.specs.Limits.{operators, years, figure_count, weight_limit, longest}
 use Rattle.calls.specs.Masks.{has}
-use Rattle.calls.specs.Answers.{accepted, first_of, Acceptance, said}
+use Rattle.calls.specs.Answers.{first_of, Acceptance}
 use Rattle.calls.specs.Indicators.{some}
 use Rattle.calls.specs.Call.{Entry, starts_after_end, outside_period}
 use Rattle.book.specs.declared.Book.{Book}
-use Rattle.book.specs.Book.{with_figures, figure_of}
+use Rattle.book.specs.Book.{figure_of}
+use Rattle.judging.specs.Results.{said_as}
 use Rattle.ledger.specs.Table.{passes_limit, falls_below}
 use Rattle.ledger.specs.Calls.{Outcome, enter_all, outcome_of}
 
@@ -48,11 +49,7 @@ entering b list value =
     outcome_of b (enter_all b list)
     (first_of ((8, some (passes_limit (figure_of b)) list) ∷ (9, some (falls_below (figure_of b)) list) ∷ []) value)
 
--- entries made in figures that are lent, whatever book they belong to: the answer, and the figures as they are left
-abbrev pub Enters : List ℕ → List Entry → Acceptance → Answer → List ℕ → Type 0
-Enters old list value answer new =
-    (b : Book) → (said answer ≡ (entering (with_figures b old) list value).said) × (with_figures b new ≡ (entering (with_figures b old) list value).book)
-
--- one entry, of a call that is answered so where nothing refuses it
-abbrev pub EntersOne : List ℕ → Entry → Answer → Answer → List ℕ → Type 0
-EntersOne old one unless-refused answer new = (value : Acceptance) → said unless-refused ≡ accepted value → Enters old (one ∷ []) value answer new
+-- entries made in a book that is lent, by a call that is answered so where nothing refuses it: what is answered, and the book as it is left
+abbrev pub Enters : {A : Type 0} → Book → List Entry → Result A Refusal → Book → Type 0
+Enters old list result new =
+    (value : Acceptance) → (said_as (λ done. value) result ≡ (entering old list value).said) × (new ≡ (entering old list value).book)

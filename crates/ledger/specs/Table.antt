@@ -5,7 +5,7 @@ use Rattle.calls.specs.declared.Call.{Call}
 use Rattle.calls.specs.Limits.{operators, figure_limit}
 use Rattle.calls.specs.Answers.{Said, first_of, Acceptance}
 use Rattle.calls.specs.Indicators.{Indicator, some}
-use Rattle.calls.specs.Call.{Entry, Facts, facts_of}
+use Rattle.calls.specs.Call.{Entry, facts_of}
 
 module _ (total : ℕ → ℕ → ℕ → ℕ) (entry : Entry) where
   abbrev pub total_at : ℕ

@@ -1,32 +1,36 @@
--- A filing call on a book in range, said of the parts of a book that are lent to it.
+-- A filing call on a book in range that is lent.
 -- Assumes nothing.
-use Rattle.std.specs.Prelude.{ℕ, ◌≡◌, List}
+use Rattle.std.specs.Prelude.{ℕ, ◌≡◌, List, Result, Ok, Err}
 use Rattle.calls.specs.declared.Call.{Call}
 use Rattle.calls.specs.declared.Answer.{Answer}
+use Rattle.calls.specs.declared.Answer.TheVariants.{Yes, Refused}
+use Rattle.calls.specs.declared.Refusal.{Refusal}
 use Rattle.calls.specs.Indicators.{Indicator}
 use Rattle.calls.specs.Answers.{said}
 use Rattle.book.specs.declared.Book.{Book}
-use Rattle.book.specs.Book.{with_joined, with_marks, with_settings, with_figures, with_rates, with_indices}
-use Rattle.ledger.specs.Calls.{apply}
+use Rattle.calls.specs.Call.{interruption_entries, outcome}
+use Rattle.ledger.specs.Calls.{Outcome, apply}
+use Rattle.ledger.specs.Steps.{entering}
 
--- a call on a book in the range of a kind, by value or by its parts lent: the answer, and the book afterwards
+-- a call on a book in the range of a kind, by value or lent: the answer, and the book afterwards
 abbrev pub Leaves : List Indicator → Book → Call → Answer → Book → Type 0
 Leaves kind old call answer new = (said answer ≡ (apply kind old call).said) × (new ≡ (apply kind old call).book)
 
--- the same of parts that are lent, whatever book they belong to: operators and marks, settings or figures beside the operators, rates,
--- indices, where the kind makes no difference; each as it was, the call, the answer, and as it is left
-abbrev pub OnMarks : List Indicator → ℕ → List ℕ → Call → Answer → ℕ → List ℕ → Type 0
-OnMarks kind joined marks call answer joined' marks' =
-    (b : Book) → Leaves kind (with_marks (with_joined b joined) marks) call answer (with_marks (with_joined b joined') marks')
+-- the answer that a result stands for: refused, or what its value stands for
+abbrev pub answer_as : {A : Type 0} → (A → Answer) → Result A Refusal → Answer
+answer_as meaning (Ok value) = meaning value
+answer_as meaning (Err refusal) = Refused refusal
 
-abbrev pub OnSettings : List Indicator → ℕ → List ℕ → Call → Answer → List ℕ → Type 0
-OnSettings kind joined old call answer new = (b : Book) → Leaves kind (with_settings (with_joined b joined) old) call answer (with_settings (with_joined b joined) new)
+-- of a call that is answered yes where nothing refuses it
+abbrev pub yes_or : Result (Unit {0}) Refusal → Answer
+yes_or = answer_as (λ done. Yes)
 
-abbrev pub OnFigures : List Indicator → ℕ → List ℕ → Call → Answer → List ℕ → Type 0
-OnFigures kind joined old call answer new = (b : Book) → Leaves kind (with_figures (with_joined b joined) old) call answer (with_figures (with_joined b joined) new)
+-- of a call that has an answer of its own there
+abbrev pub answer_or : Result Answer Refusal → Answer
+answer_or = answer_as (λ answer. answer)
 
-abbrev pub OnRates : ℕ → ℕ → Call → Answer → ℕ → ℕ → Type 0
-OnRates pot cap call answer pot' cap' = (kind : List Indicator) (b : Book) → Leaves kind (with_rates b pot cap) call answer (with_rates b pot' cap')
-
-abbrev pub OnIndices : List ℕ → Call → Answer → List ℕ → Type 0
-OnIndices old call answer new = (kind : List Indicator) (b : Book) → Leaves kind (with_indices b old) call answer (with_indices b new)
+-- an interruption that nothing refuses before 8 and 9: what its outcome enters, and the outcome as its answer
+abbrev pub EntersJudged : Book → ℕ → ℕ → ℕ → ℕ → ℕ → ℕ → ℕ → Answer → Book → Type 0
+EntersJudged old cause operator sign level weight seconds year answer new =
+    let given : Outcome = entering old (interruption_entries operator sign level weight seconds year (outcome cause seconds year)) (outcome cause seconds year) in
+    (said answer ≡ given.said) × (new ≡ given.book)

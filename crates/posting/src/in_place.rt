@@ -1,64 +1,49 @@
-// The seven filing calls on the parts of a book that each changes, lent and altered in place; a refused call leaves them. Each refuses in
-// the order of the table: 2, 4, 5, an interruption 14 and 15, 6 or 7, then 8 and 9.
-ghost use Rattle.std.specs.Prelude.{◌≡◌};
-ghost use Rattle.calls.specs.Indicators.{indicators_of};
-ghost use Rattle.posting.specs.Parts.{OnMarks, OnSettings, OnFigures, OnRates, OnIndices};
+// The seven filing calls on a book that is lent, altered in place; a refused call leaves it. Each refuses in the order of the table: 2, 4,
+// 5, an interruption 14 and 15, 6 or 7, then 8 and 9.
+ghost use Rattle.std.specs.Prelude.{List};
+ghost use Rattle.calls.specs.Indicators.{Indicator, indicators_of};
+ghost use Rattle.posting.specs.Parts.{Leaves, yes_or, answer_or, EntersJudged};
 
-use admission::{Admission, admit, admit_interruption, mark_unattested};
+use admission::{admit, admit_interruption, mark_unattested};
 use arguments::{
     amount_in_range, details_in_range, index_in_range, mark_in_range, rates_in_range,
     setting_in_range,
 };
-use book::setting_slot;
+use book::{Book, setting_slot};
 use calls::{
-    Answer, Call, FIGURE_PLACES, INDICATORS, INDICES, Kind, LAST_OPERATOR, Refusal, SETTING_PLACES,
-    has_bit, include_bit, remask, takes_interruptions,
+    Answer, Call, Kind, LAST_OPERATOR, Refusal, has_bit, include_bit, remask, takes_interruptions,
 };
-use judging::{Judged, count_figure, judge, seconds_of, year_of};
-use ledger::{enter, enter_counted};
+use judging::{count_figure, judge, seconds_of, year_of};
+use ledger::{Counted, Entry, enter, enter_counted};
 
-pub fn join(kind: Kind, joined: &mut u16, marks: &mut [u16; INDICATORS], operator: u8) -> Answer
-    ensures { OnMarks (indicators_of kind) joined.old marks.old (Call.Join operator) result joined.new marks.new }
+pub fn join(kind: Kind, b: &mut Book, operator: u8) -> Result<(), Refusal>
+    ensures { Leaves (indicators_of kind) b.old (Call.Join operator) (yes_or result) b.new }
 {
     if LAST_OPERATOR < operator {
-        return Answer::Refused(Refusal::UnknownOperator);
+        return Err(Refusal::UnknownOperator);
     }
-    if has_bit(*joined, operator) {
-        return Answer::Refused(Refusal::AlreadyJoined);
+    if has_bit(b.joined, operator) {
+        return Err(Refusal::AlreadyJoined);
     }
-    *joined = include_bit(*joined, operator);
-    mark_unattested(kind, marks, operator);
-    Answer::Yes
+    b.joined = include_bit(b.joined, operator);
+    mark_unattested(kind, &mut b.marks, operator);
+    Ok(())
 }
 
 // Which: 1 active access points, 2 income, else the cabins of a year.
-pub fn setting(
-    kind: Kind,
-    joined: u16,
-    settings: &mut [u64; SETTING_PLACES],
-    operator: u8,
-    which: u8,
-    value: u64,
-) -> Answer
-    ensures { OnSettings (indicators_of kind) joined settings.old (Call.Setting operator which value) result settings.new }
+pub fn setting(kind: Kind, b: &mut Book, operator: u8, which: u8, value: u64) -> Result<(), Refusal>
+    ensures { Leaves (indicators_of kind) b.old (Call.Setting operator which value) (yes_or result) b.new }
 {
-    if let Admission::Refused(refusal) = admit(
-        joined,
-        operator,
-        setting_in_range(kind, which, value),
-    ) {
-        return Answer::Refused(refusal);
-    }
+    admit(b.joined, operator, setting_in_range(kind, which, value))?;
     let at = setting_slot(operator, which);
-    settings[at] = value;
-    Answer::Yes
+    b.settings[at] = value;
+    Ok(())
 }
 
 // Level: 0 MV, 1 LV. One that is left out is counted, too.
 pub fn interruption(
     kind: Kind,
-    joined: u16,
-    figures: &mut [u64; FIGURE_PLACES],
+    b: &mut Book,
     operator: u8,
     sign: u8,
     level: u8,
@@ -66,24 +51,47 @@ pub fn interruption(
     start: i64,
     end: i64,
     weight: u32,
-) -> Answer
-    ensures { OnFigures (indicators_of kind) joined figures.old (Call.Interruption operator sign level cause start end weight) result figures.new }
+) -> Result<Answer, Refusal>
+    ensures { Leaves (indicators_of kind) b.old (Call.Interruption operator sign level cause start end weight) (answer_or result) b.new }
 {
     if !takes_interruptions(kind) {
-        return Answer::Refused(Refusal::UnknownTag);
+        return Err(Refusal::UnknownTag);
     }
     let valid = details_in_range(sign, level, cause, weight);
-    if let Admission::Refused(refusal) = admit_interruption(joined, operator, valid, start, end) {
-        return Answer::Refused(refusal);
-    }
+    admit_interruption(b.joined, operator, valid, start, end)?;
     let seconds = seconds_of(start, end);
     let year = year_of(start, end);
-    match judge(cause, seconds) {
-        Judged::Counts => enter_counted(figures, operator, sign, level, year, weight, seconds),
-        Judged::LeftOut(reason) => {
-            let count = count_figure(reason);
-            let left_out = Answer::LeftOut(reason);
-            enter(figures, operator, year, count, sign, 1, left_out)
+    let counted = Counted {
+        operator,
+        sign,
+        level,
+        year,
+        weight,
+        seconds,
+    };
+    enter_judged(b, cause, counted)
+}
+
+// What counts is entered whole, and of what is left out its count.
+fn enter_judged(b: &mut Book, cause: u8, counted: Counted) -> Result<Answer, Refusal>
+    ensures { EntersJudged b.old cause counted.operator counted.sign counted.level counted.weight counted.seconds counted.year (answer_or result) b.new }
+{
+    let year = counted.year;
+    match judge(cause, counted.seconds) {
+        None => {
+            enter_counted(b, counted)?;
+            Ok(Answer::Counted { year })
+        }
+        Some(reason) => {
+            let one = Entry {
+                operator: counted.operator,
+                year,
+                figure: count_figure(reason),
+                sign: counted.sign,
+                value: 1,
+            };
+            enter(b, one)?;
+            Ok(Answer::LeftOut(reason))
         }
     }
 }
@@ -91,67 +99,65 @@ pub fn interruption(
 // Sign: 0 file, 1 withdraw.
 pub fn amount(
     kind: Kind,
-    joined: u16,
-    figures: &mut [u64; FIGURE_PLACES],
+    b: &mut Book,
     operator: u8,
     year: u8,
     figure: u8,
     sign: u8,
     value: u64,
-) -> Answer
-    ensures { OnFigures (indicators_of kind) joined figures.old (Call.Amount operator year figure sign value) result figures.new }
+) -> Result<(), Refusal>
+    ensures { Leaves (indicators_of kind) b.old (Call.Amount operator year figure sign value) (yes_or result) b.new }
 {
-    if let Admission::Refused(refusal) = admit(
-        joined,
+    admit(
+        b.joined,
         operator,
         amount_in_range(kind, year, figure, sign),
-    ) {
-        return Answer::Refused(refusal);
-    }
-    enter(figures, operator, year, figure, sign, value, Answer::Yes)
+    )?;
+    let one = Entry {
+        operator,
+        year,
+        figure,
+        sign,
+        value,
+    };
+    enter(b, one)
 }
 
 // Mark: 1 unreliable, 0 not.
 pub fn mark_indicator(
     kind: Kind,
-    joined: u16,
-    marks: &mut [u16; INDICATORS],
+    b: &mut Book,
     operator: u8,
     indicator: u8,
     mark: u8,
-) -> Answer
-    ensures { OnMarks (indicators_of kind) joined marks.old (Call.Mark operator indicator mark) result joined marks.new }
+) -> Result<(), Refusal>
+    ensures { Leaves (indicators_of kind) b.old (Call.Mark operator indicator mark) (yes_or result) b.new }
 {
-    if let Admission::Refused(refusal) = admit(
-        joined,
-        operator,
-        mark_in_range(kind, indicator, mark),
-    ) {
-        return Answer::Refused(refusal);
-    }
+    admit(b.joined, operator, mark_in_range(kind, indicator, mark))?;
     let at = indicator as usize;
-    marks[at] = remask(marks[at], operator, mark);
-    Answer::Yes
+    b.marks[at] = remask(b.marks[at], operator, mark);
+    Ok(())
 }
 
-pub fn rates(pot_rate: &mut u32, cap_rate: &mut u32, pot: u32, cap: u32) -> Answer
-    ensures { OnRates pot_rate.old cap_rate.old (Call.Rates pot cap) result pot_rate.new cap_rate.new }
+// The same for every kind, as an index.
+pub fn rates(b: &mut Book, pot: u32, cap: u32) -> Result<(), Refusal>
+    ensures { (kind : List Indicator) → Leaves kind b.old (Call.Rates pot cap) (yes_or result) b.new }
 {
     if !rates_in_range(pot, cap) {
-        return Answer::Refused(Refusal::OutOfRange);
+        return Err(Refusal::OutOfRange);
     }
-    *pot_rate = pot;
-    *cap_rate = cap;
-    Answer::Yes
+    b.pot_rate = pot;
+    b.cap_rate = cap;
+    Ok(())
 }
 
 // Number: 0 to 2 the June before each year, 3 June 2013.
-pub fn index(indices: &mut [u32; INDICES], number: u8, value: u32) -> Answer
-    ensures { OnIndices indices.old (Call.Index number value) result indices.new }
+pub fn index(b: &mut Book, number: u8, value: u32) -> Result<(), Refusal>
+    ensures { (kind : List Indicator) → Leaves kind b.old (Call.Index number value) (yes_or result) b.new }
 {
     if !index_in_range(number, value) {
-        return Answer::Refused(Refusal::OutOfRange);
+        return Err(Refusal::OutOfRange);
     }
-    indices[number as usize] = value;
-    Answer::Yes
+    b.indices[number as usize] = value;
+    Ok(())
 }

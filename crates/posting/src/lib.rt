@@ -1,4 +1,4 @@
-// The seven filing calls on the parts of a book that each changes, lent and altered in place.
+// The seven filing calls on a book that is lent, altered in place.
 #![tactic(auto)]
 
 mod in_place;

@@ -1,13 +1,15 @@
 -- One step of a reading: what the field at the offset makes of what the reading has reached.
 -- Assumes nothing.
 use Rattle.std.specs.Prelude.{ℕ, ◌+◌, ◌≤◌, ◌≡◌, Bool, true, false, cond, List}
+use Rattle.std.specs.declared.ops.ControlFlow.{ControlFlow}
+use Rattle.std.specs.declared.ops.ControlFlow.TheVariants.{Continue, Break}
 use Rattle.calls.specs.Indicators.{Indicator}
 use Rattle.calls.specs.Answers.{Said, refused_by, accepted, on_answer, is_refused, Acceptance, yes_said}
 use Rattle.book.specs.declared.Book.{Book}
 use Rattle.book.specs.Book.{in_range}
 use Rattle.ledger.specs.Calls.{apply, Outcome}
 use Rattle.fields.specs.Field.{Found, at_end, call_then}
-use Rattle.reader.specs.declared.Turn.{Turn}
+use Rattle.filing.specs.declared.Progress.{Progress}
 use Rattle.filing.specs.Reader.{Reached, reading, reached_by}
 
 -- a reading under way: what it has reached, and whether it goes on with a next field
@@ -15,9 +17,10 @@ pub record Turned : Type 0 where
   pub reached : Reached
   pub continues : Bool
 
--- what the code's turn says beside a book
-abbrev pub told_turn : Book → Turn → Turned
-told_turn b turn = record { reached = reached_by b turn.progress; continues = turn.continues }
+-- what the code's step says beside a book
+abbrev pub told_turn : Book → ControlFlow Progress Progress → Turned
+told_turn b (Continue progress) = record { reached = reached_by b progress; continues = true }
+told_turn b (Break progress) = record { reached = reached_by b progress; continues = false }
 
 -- what a step asks of a reading: no more fields than bytes, and a book in the range of the kind
 pub record Ready (kind : List Indicator) (r : Reached) : Type 0 where

@@ -1,5 +1,5 @@
-// Reading a filing into a book, on slice and number: its fields from an offset on, applied in order, up to the first refusal. The book's
-// parts are taken out once, altered where they stand by each field's call, and put together at the end.
+// Reading a filing into a book, on slice and number: its fields from an offset on, applied in order, up to the first refusal. The book is
+// lent to each field's call and altered in place.
 #![tactic(auto)]
 
 ghost use Rattle.std.specs.Prelude.{◌≡◌, true, ◌<◌};
@@ -7,7 +7,6 @@ ghost use Rattle.calls.specs.Answers.{is_refused, said};
 ghost use Rattle.calls.specs.Indicators.{indicators_of};
 ghost use Rattle.book.specs.declared.Book.{Book as Declared-as-Book};
 ghost use Rattle.book.specs.Book.{in_range};
-ghost use Rattle.book.specs.Steps.{lent_book, BeforeAndAfter};
 ghost use Rattle.ledger.specs.Calls.{apply};
 ghost use Rattle.fields.specs.Field.{field_in};
 ghost use Rattle.filing.specs.Reader.{reached_by, told, read_from_as, read_from, read_from_gas, read_gas};
@@ -15,17 +14,11 @@ ghost use Rattle.reader.specs.Steps.{Ready, told_turn, stopped, advanced, steppe
 
 use book::Book;
 use bookkeeping::apply_in;
-use calls::{Answer, Call, FIGURE_PLACES, INDICATORS, INDICES, Kind, Refusal, SETTING_PLACES};
+use calls::{Answer, Call, Kind, Refusal};
 use fields::{Field, field_in};
 use filing::{Progress, Reading};
 use range::in_range;
-
-// A reading under way, but for the book: how far it has come, and whether it goes on with a next field.
-#[derive(Clone, Copy)]
-struct Turn {
-    progress: Progress,
-    continues: bool,
-}
+use std::ops::ControlFlow;
 
 // Into a book of electricity.
 pub fn read_from(b: Book, bytes: &[u8], at: usize) -> Reading
@@ -63,84 +56,35 @@ fn read_from_as(kind: Kind, b: Book, bytes: &[u8], at: usize) -> Reading
 }
 
 // The fields of a filing, into a book in range.
-fn read_fields(kind: Kind, b: Book, bytes: &[u8], at: usize) -> Reading
+fn read_fields(kind: Kind, mut b: Book, bytes: &[u8], at: usize) -> Reading
     requires { in_range (indicators_of kind) b ≡ true }
     ensures { told result ≡ read_from_as (indicators_of kind) b bytes.now at }
 {
-    let mut joined = b.joined;
-    let mut marks = b.marks;
-    let mut settings = b.settings;
-    let mut figures = b.figures;
-    let mut pot_rate = b.pot_rate;
-    let mut cap_rate = b.cap_rate;
-    let mut indices = b.indices;
-    let progress = Progress {
+    let mut reached = Progress {
         applied: 0,
         offset: at,
         answer: Answer::Yes,
     };
-    let mut turn = Turn {
-        progress,
-        continues: true,
-    };
-    while turn.continues {
-        let reached = turn.progress;
-        turn = step(
-            kind,
-            &mut joined,
-            &mut marks,
-            &mut settings,
-            &mut figures,
-            &mut pot_rate,
-            &mut cap_rate,
-            &mut indices,
-            reached,
-            bytes,
-        );
+    loop {
+        match step(kind, &mut b, reached, bytes) {
+            ControlFlow::Continue(further) => reached = further,
+            ControlFlow::Break(progress) => return Reading { book: b, progress },
+        }
     }
-    let book = Book {
-        joined,
-        marks,
-        settings,
-        figures,
-        pot_rate,
-        cap_rate,
-        indices,
-    };
-    let progress = turn.progress;
-    Reading { book, progress }
 }
 
-// The field at the offset.
+// The field at the offset: how far the reading has come then, and whether it goes on with a next field.
 fn step(
     kind: Kind,
-    joined: &mut u16,
-    marks: &mut [u16; INDICATORS],
-    settings: &mut [u64; SETTING_PLACES],
-    figures: &mut [u64; FIGURE_PLACES],
-    pot_rate: &mut u32,
-    cap_rate: &mut u32,
-    indices: &mut [u32; INDICES],
+    b: &mut Book,
     reached: Progress,
     bytes: &[u8],
-) -> Turn
-    requires { Ready (indicators_of kind) (reached_by (lent_book joined marks settings figures pot_rate cap_rate indices) reached) }
-    ensures { BeforeAndAfter joined marks settings figures pot_rate cap_rate indices (λ before after. told_turn after result ≡ stepped (indicators_of kind) (reached_by before reached) (field_in (indicators_of kind) bytes.now reached.offset)) }
+) -> ControlFlow<Progress, Progress>
+    requires { Ready (indicators_of kind) (reached_by b.old reached) }
+    ensures { told_turn b.new result ≡ stepped (indicators_of kind) (reached_by b.old reached) (field_in (indicators_of kind) bytes.now reached.offset) }
 {
     match field_in(kind, bytes, reached.offset) {
-        Field::CallThen { filing_call, next } => advance(
-            kind,
-            joined,
-            marks,
-            settings,
-            figures,
-            pot_rate,
-            cap_rate,
-            indices,
-            reached,
-            filing_call,
-            next,
-        ),
+        Field::CallThen { filing_call, next } => advance(kind, b, reached, filing_call, next),
         Field::End => stop(reached, Answer::Yes),
         Field::Refused(refusal) => stop(reached, Answer::Refused(refusal)),
     }
@@ -149,67 +93,34 @@ fn step(
 // A call applied; one that is refused leaves the book, the number applied and the offset.
 fn advance(
     kind: Kind,
-    joined: &mut u16,
-    marks: &mut [u16; INDICATORS],
-    settings: &mut [u64; SETTING_PLACES],
-    figures: &mut [u64; FIGURE_PLACES],
-    pot_rate: &mut u32,
-    cap_rate: &mut u32,
-    indices: &mut [u32; INDICES],
+    b: &mut Book,
     reached: Progress,
     filing_call: Call,
     next: usize,
-) -> Turn
-    requires { (reached.applied < next) × (in_range (indicators_of kind) (lent_book joined marks settings figures pot_rate cap_rate indices) ≡ true) }
-    ensures { BeforeAndAfter joined marks settings figures pot_rate cap_rate indices (λ before after. told_turn after result ≡ advanced (reached_by before reached) next (apply (indicators_of kind) before filing_call)) }
+) -> ControlFlow<Progress, Progress>
+    requires { (reached.applied < next) × (in_range (indicators_of kind) b.old ≡ true) }
+    ensures { told_turn b.new result ≡ advanced (reached_by b.old reached) next (apply (indicators_of kind) b.old filing_call) }
 {
-    let answer = apply_in(
-        kind,
-        joined,
-        marks,
-        settings,
-        figures,
-        pot_rate,
-        cap_rate,
-        indices,
-        filing_call,
-    );
+    let answer = apply_in(kind, b, filing_call);
     if is_refused(answer) {
         return stop(reached, answer);
     }
-    let progress = Progress {
+    ControlFlow::Continue(Progress {
         applied: reached.applied + 1,
         offset: next,
         answer,
-    };
-    Turn {
-        progress,
-        continues: true,
-    }
+    })
 }
 
 // The end, or a field that is refused by its bytes or by its call.
-fn stop(reached: Progress, answer: Answer) -> Turn
+fn stop(reached: Progress, answer: Answer) -> ControlFlow<Progress, Progress>
     ensures { (b : Declared-as-Book) → told_turn b result ≡ stopped (reached_by b reached) (said answer) }
 {
-    let progress = Progress {
-        applied: reached.applied,
-        offset: reached.offset,
-        answer,
-    };
-    Turn {
-        progress,
-        continues: false,
-    }
+    ControlFlow::Break(Progress { answer, ..reached })
 }
 
 fn is_refused(answer: Answer) -> bool
     ensures { result ≡ is_refused (said answer) }
 {
-    match answer {
-        Answer::Refused(refusal) => true,
-        Answer::Yes => false,
-        Answer::Counted { year } => false,
-        Answer::LeftOut(reason) => false,
-    }
+    matches!(answer, Answer::Refused(_))
 }

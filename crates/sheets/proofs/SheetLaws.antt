@@ -11,7 +11,9 @@ use Rattle.calls.specs.declared.Call.{Call}
 use Rattle.calls.specs.declared.Call.TheVariants.{Amount}
 use Rattle.calls.specs.Limits.{operators, years, figure_count, figure_limit, first_count}
 use Rattle.calls.specs.Masks.{has}
-use Rattle.calls.specs.Answers.{Said, refused_by, accepted, on_answer, first_of, Acceptance, yes_said}
+use Rattle.std.specs.Prelude.{Result, Ok, Err, IsErrAnd}
+use Rattle.calls.specs.declared.Refusal.{Refusal}
+use Rattle.calls.specs.Answers.{Said, refused_by, accepted, on_answer, first_of, Acceptance, yes_said, number_of}
 use Rattle.calls.specs.Call.{facts_of}
 use Rattle.calls.specs.Laws.{rank, place_from, stand_from, First}
 use Rattle.calls.proofs.First.{first-in-order}
@@ -25,7 +27,7 @@ use Rattle.ledger.specs.Table.{passes_limit, falls_below, lines_for, answer_to}
 use Rattle.ledger.specs.Calls.{Outcome, outcome_of, apply, file_as, file}
 use Rattle.ledger.specs.Steps.{member_lines}
 use Rattle.history.proofs.Kept.{filed-applied}
-use Rattle.sheets.specs.Sheet.{sheet_figures, counts_of, no_counts, Sheet, sheet_said, sheet_of, sheet_lines}
+use Rattle.sheets.specs.Sheet.{sheet_figures, counts_of, no_counts, Sheet, sheet_told, sheet_said, sheet_of, sheet_lines}
 
 -- figures of one year stand one after the other
 pub next-slot : (operator year figure more : ℕ) → figure_slot operator year figure + more ≡ figure_slot operator year (figure + more)
@@ -39,6 +41,11 @@ year-alone year = rw (and-true-right (ltb year years), and-true-right (ltb year 
 
 abbrev pub refused_sheet : ℕ → Sheet
 refused_sheet number = record { said = refused_by number; counts = no_counts }
+
+-- a refusal that `?` hands on
+pub told-refusal : (result : Result (List ℕ) Refusal) (refusal : Refusal) → IsErrAnd result (λ given. given ≡ refusal) → sheet_told result ≡ refused_sheet (number_of refusal)
+told-refusal (Ok counts) refusal same = absurd same
+told-refusal (Err given) refusal same = ap (λ (one : Refusal). refused_sheet (number_of one)) same
 
 abbrev pub given_sheet : List ℕ → Sheet
 given_sheet counts = record { said = accepted yes_said; counts = counts }

@@ -1,11 +1,12 @@
 -- The yearly sheet of an operator: how many interruptions counted, and how many were left out as short, planned, coupled or exceptional
 -- (02, point 2).
 -- Assumes nothing.
-use Rattle.std.specs.Prelude.{ℕ, Bool, true, cond, not, List, [], ◌∷◌, map, leb, ltb, replicate}
+use Rattle.std.specs.Prelude.{ℕ, Bool, true, cond, not, List, [], ◌∷◌, map, leb, ltb, replicate, Result, Ok, Err}
 use Rattle.calls.specs.declared.Call.TheVariants.{Amount}
 use Rattle.calls.specs.Indicators.{electricity}
 use Rattle.calls.specs.Limits.{operators, years, first_count, outcome_count}
-use Rattle.calls.specs.Answers.{Said, Acceptance, on_answer}
+use Rattle.calls.specs.declared.Refusal.{Refusal}
+use Rattle.calls.specs.Answers.{Said, refused_by, accepted, on_answer, Acceptance, yes_said, number_of}
 use Rattle.book.specs.declared.Book.{Book}
 use Rattle.book.specs.Book.{is_joined, figure_of, in_range}
 use Rattle.ledger.specs.Calls.{file}
@@ -26,6 +27,11 @@ no_counts = replicate outcome_count 0
 pub record Sheet : Type 0 where
   pub said : Said Acceptance
   pub counts : List ℕ
+
+-- what the code's counts say, or the refusal of them
+abbrev pub sheet_told : Result (List ℕ) Refusal → Sheet
+sheet_told (Ok counts) = record { said = accepted yes_said; counts = counts }
+sheet_told (Err refusal) = record { said = refused_by (number_of refusal); counts = no_counts }
 
 -- "the call for it gives 4, 5 or 7 as an amount field with that operator and year would": as one that files 0, which nothing else refuses
 unfoldable pub sheet_said : Book → ℕ → ℕ → Said Acceptance

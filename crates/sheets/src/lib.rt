@@ -3,15 +3,13 @@
 
 ghost use Rattle.std.specs.Prelude.{◌≡◌, ◌<◌};
 ghost use Rattle.calls.specs.Limits.{operators, years};
-ghost use Rattle.calls.specs.Answers.{said, refused_by, number_of};
-ghost use Rattle.book.specs.declared.Book.{Book};
-ghost use Rattle.book.specs.Book.{with_figures};
-ghost use Rattle.sheets.specs.Sheet.{counts_of, no_counts, sheet_of};
+ghost use Rattle.calls.specs.Answers.{said};
+ghost use Rattle.sheets.specs.Sheet.{counts_of, sheet_told, sheet_of};
 
-use admission::{Admission, admit};
+use admission::admit;
 use arguments::amount_in_range;
 use book::{Book, figure_slot};
-use calls::{Answer, FIGURE_PLACES, FIRST_COUNT, Kind, OUTCOMES, Refusal};
+use calls::{Answer, FIRST_COUNT, Kind, OUTCOMES, Refusal};
 use range::in_range;
 
 // Of interruptions in a year: how many counted, and how many were left out as short, planned, coupled, exceptional. All 0 on refusal.
@@ -26,45 +24,42 @@ pub fn sheet(b: Book, operator: u8, year: u8) -> YearlySheet
     ensures answer_value { said result.answer ≡ (sheet_of b operator year).said }
     ensures counts_value { result.counts ≡ (sheet_of b operator year).counts }
 {
-    let ranged = in_range(Kind::Electricity, b);
+    match counts_asked(&b, operator, year) {
+        Ok(counts) => YearlySheet {
+            answer: Answer::Yes,
+            counts,
+        },
+        Err(refusal) => YearlySheet {
+            answer: Answer::Refused(refusal),
+            counts: [0u64; OUTCOMES],
+        },
+    }
+}
+
+// The counts, where nothing refuses them.
+fn counts_asked(b: &Book, operator: u8, year: u8) -> Result<[u64; OUTCOMES], Refusal>
+    ensures { sheet_told result ≡ sheet_of b.now operator year }
+{
+    let ranged = in_range(Kind::Electricity, *b);
     let valid = amount_in_range(Kind::Electricity, year, FIRST_COUNT, 0);
     if !ranged {
-        return refused(Refusal::OutOfRange);
+        return Err(Refusal::OutOfRange);
     }
-    match admit(b.joined, operator, valid) {
-        Admission::Refused(refusal) => refused(refusal),
-        Admission::Admitted => {
-            let figures = b.figures;
-            let counts = counts_of(figures, operator, year);
-            YearlySheet {
-                answer: Answer::Yes,
-                counts,
-            }
-        }
-    }
+    admit(b.joined, operator, valid)?;
+    Ok(counts_of(b, operator, year))
 }
 
-fn refused(refusal: Refusal) -> YearlySheet
-    ensures answer_value { said result.answer ≡ refused_by (number_of refusal) }
-    ensures counts_value { result.counts ≡ no_counts }
-{
-    YearlySheet {
-        answer: Answer::Refused(refusal),
-        counts: [0u64; OUTCOMES],
-    }
-}
-
-// They stand one after the other, whatever book they belong to.
-fn counts_of(figures: [u64; FIGURE_PLACES], operator: u8, year: u8) -> [u64; OUTCOMES]
+// They stand one after the other.
+fn counts_of(b: &Book, operator: u8, year: u8) -> [u64; OUTCOMES]
     requires { (operator < operators) × (year < years) }
-    ensures { (b : Book) → result ≡ counts_of (with_figures b figures) operator year }
+    ensures { result ≡ counts_of b.now operator year }
 {
     let at = figure_slot(operator, year, FIRST_COUNT);
     [
-        figures[at],
-        figures[at + 1],
-        figures[at + 2],
-        figures[at + 3],
-        figures[at + 4],
+        b.figures[at],
+        b.figures[at + 1],
+        b.figures[at + 2],
+        b.figures[at + 3],
+        b.figures[at + 4],
     ]
 }

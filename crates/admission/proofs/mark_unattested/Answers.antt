@@ -16,9 +16,6 @@ overflow_cast-indicator c = omega (arith, c.loop-indicator.invariant.1)
 pub takes_mark-requires : goal.takes_mark-requires
 takes_mark-requires c = omega (arith, c.loop-indicator.invariant.1)
 
-pub loop-indicator-smaller : goal.loop-indicator-smaller
-loop-indicator-smaller c = rw length-set (omega arith)
-
 pub loop-indicator-preserved : goal.loop-indicator-preserved
 loop-indicator-preserved c =
     let at-loop = c.loop-indicator in

@@ -2,7 +2,6 @@
 -- they were.
 -- Assumes nothing.
 use mathlib.Core.Path.{◌≡◌}
-use Prim.Native.Nat.{◌-◌}
 use lib.ListN.{length}
 use Rattle.calls.specs.Indicators.{indicators_of}
 use Rattle.ledger.proofs.UnattestedLaws.{MarkedTo}
@@ -10,6 +9,3 @@ use Rattle.admission.proofs.mark_unattested.Given as goal
 
 abbrev pub invariant-loop-indicator : goal.invariant-loop-indicator
 invariant-loop-indicator l = MarkedTo (indicators_of l.kind) l.initial.marks l.operator l.indicator l.marks × (length l.marks ≡ length l.initial.marks)
-
-abbrev pub decreases-loop-indicator : goal.decreases-loop-indicator
-decreases-loop-indicator l = length l.marks - l.indicator

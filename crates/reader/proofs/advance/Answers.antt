@@ -4,7 +4,6 @@ use mathlib.Core.Path.{◌≡◌, refl, sym, ap, ◌∙◌}
 use mathlib.Core.Bool.{true, false}
 use Rattle.calls.specs.Answers.{is_refused}
 use Rattle.calls.specs.Indicators.{indicators_of}
-use Rattle.book.specs.Steps.{lent_book}
 use Rattle.ledger.specs.Calls.{apply}
 use Rattle.filing.specs.Reader.{reached_by}
 use Rattle.reader.specs.Steps.{stopped, advanced}
@@ -16,7 +15,7 @@ pub returns-then-is_refused : goal.returns-then-is_refused
 unfolding advanced
 returns-then-is_refused c =
     let start = c.args in
-    let old = lent_book start.joined start.marks start.settings start.figures start.pot_rate start.cap_rate start.indices in
+    let old = start.b.now in
     let gives = c.apply_in-answer.ensures in
     let stops : is_refused (apply (indicators_of start.kind) old start.filing_call).said ≡ true =
     ap is_refused (sym gives.0) ∙ sym c.is_refused.ensures ∙ c.if-is_refused.true in
@@ -28,7 +27,7 @@ pub returns : goal.returns
 unfolding advanced
 returns c =
     let start = c.args in
-    let old = lent_book start.joined start.marks start.settings start.figures start.pot_rate start.cap_rate start.indices in
+    let old = start.b.now in
     let gives = c.apply_in-answer.ensures in
     let goes : is_refused (apply (indicators_of start.kind) old start.filing_call).said ≡ false =
     ap is_refused (sym gives.0) ∙ sym c.is_refused.ensures ∙ c.if-is_refused.false in

@@ -1,13 +1,15 @@
 -- `reader::read_fields` meets its contract.
 -- Assumes nothing.
+use Prim.Native.Nat.{◌-◌}
+use lib.ListN.{length}
+use Rattle.std.specs.declared.ops.ControlFlow.TheVariants.{Continue}
 use Rattle.calls.specs.Indicators.{indicators_of}
-use Rattle.book.specs.Book.{book_with}
 use Rattle.reader.specs.Steps.{told_turn}
-use Rattle.reader.proofs.StepLaws.{Continued, remaining}
+use Rattle.reader.proofs.StepLaws.{Continued}
 use Rattle.reader.proofs.read_fields.Given as goal
 
-abbrev pub invariant-loop-turn : goal.invariant-loop-turn
-invariant-loop-turn l = Continued (indicators_of l.kind) l.bytes (told_turn (book_with l.initial.joined l.initial.marks l.initial.settings l.initial.figures l.initial.pot_rate l.initial.cap_rate l.initial.indices) l.initial.turn) (told_turn (book_with l.joined l.marks l.settings l.figures l.pot_rate l.cap_rate l.indices) l.turn)
+abbrev pub invariant-loop-further : goal.invariant-loop-further
+invariant-loop-further l = Continued (indicators_of l.kind) l.bytes (told_turn l.initial.b (Continue l.initial.reached)) (told_turn l.b (Continue l.reached))
 
-abbrev pub decreases-loop-turn : goal.decreases-loop-turn
-decreases-loop-turn l = remaining l.bytes (told_turn (book_with l.joined l.marks l.settings l.figures l.pot_rate l.cap_rate l.indices) l.turn)
+abbrev pub decreases-loop-further : goal.decreases-loop-further
+decreases-loop-further l = length l.bytes - l.reached.offset

@@ -8,26 +8,26 @@ use Rattle.sheets.specs.Sheet.{counts_of}
 use Rattle.sheets.proofs.SheetLaws.{next-slot}
 use Rattle.sheets.proofs.counts_of.Goals as goal
 
-pub bounds-figures-at-2 : goal.bounds-figures-at-2
+pub bounds-b-at-2 : goal.bounds-b-at-2
 unfolding figure_slot
-bounds-figures-at-2 c = omega (arith, c.figure_slot-at.ensures.0, c.requires.0, c.requires.1)
+bounds-b-at-2 c = omega (arith, c.figure_slot-at.ensures.0, c.requires.0, c.requires.1)
 
-pub bounds-figures-at-3 : goal.bounds-figures-at-3
+pub bounds-b-at-3 : goal.bounds-b-at-3
 unfolding figure_slot
-bounds-figures-at-3 c = omega (arith, c.figure_slot-at.ensures.0, c.requires.0, c.requires.1)
+bounds-b-at-3 c = omega (arith, c.figure_slot-at.ensures.0, c.requires.0, c.requires.1)
 
-pub bounds-figures-at-4 : goal.bounds-figures-at-4
+pub bounds-b-at-4 : goal.bounds-b-at-4
 unfolding figure_slot
-bounds-figures-at-4 c = omega (arith, c.figure_slot-at.ensures.0, c.requires.0, c.requires.1)
+bounds-b-at-4 c = omega (arith, c.figure_slot-at.ensures.0, c.requires.0, c.requires.1)
 
-pub bounds-figures-at-5 : goal.bounds-figures-at-5
+pub bounds-b-at-5 : goal.bounds-b-at-5
 unfolding figure_slot
-bounds-figures-at-5 c = omega (arith, c.figure_slot-at.ensures.0, c.requires.0, c.requires.1)
+bounds-b-at-5 c = omega (arith, c.figure_slot-at.ensures.0, c.requires.0, c.requires.1)
 
 -- five figures in a row
 pub returns : goal.returns
 unfolding counts_of figure_of
-returns c = λ b.
+returns c =
     let o = c.args.operator in
     let y = c.args.year in
     rw (c.figure_slot-at.ensures.0, next-slot o y first_count 1, next-slot o y first_count 2, next-slot o y first_count 3, next-slot o y first_count 4) refl

@@ -10,9 +10,9 @@ pub returns-then-not-in_range : goal.returns-then-not-in_range
 unfolding file_as outcome_of on_answer
 returns-then-not-in_range c = rw (sym c.in_range.ensures ∙ c.if-not-in_range.true) (refl, refl)
 
-pub apply-requires : goal.apply-requires
-apply-requires c = sym c.in_range.ensures ∙ c.if-not-in_range.false
+pub apply_in-answer-requires : goal.apply_in-answer-requires
+apply_in-answer-requires c = sym c.in_range.ensures ∙ c.if-not-in_range.false
 
 pub returns : goal.returns
 unfolding file_as
-returns c = rw (sym c.in_range.ensures ∙ c.if-not-in_range.false) c.apply.ensures
+returns c = rw (sym c.in_range.ensures ∙ c.if-not-in_range.false) c.apply_in-answer.ensures

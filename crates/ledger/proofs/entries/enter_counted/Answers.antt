@@ -1,16 +1,18 @@
 -- `ledger::entries::enter_counted` meets its contract.
 -- Assumes nothing.
-use mathlib.Core.Path.{refl}
+use mathlib.Core.Path.{◌≡◌, refl, sym}
 use mathlib.Core.List.{List}
 use Prim.Native.Nat.{ℕ, ◌+◌, ◌*◌}
 use native.Mathlib.Omega.{arith}
 use Rattle.calls.specs.Limits.{first_count}
-use Rattle.calls.specs.Answers.{said, counted_in}
+use Rattle.calls.specs.Answers.{counted_in}
 use Rattle.calls.specs.Call.{Entry, entry, measured_entries, count_figure, interruption_entries}
-use Rattle.book.specs.Book.{with_figures, figure_slot, figure_of}
-use Rattle.ledger.specs.Steps.{CountedInRange}
-use Rattle.ledger.proofs.MoveLaws.{moved_as, slots_apart}
-use Rattle.ledger.proofs.LastEntry.{Apart, last-above, last-below, last-follows}
+use Rattle.book.specs.Book.{figure_slot, figure_of}
+use Rattle.ledger.specs.Steps.{CountedInRange, entering}
+use Rattle.judging.proofs.ResultLaws.{handed-on}
+use Rattle.ledger.proofs.AdmissionLaws.{accepted_call}
+use Rattle.ledger.proofs.MoveLaws.{moved_as, refused-entering, slots_apart}
+use Rattle.ledger.proofs.LastEntry.{Apart, last-stopped, last-refused, last-moved}
 use Rattle.ledger.proofs.entries.enter_counted.Goals as goal
 
 module _ (operator sign level year weight seconds : ℕ) where
@@ -29,37 +31,37 @@ module _ (operator sign level year weight seconds : ℕ) where
     (slots_apart operator year (2 * level + 1) first_count (λ e. omega (arith, e, within.level_most)), tt),
   )
 
--- counted where what is measured is entered, and left where that is refused
-pub returns-in-To : goal.returns-in-To
+-- 8 or 9, by the count
+pub returns-in_err-moved : goal.returns-in_err-moved
 unfolding interruption_entries measured_entries count_figure figure_of
-returns-in-To c = λ b.
-    let args = c.args in
-    let measures = measured args.operator args.sign args.level args.year args.weight args.seconds in
-    let counts = count args.operator args.sign args.level args.year args.weight args.seconds in
-    let slot = c.figure_slot-count_at.ensures.0 in
-    let moves = moved_as args.sign 1 _ c.requires.sign_most c.in-To.is (rw slot at c.move_figure.ensures) in
-    let others = c.enter_measured-answer.ensures b in
-    let follows = last-follows (with_figures b args.figures.now) measures counts (counted_in args.year) _ moves (apart args.operator args.sign args.level args.year args.weight args.seconds c.requires) (said c.enter_measured-answer.result) (with_figures b c.enter_measured-answer.new.figures) others.0 others.1 in
-    (follows.0, rw (c.count_after.ensures, slot) follows.1)
+returns-in_err-moved c = λ value.
+    let a = c.args.counted in
+    let measures = measured a.operator a.sign a.level a.year a.weight a.seconds in
+    let counts = count a.operator a.sign a.level a.year a.weight a.seconds in
+    let stops = moved_as a.sign 1 _ a.in_range.sign_most _ (rw c.figure_slot-count_at.ensures.0 at c.in_err-moved.ensures) in
+    rw (handed-on _ _ _ c.from_residual.ensures.1, last-stopped c.args.b.now measures counts value _ (refl, (refl, tt)) stops) (refl, refl)
 
--- 8, by the count
-pub returns-in-Above : goal.returns-in-Above
+-- 8 or 9, by what is measured: the count stays, too
+pub returns-in_err-enter_measured : goal.returns-in_err-enter_measured
 unfolding interruption_entries measured_entries count_figure figure_of
-returns-in-Above c = λ b.
-    let args = c.args in
-    let measures = measured args.operator args.sign args.level args.year args.weight args.seconds in
-    let counts = count args.operator args.sign args.level args.year args.weight args.seconds in
-    let slot = c.figure_slot-count_at.ensures.0 in
-    let above = moved_as args.sign 1 _ c.requires.sign_most c.in-Above.is (rw slot at c.move_figure.ensures) in
-    rw (last-above (with_figures b args.figures.now) measures counts (counted_in args.year) above) (refl, refl)
+returns-in_err-enter_measured c = λ value.
+    let a = c.args.counted in
+    let measures = measured a.operator a.sign a.level a.year a.weight a.seconds in
+    let counts = count a.operator a.sign a.level a.year a.weight a.seconds in
+    let moves = moved_as a.sign 1 _ a.in_range.sign_most _ (rw c.figure_slot-count_at.ensures.0 at c.in_ok-moved.ensures) in
+    let others = c.in_err-enter_measured.ensures value in
+    let refuses = refused-entering c.args.b.now measures value _ others.0 in
+    rw (handed-on _ _ _ c.from_residual-in_err-enter_measured.ensures.1, last-refused c.args.b.now measures counts value _ moves _ refuses) (refl, rw refuses at others.1)
 
--- 9, by the count
-pub returns-in-Below : goal.returns-in-Below
+-- counted
+pub returns : goal.returns
 unfolding interruption_entries measured_entries count_figure figure_of
-returns-in-Below c = λ b.
-    let args = c.args in
-    let measures = measured args.operator args.sign args.level args.year args.weight args.seconds in
-    let counts = count args.operator args.sign args.level args.year args.weight args.seconds in
+returns c = λ value.
+    let a = c.args.counted in
+    let measures = measured a.operator a.sign a.level a.year a.weight a.seconds in
+    let counts = count a.operator a.sign a.level a.year a.weight a.seconds in
     let slot = c.figure_slot-count_at.ensures.0 in
-    let below = moved_as args.sign 1 _ c.requires.sign_most c.in-Below.is (rw slot at c.move_figure.ensures) in
-    rw (last-below (with_figures b args.figures.now) measures counts (counted_in args.year) (refl, (refl, tt)) below) (refl, refl)
+    let moves = moved_as a.sign 1 _ a.in_range.sign_most _ (rw slot at c.in_ok-moved.ensures) in
+    let others = c.in_ok-enter_measured.ensures value in
+    let entered : entering c.args.b.now measures value ≡ accepted_call c.enter_measured.new.b value = λ i. record { book = sym others.1 i; said = sym others.0 i } in
+    rw (slot, last-moved c.args.b.now measures counts value _ moves c.enter_measured.new.b (apart a.operator a.sign a.level a.year a.weight a.seconds a.in_range) entered) (refl, refl)

@@ -1,6 +1,6 @@
 -- `posting::in_place::interruption` meets its contract.
 -- Assumes nothing.
-use mathlib.Core.Path.{◌≡◌, refl, sym, ap, ◌∙◌}
+use mathlib.Core.Path.{◌≡◌, refl, sym, ◌∙◌}
 use mathlib.Core.Bool.{true}
 use mathlib.Core.List.{List}
 use Prim.Native.Nat.{ℕ, ◌<◌, ◌≤◌}
@@ -14,16 +14,14 @@ use Rattle.calls.specs.Indicators.{Indicator, indicators_of, takes_interruptions
 use Rattle.calls.specs.Answers.{Said, accepted, first_of}
 use Rattle.calls.specs.Call.{starts_after_end, outside_period, details_in_range, seconds_of, year_of, facts_of}
 use Rattle.book.specs.declared.Book.{Book}
-use Rattle.book.specs.Book.{with_joined, with_figures, fresh_book}
 use Rattle.ledger.specs.Calls.{changed, apply}
 use Rattle.ledger.specs.Steps.{interruption_lines, entering}
-use Rattle.admission.specs.Admission.{admission_said}
 use Rattle.calls.proofs.Times.{back, ends, year_lt, lasts, seconds_most}
 use Rattle.calls.proofs.RangeLaws.{Details, details}
-use Rattle.judging.proofs.JudgedLaws.{left-out-counted, left-out-known}
 use Rattle.ledger.proofs.AdmissionLaws.{unknown-call, Decides, Passed, interruption-decided}
+use Rattle.posting.proofs.AnswerLaws.{refused-as}
 use Rattle.posting.proofs.in_place.interruption.Goals as goal
-use Rattle.posting.proofs.in_place.interruption.Goals.{In_default, After-year_of-year}
+use Rattle.posting.proofs.in_place.interruption.Goals.{In_ok-admit_interruption, After-year_of-year}
 
 -- what the shared checks say of a call, in a kind that has interruptions
 module _ (kind : List Indicator) (b : Book) (operator sign level cause weight : ℕ) (start end : ℤ) where
@@ -37,29 +35,26 @@ module _ (kind : List Indicator) (b : Book) (operator sign level cause weight : 
       start end refl refl answer (rw (back start_fits, back end_fits) at asked)
 
 -- what is known once they are passed
-module _ (m : In_default) where
+module _ (m : In_ok-admit_interruption) where
   abbrev kind_of : List Indicator
   kind_of = indicators_of m.args.kind
 
   abbrev call : Call
   call = Interruption m.args.operator m.args.sign m.args.level m.args.cause m.args.start m.args.end m.args.weight
 
-  abbrev lent : Book → Book
-  lent b = with_figures (with_joined b m.args.joined) m.args.figures.now
-
-  passed : (b : Book) → Passed kind_of (lent b) call m.args.operator
+  passed : Passed kind_of m.args.b.now call m.args.operator
       (details_in_range m.args.sign m.args.level m.args.cause m.args.weight) (starts_after_end m.args.start m.args.end) (outside_period m.args.start m.args.end)
-  passed b =
-      decided kind_of (lent b) m.args.operator m.args.sign m.args.level m.args.cause m.args.weight m.args.start m.args.end
+  passed =
+      decided kind_of m.args.b.now m.args.operator m.args.sign m.args.level m.args.cause m.args.weight m.args.start m.args.end
       (sym m.takes_interruptions.ensures ∙ m.if-not-takes_interruptions.false) m.ranges.start m.ranges.end (accepted tt)
-      (sym (rw m.details_in_range-valid.ensures at m.admit_interruption.ensures) ∙ ap admission_said m.in_default.is)
+      (sym (rw m.details_in_range-valid.ensures at m.in_ok-admit_interruption.ensures))
 
   within : Details m.args.sign m.args.level m.args.cause m.args.weight
-  within = details m.args.sign m.args.level m.args.cause m.args.weight (passed fresh_book).within_range
+  within = details m.args.sign m.args.level m.args.cause m.args.weight passed.within_range
 
-  entered : (b : Book) → apply kind_of (lent b) call ≡ entering (lent b) (facts_of kind_of call).entries (facts_of kind_of call).answer
+  entered : apply kind_of m.args.b.now call ≡ entering m.args.b.now (facts_of kind_of call).entries (facts_of kind_of call).answer
   unfolding facts_of changed
-  entered b = (passed b).entered refl
+  entered = passed.entered refl
 
 -- what the leaves give
 module _ (m : After-year_of-year) where
@@ -69,77 +64,61 @@ module _ (m : After-year_of-year) where
   year-is : m.year_of-year.result ≡ year_of m.args.end
   year-is = rw (back m.ranges.end) at m.year_of-year.ensures
 
+  abbrev known : In_ok-admit_interruption
+  known = m.before.before
+
   year_known : m.year_of-year.result < years
-  year_known = rw year-is (year_lt (ends m.args.start m.args.end (passed m.before.before fresh_book).timely))
+  year_known = rw year-is (year_lt (ends m.args.start m.args.end (passed known).timely))
 
   seconds_within : m.seconds_of-seconds.result ≤ longest
-  seconds_within =
-      let known = passed m.before.before fresh_book in
-      rw seconds-is (seconds_most (lasts m.args.start m.args.end known.ordered known.timely))
+  seconds_within = rw seconds-is (seconds_most (lasts m.args.start m.args.end (passed known).ordered (passed known).timely))
 
 -- 2
 pub returns-then-not-takes_interruptions : goal.returns-then-not-takes_interruptions
 unfolding facts_of
-returns-then-not-takes_interruptions c = λ b.
+returns-then-not-takes_interruptions c =
     rw
-    (unknown-call (indicators_of c.args.kind) (with_figures (with_joined b c.args.joined) c.args.figures.now)
+    (unknown-call (indicators_of c.args.kind) c.args.b.now
     (Interruption c.args.operator c.args.sign c.args.level c.args.cause c.args.start c.args.end c.args.weight)
     (sym c.takes_interruptions.ensures ∙ c.if-not-takes_interruptions.true))
     (refl, refl)
 
 -- 4, 5, 14, 15 or 7
-pub returns-in-Refused : goal.returns-in-Refused
-returns-in-Refused c = λ b.
-    rw
-    (decided (indicators_of c.args.kind) (with_figures (with_joined b c.args.joined) c.args.figures.now)
-    c.args.operator c.args.sign c.args.level c.args.cause c.args.weight c.args.start c.args.end
-    (sym c.takes_interruptions.ensures ∙ c.if-not-takes_interruptions.false) c.ranges.start c.ranges.end _
-    (sym (rw c.details_in_range-valid.ensures at c.admit_interruption.ensures) ∙ ap admission_said c.in-Refused.is))
+pub returns-in_err-admit_interruption : goal.returns-in_err-admit_interruption
+returns-in_err-admit_interruption c =
+    rw (
+      refused-as _ _ _ c.from_residual.ensures.1,
+      decided (indicators_of c.args.kind) c.args.b.now
+          c.args.operator c.args.sign c.args.level c.args.cause c.args.weight c.args.start c.args.end
+          (sym c.takes_interruptions.ensures ∙ c.if-not-takes_interruptions.false) c.ranges.start c.ranges.end _
+          (sym (rw c.details_in_range-valid.ensures at c.in_err-admit_interruption.ensures)),
+    )
     (refl, refl)
 
 pub seconds_of-seconds-requires : goal.seconds_of-seconds-requires
-seconds_of-seconds-requires c =
-    let known = passed c fresh_book in
-    rw (back c.ranges.start, back c.ranges.end) (known.ordered, known.timely)
+seconds_of-seconds-requires c = rw (back c.ranges.start, back c.ranges.end) ((passed c).ordered, (passed c).timely)
 
 pub year_of-year-requires : goal.year_of-year-requires
-year_of-year-requires c = rw (back c.ranges.start, back c.ranges.end) (passed c.before fresh_book).timely
+year_of-year-requires c = rw (back c.ranges.start, back c.ranges.end) (passed c.before).timely
 
-pub enter_counted-requires : goal.enter_counted-requires
-enter_counted-requires c =
-    let m : After-year_of-year = c.before.before.before in
-    let within_range = within m.before.before in
+pub invariant_of-counted : goal.invariant_of-counted
+invariant_of-counted c =
+    let m : After-year_of-year = (goal.at.invariant_of-counted c).After-year_of-year in
+    let within_range = within (known m) in
     record {
-      operator_known = (passed m.before.before fresh_book).small;
-      sign_most = within_range.sign_most;
-      level_most = within_range.level_most;
-      year_known = year_known m;
-      weight_most = within_range.weight_most;
-      seconds_most = seconds_within m;
+      in_range = record {
+        operator_known = (passed (known m)).small;
+        sign_most = within_range.sign_most;
+        level_most = within_range.level_most;
+        year_known = year_known m;
+        weight_most = within_range.weight_most;
+        seconds_most = seconds_within m;
+      };
     }
 
-pub enter-requires : goal.enter-requires
-enter-requires c =
-    let m : After-year_of-year = c.before.before.before.before in
-    record {
-      operator_known = (passed m.before.before fresh_book).small;
-      year_known = year_known m;
-      figure_known = rw c.count_figure-count.ensures (left-out-known c.in-LeftOut.reason);
-      sign_most = (within m.before.before).sign_most;
-    }
-
--- counted
-pub returns-in-Counts : goal.returns-in-Counts
+-- judged
+pub returns : goal.returns
 unfolding facts_of
-returns-in-Counts c = λ b.
-    let m : After-year_of-year = c.before.before.before.before in
-    rw (entered m.before.before b, ← rw (seconds-is m) at (c.judge.ensures (year_of c.args.end)), c.in-Counts.is)
-    (rw (year-is m, seconds-is m) at (c.enter_counted.ensures (with_joined b c.args.joined)))
-
--- left out
-pub returns-in-LeftOut : goal.returns-in-LeftOut
-unfolding facts_of
-returns-in-LeftOut c = λ b.
-    let m : After-year_of-year = c.before.before.before.before.before in
-    rw (entered m.before.before b, ← rw (seconds-is m) at (c.judge.ensures (year_of c.args.end)), c.in-LeftOut.is, left-out-counted)
-    (rw (year-is m, c.count_figure-count.ensures) at (c.enter.ensures _ refl (with_joined b c.args.joined)))
+returns c =
+    let m : After-year_of-year = (goal.at.returns c).After-year_of-year in
+    rw (entered (known m)) (rw (year-is m, seconds-is m) at c.enter_judged.ensures)
