@@ -19,9 +19,9 @@ pub struct Entry {
     ghost in_range: { EntryInRange operator year figure sign },
 }
 
-// What is entered of an interruption that counts: with sign 0 added, with 1 subtracted.
+// An interruption that is admitted, with its year and its length: with sign 0 added, with 1 subtracted.
 #[derive(Clone, Copy)]
-pub struct Counted {
+pub struct Admitted {
     pub operator: u8,
     pub sign: u8,
     pub level: u8,
@@ -32,7 +32,7 @@ pub struct Counted {
 }
 
 // An interruption that counts: what it measures, and 1 in the figure that counts those, added or subtracted.
-pub fn enter_counted(b: &mut Book, counted: Counted) -> Result<(), Refusal>
+pub fn enter_counted(b: &mut Book, counted: Admitted) -> Result<(), Refusal>
     ensures { Enters b.old (interruption_entries counted.operator counted.sign counted.level counted.weight counted.seconds counted.year (counted_in counted.year)) result b.new }
 {
     let count_at = figure_slot(counted.operator, counted.year, FIRST_COUNT);
@@ -44,10 +44,10 @@ pub fn enter_counted(b: &mut Book, counted: Counted) -> Result<(), Refusal>
 }
 
 // Weight, and weight times seconds, added or subtracted.
-fn enter_measured(b: &mut Book, counted: Counted) -> Result<(), Refusal>
+fn enter_measured(b: &mut Book, counted: Admitted) -> Result<(), Refusal>
     ensures { Enters b.old (measured_entries counted.operator counted.sign counted.level counted.weight counted.seconds (counted_in counted.year)) result b.new }
 {
-    let Counted {
+    let Admitted {
         operator,
         sign,
         level,

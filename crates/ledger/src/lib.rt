@@ -3,4 +3,4 @@
 
 mod entries;
 
-pub use entries::{Counted, Entry, enter, enter_counted};
+pub use entries::{Admitted, Entry, enter, enter_counted};

@@ -14,7 +14,7 @@ use calls::{
     Answer, Call, Kind, LAST_OPERATOR, Refusal, has_bit, include_bit, remask, takes_interruptions,
 };
 use judging::{count_figure, judge, seconds_of, year_of};
-use ledger::{Counted, Entry, enter, enter_counted};
+use ledger::{Admitted, Entry, enter, enter_counted};
 
 pub fn join(kind: Kind, b: &mut Book, operator: u8) -> Result<(), Refusal>
     ensures { Leaves (indicators_of kind) b.old (Call.Join operator) (yes_or result) b.new }
@@ -61,7 +61,7 @@ pub fn interruption(
     admit_interruption(b.joined, operator, valid, start, end)?;
     let seconds = seconds_of(start, end);
     let year = year_of(start, end);
-    let counted = Counted {
+    let admitted = Admitted {
         operator,
         sign,
         level,
@@ -69,25 +69,25 @@ pub fn interruption(
         weight,
         seconds,
     };
-    enter_judged(b, cause, counted)
+    enter_judged(b, cause, admitted)
 }
 
 // What counts is entered whole, and of what is left out its count.
-fn enter_judged(b: &mut Book, cause: u8, counted: Counted) -> Result<Answer, Refusal>
-    ensures { EntersJudged b.old cause counted.operator counted.sign counted.level counted.weight counted.seconds counted.year (answer_or result) b.new }
+fn enter_judged(b: &mut Book, cause: u8, admitted: Admitted) -> Result<Answer, Refusal>
+    ensures { EntersJudged b.old cause admitted.operator admitted.sign admitted.level admitted.weight admitted.seconds admitted.year (answer_or result) b.new }
 {
-    let year = counted.year;
-    match judge(cause, counted.seconds) {
+    let year = admitted.year;
+    match judge(cause, admitted.seconds) {
         None => {
-            enter_counted(b, counted)?;
+            enter_counted(b, admitted)?;
             Ok(Answer::Counted { year })
         }
         Some(reason) => {
             let one = Entry {
-                operator: counted.operator,
+                operator: admitted.operator,
                 year,
                 figure: count_figure(reason),
-                sign: counted.sign,
+                sign: admitted.sign,
                 value: 1,
             };
             enter(b, one)?;

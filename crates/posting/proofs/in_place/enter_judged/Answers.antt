@@ -9,18 +9,18 @@ use Rattle.posting.proofs.in_place.enter_judged.Goals as goal
 -- 8 or 9 of one that counts
 pub returns-in_err-enter_counted-in-None : goal.returns-in_err-enter_counted-in-None
 returns-in_err-enter_counted-in-None c =
-    let a = c.args.counted in
+    let a = c.args.admitted in
     rw (refused-as _ _ _ c.from_residual.ensures.1, ← c.judge.ensures a.year, c.in-None.is) (c.in_err-enter_counted-in-None.ensures (counted_in a.year))
 
 -- counted
 pub returns-in_ok-enter_counted-in-None : goal.returns-in_ok-enter_counted-in-None
 returns-in_ok-enter_counted-in-None c =
-    let a = c.args.counted in
+    let a = c.args.admitted in
     rw (← c.judge.ensures a.year, c.in-None.is) (c.in_ok-enter_counted-in-None.ensures (counted_in a.year))
 
 pub invariant_of-one : goal.invariant_of-one
 invariant_of-one c =
-    let a = c.args.counted in
+    let a = c.args.admitted in
     record {
       in_range = record {
         operator_known = a.in_range.operator_known;
@@ -33,13 +33,13 @@ invariant_of-one c =
 -- 8 or 9 of the count of one that is left out
 pub returns-in_err-enter-in-Some : goal.returns-in_err-enter-in-Some
 returns-in_err-enter-in-Some c =
-    let a = c.args.counted in
+    let a = c.args.admitted in
     rw (refused-as _ _ _ c.from_residual-in_err-enter-in-Some.ensures.1, ← c.judge.ensures a.year, c.in-Some.is, left-out-counted)
     (rw c.count_figure.ensures at (c.in_err-enter-in-Some.ensures (left_out_as c.in-Some.reason)))
 
 -- left out
 pub returns-in_ok-enter-in-Some : goal.returns-in_ok-enter-in-Some
 returns-in_ok-enter-in-Some c =
-    let a = c.args.counted in
+    let a = c.args.admitted in
     rw (← c.judge.ensures a.year, c.in-Some.is, left-out-counted)
     (rw c.count_figure.ensures at (c.in_ok-enter-in-Some.ensures (left_out_as c.in-Some.reason)))

@@ -101,9 +101,9 @@ seconds_of-seconds-requires c = rw (back c.ranges.start, back c.ranges.end) ((pa
 pub year_of-year-requires : goal.year_of-year-requires
 year_of-year-requires c = rw (back c.ranges.start, back c.ranges.end) (passed c.before).timely
 
-pub invariant_of-counted : goal.invariant_of-counted
-invariant_of-counted c =
-    let m : After-year_of-year = (goal.at.invariant_of-counted c).After-year_of-year in
+pub invariant_of-admitted : goal.invariant_of-admitted
+invariant_of-admitted c =
+    let m : After-year_of-year = (goal.at.invariant_of-admitted c).After-year_of-year in
     let within_range = within (known m) in
     record {
       in_range = record {
