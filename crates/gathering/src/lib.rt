@@ -6,13 +6,14 @@ ghost use Rattle.std.proofs.Math.Seq.{paste};
 ghost use Rattle.calls.specs.Limits.{indicator_count};
 ghost use Rattle.calls.specs.Indicators.{indicators_of};
 ghost use Rattle.indicators.specs.Points.{pool_numbered, points_numbered};
-ghost use Rattle.values.specs.Bounds.{pool_most, total_most, Within};
+ghost use Rattle.values.specs.Bounds.{pool_most, total_most};
 ghost use Rattle.values.specs.Operators.{each};
 ghost use Rattle.gathering.specs.Steps.{OneGathered, AllGathered};
 
 use book::Book;
 use calls::{INDICATOR_COUNT, INDICATORS, Kind, OPERATORS, takes_mark};
 use indicators::{points_of, pool_of};
+use values::Measured;
 
 // A number for each indicator and operator.
 pub const POINT_PLACES: usize = OPERATORS * INDICATORS;
@@ -27,9 +28,8 @@ pub struct Gathered {
     pub totals: [u64; 16],
 }
 
-pub fn gather(kind: Kind, b: &Book) -> Gathered
-    requires { Within b.now }
-    ensures { AllGathered b.now (indicators_of kind) result }
+pub fn gather(kind: Kind, m: Measured) -> Gathered
+    ensures { AllGathered m.entry.book.now (indicators_of kind) result }
 {
     let mut g = Gathered {
         pools: [0u64; INDICATORS],
@@ -37,35 +37,34 @@ pub fn gather(kind: Kind, b: &Book) -> Gathered
         totals: [0u64; 16],
     };
     for number in 0..INDICATOR_COUNT {
-        g.put(kind, b, number);
+        g.put(kind, m, number);
     }
     g
 }
 
 impl Gathered {
     // The indicator of a number put in.
-    fn put(&mut self, kind: Kind, b: &Book, number: u8)
-        requires within { Within b.now }
+    fn put(&mut self, kind: Kind, m: Measured, number: u8)
         requires number_there { number < indicator_count }
         requires totals_most { (k : ℕ) → get_or self.old.totals k 0 ≤ total_most }
-        ensures { OneGathered b.now (indicators_of kind) number self.old self.new }
+        ensures { OneGathered m.entry.book.now (indicators_of kind) number self.old self.new }
     {
-        let shares = points_in(kind, b, number);
-        self.pools[number as usize] = pool_in(kind, b, number);
+        let shares = points_in(kind, m, number);
+        self.pools[number as usize] = pool_in(kind, m.book, number);
         place(&mut self.points, 16 * number as usize, shares);
         self.totals = add(self.totals, shares);
     }
 }
 
 // The points of the kind's indicator of a number; 0 for all if it has none.
-fn points_in(kind: Kind, b: &Book, number: u8) -> [u64; 16]
-    requires { Within b.now × (number < indicator_count) }
-    ensures { result ≡ points_numbered b.now (indicators_of kind) number }
+fn points_in(kind: Kind, m: Measured, number: u8) -> [u64; 16]
+    requires { number < indicator_count }
+    ensures { result ≡ points_numbered m.entry.book.now (indicators_of kind) number }
 {
     if !takes_mark(kind, number) {
         return [0u64; 16];
     }
-    points_of(b, number)
+    points_of(m, number)
 }
 
 fn pool_in(kind: Kind, b: &Book, number: u8) -> u64

@@ -5,7 +5,7 @@ ghost use Rattle.calls.specs.Limits.{operators, indicator_count};
 ghost use Rattle.apportion.specs.Sum.{sum as sum_of_all};
 ghost use Rattle.exact.specs.Division.{over};
 ghost use Rattle.exponent.specs.Weight.{first_weight};
-ghost use Rattle.values.specs.Bounds.{score_most, Within};
+ghost use Rattle.values.specs.Bounds.{score_most};
 ghost use Rattle.values.specs.Operators.{table, each, count};
 ghost use Rattle.values.specs.Indicator.{reliable_mask, numbered};
 ghost use Rattle.indicators.specs.Steps.{ScoresWithin, Thousandths, LevelAsked};
@@ -13,18 +13,17 @@ ghost use Rattle.indicators.specs.Points.{is_better};
 ghost use Rattle.indicators.specs.Sequence.{thousandths as thousandths_of_sums, exponent_weights, levelled_weights, in_sequence};
 
 use crate::weights::largest_of;
-use book::Book;
 use calls::has_bit;
 use std::array;
-use values::{sums_of_years, yearly_values};
+use values::{Measured, sums_of_years, yearly_values};
 use weighing::{is_better, levelled_weight, normalise};
 
 // The five steps in turn, for A1 to A4 alike. The last takes mask and sums again: who is better cannot be told from the weights.
-pub(crate) fn interruption_weights(mask: u16, b: &Book, number: u8) -> [u64; 16]
-    requires { Within b.now × (number < indicator_count) }
-    ensures { mask ≡ reliable_mask b.now (numbered number) → result ≡ in_sequence b.now (numbered number) }
+pub(crate) fn interruption_weights(mask: u16, m: Measured, number: u8) -> [u64; 16]
+    requires { number < indicator_count }
+    ensures { mask ≡ reliable_mask m.entry.book.now (numbered number) → result ≡ in_sequence m.entry.book.now (numbered number) }
 {
-    let values = yearly_values(b, number);
+    let values = yearly_values(m, number);
     let sums = sums_of_years(mask, values);
     let thousandths = thousandths_of(sums);
     let weights = exponent_weights(thousandths);

@@ -13,7 +13,7 @@ use gathering::{Gathered, gather};
 use money::{adjust, limits_of, pot_of, return_weights};
 use range::in_range;
 use readiness::{all_marked, network_missing};
-use values::settings_of;
+use values::{Measured, settings_of};
 
 // The settlement of a book of electricity, or its refusal with all numbers 0. The book is unchanged.
 pub fn settle(b: Book) -> Settled
@@ -70,7 +70,7 @@ fn settle_in_range(kind: Kind, b: &Book) -> Settlement
         pools,
         points,
         totals,
-    } = gather(kind, b);
+    } = gather(kind, Measured { book: b });
     let access = settings_of(b, 1);
     let incomes = settings_of(b, 2);
     let pot = pot_of(b.pot_rate, incomes);

@@ -2,49 +2,50 @@
 // part. The book is lent, since by value it is copied at each call.
 #![tactic(auto)]
 
+mod measured;
 mod measures;
 
 ghost use Rattle.std.specs.Prelude.{◌≡◌, cond, ◌+◌, ◌≤◌, ◌<◌};
 ghost use Rattle.calls.specs.Limits.{years, indicator_count};
 ghost use Rattle.calls.specs.Masks.{has};
-ghost use Rattle.values.specs.Bounds.{yearly_most, Within};
+ghost use Rattle.values.specs.Bounds.{yearly_most};
 ghost use Rattle.values.specs.Indicator.{yearly_values, reliable_mask, scores, numbered};
 ghost use Rattle.values.specs.Sequence.{values_by_year, sums_of_years};
 ghost use Rattle.values.specs.Steps.{YearsWithin};
 
 use book::Book;
 use calls::has_bit;
+pub use measured::Measured;
 pub use measures::settings_of;
 use measures::yearly_value;
 
 // The scores of the operators that take part in an indicator; 0 for the others.
-pub fn scores_of(mask: u16, b: &Book, number: u8) -> [u64; 16]
-    requires { Within b.now × (number < indicator_count) }
-    ensures { mask ≡ reliable_mask b.now (numbered number) → result ≡ scores b.now (numbered number) }
+pub fn scores_of(mask: u16, m: Measured, number: u8) -> [u64; 16]
+    requires { number < indicator_count }
+    ensures { mask ≡ reliable_mask m.entry.book.now (numbered number) → result ≡ scores m.entry.book.now (numbered number) }
 {
-    sums_of_years(mask, yearly_values(b, number))
+    sums_of_years(mask, yearly_values(m, number))
 }
 
 // Step 1: the values of each of the three years, by operator; of operators that take no part too.
-pub fn yearly_values(b: &Book, number: u8) -> [[u64; 16]; 3]
-    requires { Within b.now × (number < indicator_count) }
-    ensures { result ≡ values_by_year b.now (numbered number).measure }
+pub fn yearly_values(m: Measured, number: u8) -> [[u64; 16]; 3]
+    requires { number < indicator_count }
+    ensures { result ≡ values_by_year m.entry.book.now (numbered number).measure }
 {
     [
-        values_in(b, number, 0),
-        values_in(b, number, 1),
-        values_in(b, number, 2),
+        values_in(m, number, 0),
+        values_in(m, number, 1),
+        values_in(m, number, 2),
     ]
 }
 
 // The values of a year, by operator.
-fn values_in(b: &Book, number: u8, year: u8) -> [u64; 16]
-    requires within { Within b.now }
+fn values_in(m: Measured, number: u8, year: u8) -> [u64; 16]
     requires number_there { number < indicator_count }
     requires year_there { year < years }
-    ensures { result ≡ yearly_values b.now (numbered number).measure year }
+    ensures { result ≡ yearly_values m.entry.book.now (numbered number).measure year }
 {
-    std::array::from_fn(|operator| yearly_value(b, number, operator as u8, year))
+    std::array::from_fn(|operator| yearly_value(m, number, operator as u8, year))
 }
 
 // Step 2: the sum of the three years, where the annex has their mean (01 decides). It is 0 for whoever takes no part.

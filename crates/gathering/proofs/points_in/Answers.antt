@@ -9,10 +9,10 @@ use Rattle.gathering.proofs.points_in.Goals as goal
 pub returns-then-not-takes_mark : goal.returns-then-not-takes_mark
 returns-then-not-takes_mark c =
     let start = c.args in
-    sym (points-of-kind start.b.now start.kind start.number (search rules) false (sym c.takes_mark.ensures ∙ c.if-not-takes_mark.true))
+    sym (points-of-kind start.m.book.now start.kind start.number (search rules) false (sym c.takes_mark.ensures ∙ c.if-not-takes_mark.true))
 
 pub returns : goal.returns
 returns c =
     let start = c.args in
     c.points_of.ensures
-    ∙ sym (points-of-kind start.b.now start.kind start.number (search rules) true (sym c.takes_mark.ensures ∙ c.if-not-takes_mark.false))
+    ∙ sym (points-of-kind start.m.book.now start.kind start.number (search rules) true (sym c.takes_mark.ensures ∙ c.if-not-takes_mark.false))

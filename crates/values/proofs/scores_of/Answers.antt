@@ -6,9 +6,9 @@ use Rattle.values.proofs.Scores.{years-within, scores-in-turn}
 use Rattle.values.proofs.scores_of.Goals as goal
 
 pub sums_of_years-requires : goal.sums_of_years-requires
-sums_of_years-requires c = rw c.yearly_values.ensures (years-within c.args.b.now c.requires.0 c.args.number c.requires.1)
+sums_of_years-requires c = rw c.yearly_values.ensures (years-within c.args.m.book.now c.args.m.within c.args.number c.requires)
 
 pub returns : goal.returns
 returns c =
     λ taking.
-    c.sums_of_years.ensures ∙ rw (taking, c.yearly_values.ensures) (scores-in-turn c.args.b.now (numbered c.args.number))
+    c.sums_of_years.ensures ∙ rw (taking, c.yearly_values.ensures) (scores-in-turn c.args.m.book.now (numbered c.args.number))

@@ -8,5 +8,5 @@ use Rattle.values.proofs.values_in.Goals as goal
 
 pub returns : goal.returns
 returns c =
-    made-each _ _ (λ (k : ℕ). yearly_value c.args.b.now (numbered c.args.number).measure k c.args.year) (λ i y q lt call. search rules) _
+    made-each _ _ (λ (k : ℕ). yearly_value c.args.m.book.now (numbered c.args.number).measure k c.args.year) (λ i y q lt call. search rules) _
     c.from_fn.ensures.items

@@ -14,7 +14,7 @@ place-requires c =
     omega arith
 
 pub add-self-requires : goal.add-self-requires
-add-self-requires c = (c.requires.totals_most, rw c.points_in-shares.ensures (numbered-le c.args.b.now c.args.kind c.args.number c.requires.number_there))
+add-self-requires c = (c.requires.totals_most, rw c.points_in-shares.ensures (numbered-le c.args.m.book.now c.args.kind c.args.number c.requires.number_there))
 
 pub returns : goal.returns
 returns c =

@@ -12,7 +12,7 @@ use Rattle.indicators.proofs.interruptions.interruption_weights.Goals.{After-yea
 
 -- what the results of the first two steps are within
 years-known : (m : After-yearly_values-values) → YearsWithin m.yearly_values-values.result
-years-known m = rw m.yearly_values-values.ensures (years-within m.args.b.now m.requires.0 m.args.number m.requires.1)
+years-known m = rw m.yearly_values-values.ensures (years-within m.args.m.book.now m.args.m.within m.args.number m.requires)
 
 sums-known : (m : After-sums_of_years-sums) → ScoresWithin m.sums_of_years-sums.result
 sums-known m = rw m.sums_of_years-sums.ensures (sums_within _ _ (years-known m.before))

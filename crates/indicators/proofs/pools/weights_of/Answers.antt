@@ -14,16 +14,16 @@ pub returns-then-number-lt4 : goal.returns-then-number-lt4
 returns-then-number-lt4 c =
     let number = c.args.number in
     c.interruption_weights.ensures c.reliable_mask-mask.ensures
-    ∙ sequence-weights c.args.b.now (numbered number) (level-of number c.requires.1 ∙ lt-ltb number 4 c.if-number-lt4.true)
+    ∙ sequence-weights c.args.m.book.now (numbered number) (level-of number c.requires ∙ lt-ltb number 4 c.if-number-lt4.true)
 
 pub linear_weights-requires : goal.linear_weights-requires
 linear_weights-requires c =
-    rw (c.scores_of-scores.ensures c.reliable_mask-mask.ensures) (scored _ c.requires.0 c.args.number c.requires.1)
+    rw (c.scores_of-scores.ensures c.reliable_mask-mask.ensures) (scored _ c.args.m.within c.args.number c.requires)
 
 -- D
 pub returns : goal.returns
 returns c =
     let number = c.args.number in
     let taking = c.reliable_mask-mask.ensures in
-    c.linear_weights.ensures _ (level-of number c.requires.1 ∙ le-ltb number 4 c.if-number-lt4.false)
+    c.linear_weights.ensures _ (level-of number c.requires ∙ le-ltb number 4 c.if-number-lt4.false)
     ∙ (λ i. weights (numbered number).measure (taking i) (c.scores_of-scores.ensures taking i))

@@ -35,8 +35,8 @@ module _ (b : Book) (kind : Kind) (ranged : in_range (indicators_of kind) b ≡ 
   incomes-at-most : (incomes : List ℕ) → incomes ≡ settings_of b 2 → (k : ℕ) → get_or incomes k 0 ≤ income_limit
   incomes-at-most incomes are k = rw are (incomes_most b inside k)
 
-pub gather-requires : goal.gather-requires
-gather-requires c = within c.args.b.now (inside c.args.b.now c.args.kind c.requires)
+pub invariant_of-gather : goal.invariant_of-gather
+invariant_of-gather c = record { within = within c.args.b.now (inside c.args.b.now c.args.kind c.requires) }
 
 pub pot_of-pot-requires : goal.pot_of-pot-requires
 pot_of-pot-requires c =

@@ -20,12 +20,12 @@ returns c =
 pub overflow_mul-fees-2 : goal.overflow_mul-fees-2
 unfolding index_of
 overflow_mul-fees-2 c =
-    let base : c.from-base.result ≤ index_most = rw c.from-base.ensures (c.requires.within.indices_within 3 (omega arith)) in
+    let base : c.from-base.result ≤ index_most = rw c.from-base.ensures (c.args.m.within.indices_within 3 (omega arith)) in
     record { fits = omega (arith, mul-le-mul c.figure_in-fees.ensures.most base) }
 
 pub overflow_mul-made : goal.overflow_mul-made
 unfolding index_of
 overflow_mul-made c =
-    let index : c.from-index.result ≤ index_most = rw c.from-index.ensures (c.requires.within.indices_within c.args.year (omega arith)) in
+    let index : c.from-index.result ≤ index_most = rw c.from-index.ensures (c.args.m.within.indices_within c.args.year (omega arith)) in
     let made : c.max-made.result ≤ figure_limit = omega arith in
     record { fits = omega (arith, mul-le-mul made index) }

@@ -12,4 +12,4 @@ pub returns-clause-most : goal.returns-clause-most
 unfolding figure_of
 returns-clause-most c =
     let there = c.requires.figure_there in
-    rw c.figure_slot.ensures.0 (c.requires.within.figures_within _ _ _ there.operator_known there.year_known there.figure_known)
+    rw c.figure_slot.ensures.0 (c.args.m.within.figures_within _ _ _ there.operator_known there.year_known there.figure_known)
