@@ -6,20 +6,25 @@ use crate::Answered;
 use crate::dispatch::apply_in;
 use book::Book;
 use calls::{Answer, Call, Kind, Refusal};
-use range::in_range;
+use range::Ranged;
 
 // A call that is at hand as a value, on a book of a kind.
-pub fn file_as(kind: Kind, mut b: Book, filing_call: Call) -> Answered
+pub fn file_as(kind: Kind, b: Book, filing_call: Call) -> Answered
     ensures { FilesAs (indicators_of kind) b filing_call result.answer result.book }
 {
-    if !in_range(kind, b) {
-        return Answered {
+    match Ranged::new(kind, b) {
+        None => Answered {
             book: b,
             answer: Answer::Refused(Refusal::OutOfRange),
-        };
+        },
+        Some(mut ranged) => {
+            let answer = apply_in(&mut ranged, filing_call);
+            Answered {
+                book: ranged.book,
+                answer,
+            }
+        }
     }
-    let answer = apply_in(kind, &mut b, filing_call);
-    Answered { book: b, answer }
 }
 
 // The same on a book of electricity, as all calls that follow.

@@ -1,19 +1,19 @@
 // The calls on a book in range that is lent: which one a value names, and its answer.
-ghost use Rattle.std.specs.Prelude.{◌≡◌, true};
+ghost use Rattle.std.specs.Prelude.{◌≡◌};
 ghost use Rattle.calls.specs.Indicators.{indicators_of};
-ghost use Rattle.book.specs.Book.{in_range};
 ghost use Rattle.posting.specs.Parts.{Leaves, answer_or};
 
 use book::Book;
 use calls::{Answer, Call, Kind, Refusal};
+use range::Ranged;
 
-// Asks for a book in range and does not test it: `file` has just tested it, and the reader of filings tests a book once and then knows
-// that each call keeps it in range. Nobody can apply a call to a book that would get 5.
-pub fn apply_in(kind: Kind, b: &mut Book, filing_call: Call) -> Answer
-    requires { in_range (indicators_of kind) b.old ≡ true }
-    ensures { Leaves (indicators_of kind) b.old filing_call result b.new }
+// `file` has just tested the book, and the reader of filings tests a book once: each call keeps it in range. Nobody can apply a call to a
+// book that would get 5.
+pub fn apply_in(ranged: &mut Ranged, filing_call: Call) -> Answer
+    ensures leaves { Leaves (indicators_of ranged.old.kind) ranged.old.book filing_call result ranged.new.book }
+    ensures kind_stays { ranged.new.kind ≡ ranged.old.kind }
 {
-    match post(kind, b, filing_call) {
+    match post(ranged.kind, &mut ranged.book, filing_call) {
         Ok(answer) => answer,
         Err(refusal) => Answer::Refused(refusal),
     }

@@ -2,6 +2,8 @@
 #![tactic(auto)]
 
 mod limits;
+mod ranged;
 mod taken;
 
+pub use ranged::Ranged;
 pub use taken::in_range;

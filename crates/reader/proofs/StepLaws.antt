@@ -10,12 +10,10 @@ use lib.ListN.{length}
 use Rattle.calls.specs.declared.Call.{Call}
 use Rattle.calls.specs.Indicators.{Indicator}
 use Rattle.calls.specs.Answers.{Said, refused_by, accepted, on_answer, is_refused}
-use Rattle.book.specs.Book.{in_range}
 use Rattle.ledger.specs.Calls.{apply, Outcome}
-use Rattle.history.proofs.Kept.{stays}
 use Rattle.fields.specs.Field.{Found, at_end, call_then, field_in}
 use Rattle.filing.specs.Reader.{Fields, followed, fields_from, Reached, reading, run}
-use Rattle.reader.specs.Steps.{Ready, Turned, stopped, advanced, stepped_on, stepped}
+use Rattle.reader.specs.Steps.{Turned, stopped, advanced, stepped_on, stepped}
 use Rattle.fields.proofs.FieldLaws.{Stands, stands}
 use Rattle.filing.proofs.WalkLaws.{after, fields-next}
 
@@ -29,9 +27,9 @@ completed kind bytes turn =
     cond turn.continues (run kind turn.reached.book turn.reached.applied (fields_from kind (length bytes) bytes turn.reached.offset))
     turn.reached
 
--- a reading under way from a first one: ready for a step, and what it comes to in the end is the same
+-- a reading under way from a first one: no more fields than bytes, and what it comes to in the end is the same
 pub record Continued (kind : List Indicator) (bytes : List ℕ) (first turn : Turned) : Type 0 where
-  pub ready : Ready kind turn.reached
+  pub counted : turn.reached.applied ≤ turn.reached.offset
   pub same : completed kind bytes turn ≡ completed kind bytes first
 
 -- how much is left to read, more than nothing while it continues
@@ -52,9 +50,9 @@ pub completed-stopped : (kind : List Indicator) (bytes : List ℕ) (turn : Turne
 unfolding completed
 completed-stopped kind bytes turn stops = rw stops refl
 
--- a turn that follows a reading: it is ready for a step again, and less is left to read
-pub record Follows (kind : List Indicator) (bytes : List ℕ) (r : Reached) (turn : Turned) : Type 0 where
-  pub ready : Ready kind turn.reached
+-- a turn that follows a reading: no more fields than bytes again, and less is left to read
+pub record Follows (bytes : List ℕ) (r : Reached) (turn : Turned) : Type 0 where
+  pub counted : turn.reached.applied ≤ turn.reached.offset
   pub less : remaining bytes turn < suc (length bytes - r.offset)
 
 module _ (kind : List Indicator) (bytes : List ℕ) (r : Reached) where
@@ -77,17 +75,16 @@ module _ (kind : List Indicator) (bytes : List ℕ) (r : Reached) where
       go (accepted at_end) = refl
       go (refused_by number) = refl
 
-  pub step_follows : Ready kind r → Follows kind bytes r (stepped kind r (field_in kind bytes r.offset))
+  pub step_follows : r.applied ≤ r.offset → Follows bytes r (stepped kind r (field_in kind bytes r.offset))
   unfolding remaining stepped stepped_on stopped advanced on_answer
-  step_follows ready = go (field_in kind bytes r.offset) (stands kind bytes r.offset)
+  step_follows counted = go (field_in kind bytes r.offset) (stands kind bytes r.offset)
     where
-      by_answer : (given : Outcome) (next : ℕ) (refused : Bool) → in_range kind given.book ≡ true → (r.offset + 3 ≤ next) × (next ≤ length bytes)
-          → Follows kind bytes r (cond refused (stopped r given.said) (moved r next given))
-      by_answer given next true kept placed = record { ready = record { counted = ready.counted; ranged = ready.ranged }; less = omega arith }
-      by_answer given next false kept placed = record { ready = record { counted = omega arith; ranged = kept }; less = omega arith }
+      by_answer : (given : Outcome) (next : ℕ) (refused : Bool) → (r.offset + 3 ≤ next) × (next ≤ length bytes)
+          → Follows bytes r (cond refused (stopped r given.said) (moved r next given))
+      by_answer given next true placed = record { counted = counted; less = omega arith }
+      by_answer given next false placed = record { counted = omega arith; less = omega arith }
 
-      go : (found : Said Found) → Stands bytes r.offset found → Follows kind bytes r (stepped kind r found)
-      go (accepted (call_then call next)) placed =
-          by_answer (apply kind r.book call) next (is_refused (apply kind r.book call).said) (stays kind r.book call ready.ranged) placed
-      go (accepted at_end) placed = record { ready = record { counted = ready.counted; ranged = ready.ranged }; less = omega arith }
-      go (refused_by number) placed = record { ready = record { counted = ready.counted; ranged = ready.ranged }; less = omega arith }
+      go : (found : Said Found) → Stands bytes r.offset found → Follows bytes r (stepped kind r found)
+      go (accepted (call_then call next)) placed = by_answer (apply kind r.book call) next (is_refused (apply kind r.book call).said) placed
+      go (accepted at_end) placed = record { counted = counted; less = omega arith }
+      go (refused_by number) placed = record { counted = counted; less = omega arith }

@@ -1,12 +1,11 @@
 -- One step of a reading: what the field at the offset makes of what the reading has reached.
 -- Assumes nothing.
-use Rattle.std.specs.Prelude.{ℕ, ◌+◌, ◌≤◌, ◌≡◌, Bool, true, false, cond, List}
+use Rattle.std.specs.Prelude.{ℕ, ◌+◌, Bool, true, false, cond, List}
 use Rattle.std.specs.declared.ops.ControlFlow.{ControlFlow}
 use Rattle.std.specs.declared.ops.ControlFlow.TheVariants.{Continue, Break}
 use Rattle.calls.specs.Indicators.{Indicator}
 use Rattle.calls.specs.Answers.{Said, refused_by, accepted, on_answer, is_refused, Acceptance, yes_said}
 use Rattle.book.specs.declared.Book.{Book}
-use Rattle.book.specs.Book.{in_range}
 use Rattle.ledger.specs.Calls.{apply, Outcome}
 use Rattle.fields.specs.Field.{Found, at_end, call_then}
 use Rattle.filing.specs.declared.Progress.{Progress}
@@ -21,11 +20,6 @@ pub record Turned : Type 0 where
 abbrev pub told_turn : Book → ControlFlow Progress Progress → Turned
 told_turn b (Continue progress) = record { reached = reached_by b progress; continues = true }
 told_turn b (Break progress) = record { reached = reached_by b progress; continues = false }
-
--- what a step asks of a reading: no more fields than bytes, and a book in the range of the kind
-pub record Ready (kind : List Indicator) (r : Reached) : Type 0 where
-  pub counted : r.applied ≤ r.offset
-  pub ranged : in_range kind r.book ≡ true
 
 -- the end, or a field that is refused by its bytes or by its call
 unfoldable pub stopped : Reached → Said Acceptance → Turned

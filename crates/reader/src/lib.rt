@@ -2,22 +2,21 @@
 // lent to each field's call and altered in place.
 #![tactic(auto)]
 
-ghost use Rattle.std.specs.Prelude.{◌≡◌, true, ◌<◌};
+ghost use Rattle.std.specs.Prelude.{◌≡◌, ◌<◌, ◌≤◌};
 ghost use Rattle.calls.specs.Answers.{is_refused, said};
 ghost use Rattle.calls.specs.Indicators.{indicators_of};
 ghost use Rattle.book.specs.declared.Book.{Book as Declared-as-Book};
-ghost use Rattle.book.specs.Book.{in_range};
 ghost use Rattle.ledger.specs.Calls.{apply};
 ghost use Rattle.fields.specs.Field.{field_in};
 ghost use Rattle.filing.specs.Reader.{reached_by, told, read_from_as, read_from, read_from_gas, read_gas};
-ghost use Rattle.reader.specs.Steps.{Ready, told_turn, stopped, advanced, stepped};
+ghost use Rattle.reader.specs.Steps.{told_turn, stopped, advanced, stepped};
 
 use book::Book;
 use bookkeeping::apply_in;
 use calls::{Answer, Call, Kind, Refusal};
 use fields::{Field, field_in};
 use filing::{Progress, Reading};
-use range::in_range;
+use range::Ranged;
 use std::ops::ControlFlow;
 
 // Into a book of electricity.
@@ -44,21 +43,28 @@ pub fn read_gas(b: Book, bytes: &[u8]) -> Reading
 fn read_from_as(kind: Kind, b: Book, bytes: &[u8], at: usize) -> Reading
     ensures { told result ≡ read_from_as (indicators_of kind) b bytes.now at }
 {
-    if !in_range(kind, b) {
-        let progress = Progress {
-            applied: 0,
-            offset: at,
-            answer: Answer::Refused(Refusal::OutOfRange),
-        };
-        return Reading { book: b, progress };
+    match Ranged::new(kind, b) {
+        None => {
+            let progress = Progress {
+                applied: 0,
+                offset: at,
+                answer: Answer::Refused(Refusal::OutOfRange),
+            };
+            Reading { book: b, progress }
+        }
+        Some(mut ranged) => {
+            let progress = read_fields(&mut ranged, bytes, at);
+            Reading {
+                book: ranged.book,
+                progress,
+            }
+        }
     }
-    read_fields(kind, b, bytes, at)
 }
 
 // The fields of a filing, into a book in range.
-fn read_fields(kind: Kind, mut b: Book, bytes: &[u8], at: usize) -> Reading
-    requires { in_range (indicators_of kind) b ≡ true }
-    ensures { told result ≡ read_from_as (indicators_of kind) b bytes.now at }
+fn read_fields(ranged: &mut Ranged, bytes: &[u8], at: usize) -> Progress
+    ensures { reached_by ranged.new.book result ≡ read_from_as (indicators_of ranged.old.kind) ranged.old.book bytes.now at }
 {
     let mut reached = Progress {
         applied: 0,
@@ -66,25 +72,21 @@ fn read_fields(kind: Kind, mut b: Book, bytes: &[u8], at: usize) -> Reading
         answer: Answer::Yes,
     };
     loop {
-        match step(kind, &mut b, reached, bytes) {
+        match step(ranged, reached, bytes) {
             ControlFlow::Continue(further) => reached = further,
-            ControlFlow::Break(progress) => return Reading { book: b, progress },
+            ControlFlow::Break(progress) => return progress,
         }
     }
 }
 
-// The field at the offset: how far the reading has come then, and whether it goes on with a next field.
-fn step(
-    kind: Kind,
-    b: &mut Book,
-    reached: Progress,
-    bytes: &[u8],
-) -> ControlFlow<Progress, Progress>
-    requires { Ready (indicators_of kind) (reached_by b.old reached) }
-    ensures { told_turn b.new result ≡ stepped (indicators_of kind) (reached_by b.old reached) (field_in (indicators_of kind) bytes.now reached.offset) }
+// The field at the offset: how far the reading has come then, and whether it goes on with a next field. There are no more fields than bytes.
+fn step(ranged: &mut Ranged, reached: Progress, bytes: &[u8]) -> ControlFlow<Progress, Progress>
+    requires { reached.applied ≤ reached.offset }
+    ensures turned { told_turn ranged.new.book result ≡ stepped (indicators_of ranged.old.kind) (reached_by ranged.old.book reached) (field_in (indicators_of ranged.old.kind) bytes.now reached.offset) }
+    ensures kind_stays { ranged.new.kind ≡ ranged.old.kind }
 {
-    match field_in(kind, bytes, reached.offset) {
-        Field::CallThen { filing_call, next } => advance(kind, b, reached, filing_call, next),
+    match field_in(ranged.kind, bytes, reached.offset) {
+        Field::CallThen { filing_call, next } => advance(ranged, reached, filing_call, next),
         Field::End => stop(reached, Answer::Yes),
         Field::Refused(refusal) => stop(reached, Answer::Refused(refusal)),
     }
@@ -92,16 +94,16 @@ fn step(
 
 // A call applied; one that is refused leaves the book, the number applied and the offset.
 fn advance(
-    kind: Kind,
-    b: &mut Book,
+    ranged: &mut Ranged,
     reached: Progress,
     filing_call: Call,
     next: usize,
 ) -> ControlFlow<Progress, Progress>
-    requires { (reached.applied < next) × (in_range (indicators_of kind) b.old ≡ true) }
-    ensures { told_turn b.new result ≡ advanced (reached_by b.old reached) next (apply (indicators_of kind) b.old filing_call) }
+    requires { reached.applied < next }
+    ensures turned { told_turn ranged.new.book result ≡ advanced (reached_by ranged.old.book reached) next (apply (indicators_of ranged.old.kind) ranged.old.book filing_call) }
+    ensures kind_stays { ranged.new.kind ≡ ranged.old.kind }
 {
-    let answer = apply_in(kind, b, filing_call);
+    let answer = apply_in(ranged, filing_call);
     if is_refused(answer) {
         return stop(reached, answer);
     }

@@ -1,6 +1,6 @@
 -- `reader::read_from_as` meets its contract.
 -- Assumes nothing.
-use mathlib.Core.Path.{◌≡◌, refl, sym, ◌∙◌}
+use mathlib.Core.Path.{◌≡◌, refl}
 use mathlib.Core.Bool.{false}
 use Rattle.calls.specs.Indicators.{indicators_of}
 use Rattle.book.specs.Book.{in_range}
@@ -8,15 +8,12 @@ use Rattle.filing.specs.Reader.{read_from_as}
 use Rattle.reader.proofs.read_from_as.Goals as goal
 
 -- 5, of the book
-pub returns-then-not-in_range : goal.returns-then-not-in_range
+pub returns-in-None : goal.returns-in-None
 unfolding read_from_as
-returns-then-not-in_range c =
+returns-in-None c =
     let start = c.args in
-    let none : in_range (indicators_of start.kind) start.b ≡ false = sym c.in_range.ensures ∙ c.if-not-in_range.true in
+    let none : in_range (indicators_of start.kind) start.b ≡ false = c.in-None.ensures in
     rw none refl
 
-pub read_fields-requires : goal.read_fields-requires
-read_fields-requires c = sym c.in_range.ensures ∙ c.if-not-in_range.false
-
-pub returns : goal.returns
-returns c = c.read_fields.ensures
+pub returns-in-Some : goal.returns-in-Some
+returns-in-Some c = rw (c.in-Some.ensures.0, c.in-Some.ensures.1) at c.read_fields-progress.ensures

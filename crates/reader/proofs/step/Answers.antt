@@ -11,22 +11,22 @@ use Rattle.reader.proofs.step.Goals as goal
 
 pub advance-requires : goal.advance-requires
 advance-requires c =
-    let said : field_said c.field_in.result ≡ field_in (indicators_of c.args.kind) c.args.bytes.now c.args.reached.offset = c.field_in.ensures in
+    let said : field_said c.field_in.result ≡ field_in (indicators_of c.args.ranged.now.kind) c.args.bytes.now c.args.reached.offset = c.field_in.ensures in
     let filing = sym said ∙ ap field_said c.in-CallThen.is in
-    let placed = rw filing at (stands (indicators_of c.args.kind) c.args.bytes.now c.args.reached.offset) in
-    (omega (arith, placed.0, c.requires.counted), c.requires.ranged)
+    let placed = rw filing at (stands (indicators_of c.args.ranged.now.kind) c.args.bytes.now c.args.reached.offset) in
+    omega (arith, placed.0, c.requires)
 
 -- a call
-pub returns-in-CallThen : goal.returns-in-CallThen
+pub returns-in-CallThen-clause-turned : goal.returns-in-CallThen-clause-turned
 unfolding stepped stepped_on on_answer
-returns-in-CallThen c = rw (sym c.field_in.ensures ∙ ap field_said c.in-CallThen.is) c.advance.ensures
+returns-in-CallThen-clause-turned c = rw (sym c.field_in.ensures ∙ ap field_said c.in-CallThen.is) c.advance.ensures.turned
 
 -- the end
-pub returns-in-End : goal.returns-in-End
+pub returns-in-End-clause-turned : goal.returns-in-End-clause-turned
 unfolding stepped stepped_on on_answer
-returns-in-End c = rw (sym c.field_in.ensures ∙ ap field_said c.in-End.is) (c.stop.ensures _)
+returns-in-End-clause-turned c = rw (sym c.field_in.ensures ∙ ap field_said c.in-End.is) (c.stop.ensures _)
 
 -- refused by its bytes
-pub returns-in-Refused : goal.returns-in-Refused
+pub returns-in-Refused-clause-turned : goal.returns-in-Refused-clause-turned
 unfolding stepped stepped_on on_answer
-returns-in-Refused c = rw (sym c.field_in.ensures ∙ ap field_said c.in-Refused.is) (c.stop-in-Refused.ensures _)
+returns-in-Refused-clause-turned c = rw (sym c.field_in.ensures ∙ ap field_said c.in-Refused.is) (c.stop-in-Refused.ensures _)
