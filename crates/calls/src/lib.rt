@@ -18,6 +18,7 @@ pub use limits::{
     SETTINGS, WEIGHT_LIMIT, YEARS, cabins_in,
 };
 pub use masks::{has_bit, include_bit, remask};
+use std::fmt;
 
 // The kinds of operators, each with a book of its own.
 #[derive(Debug, Clone, Copy, PartialEq, Eq)]
@@ -95,6 +96,17 @@ pub enum Reason {
     Planned,
     Coupled,
     Exceptional,
+}
+
+impl fmt::Display for Reason {
+    fn fmt<W: fmt::Write>(&self, f: &mut fmt::Formatter<W>) -> fmt::Result {
+        f.write_str(match self {
+            Reason::Short => "short",
+            Reason::Planned => "planned",
+            Reason::Coupled => "coupled",
+            Reason::Exceptional => "exceptional",
+        })
+    }
 }
 
 #[derive(Debug, Clone, Copy, PartialEq, Eq)]
