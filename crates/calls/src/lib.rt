@@ -27,7 +27,7 @@ pub enum Kind {
     Gas,
 }
 
-// A filing call with its arguments, as the fields of a filing give them.
+// A filing call with its arguments, as the fields of a filing give them: numbers and no enums, since a number out of range is refused by 5.
 #[derive(Debug, Clone, Copy, PartialEq, Eq)]
 pub enum Call {
     Join {
@@ -109,6 +109,7 @@ impl fmt::Display for Reason {
     }
 }
 
+// An own enum and no Result: 01 names it, with each answer beside the others.
 #[derive(Debug, Clone, Copy, PartialEq, Eq)]
 pub enum Answer {
     Yes,

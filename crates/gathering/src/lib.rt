@@ -23,7 +23,7 @@ pub struct Gathered {
     pub pools: [u64; INDICATORS],
     // In hundredths, at indicator * 16 + operator.
     pub points: [u64; POINT_PLACES],
-    // In hundredths, by operator.
+    // In hundredths, by operator: a list of their own, as the settlement's are.
     pub totals: [u64; 16],
 }
 

@@ -38,7 +38,7 @@ pub fn rewritten(filing: &[u8], out: &mut [u8; WRITTEN_MOST]) -> Printed
     rewritten_as(Kind::Electricity, filing, out)
 }
 
-// Of a filing of gas.
+// Of a filing of gas, for which 02 wants calls of its own.
 pub fn rewritten_gas(filing: &[u8], out: &mut [u8; WRITTEN_MOST_GAS]) -> Printed
     ensures count_value { (result.stream, result.count) ≡ told_of (gas_printout_of filing.now) }
     ensures out_after { out.new ≡ put_into out.old (gas_printout_of filing.now).text }
