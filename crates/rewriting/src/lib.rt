@@ -16,6 +16,7 @@ use output::{LONGEST_FILING, put_refused_field};
 use text::put_word;
 use writer::{WRITTEN_MOST, WRITTEN_MOST_GAS, write_as};
 
+// An own enum: both texts are what the program is to print, so neither is an error as a `Result` would say.
 #[derive(Clone, Copy)]
 pub enum Stream {
     Output,
