@@ -30,10 +30,10 @@ pub fn share(t: u64, weights: [u64; 16], sizes: [u64; 16]) -> [u64; 16]
     award_units(t - whole, places, sizes)
 }
 
-// The sum of sixteen numbers.
-pub fn sum_of(numbers: [u64; 16]) -> u64
+// The sum of an array's numbers.
+pub fn sum_of<const N: usize>(numbers: [u64; N]) -> u64
     requires { sum numbers < 2 ^ 64 }
-    ensures { result ≡ sum numbers }
+    ensures { result ≡ sum numbers.entry }
 {
     numbers.iter().sum()
 }

@@ -31,6 +31,7 @@ fn all_bounded(numbers: &[u64]) -> [u64; 16]
     requires { length numbers.now ≡ 16 }
     ensures { sum result < 2 ^ 62 }
 {
+    // A loop, whose invariant carries the sum's bound.
     let mut all = [0u64; 16];
     for i in 0..16 {
         all[i] = bounded(numbers[i]);

@@ -22,6 +22,7 @@ pub fn setting_in_range(kind: Kind, which: u8, value: u64) -> bool
     value <= setting_limit(which)
 }
 
+// By number: 01's calls carry a setting as one.
 pub fn setting_limit(which: u8) -> u64
     ensures { result ≡ setting_limit which }
 {

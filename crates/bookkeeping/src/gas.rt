@@ -1,4 +1,4 @@
-// The filing calls on a book of gas: those of electricity but for the interruption, of which gas has none.
+// The filing calls on a book of gas: those of electricity but for the interruption, of which gas has none. 02 wants calls of their own for gas.
 ghost use Rattle.ledger.specs.Filed.{FilesGas};
 
 use crate::Answered;

@@ -11,7 +11,7 @@ use calls::Answer;
 pub use dispatch::apply_in;
 pub use gas::{amount_gas, file_gas, index_gas, join_gas, mark_gas, rates_gas, setting_gas};
 
-// What a call gives: the book afterwards, and the answer.
+// What a call gives: the book afterwards, and the answer. Both, since a refused call gives the book as well.
 #[derive(Clone, Copy)]
 pub struct Answered {
     pub book: Book,

@@ -18,6 +18,7 @@ pub use limits::{
     SETTINGS, WEIGHT_LIMIT, YEARS, cabins_in,
 };
 pub use masks::{has_bit, include_bit, remask};
+use std::fmt;
 
 // The kinds of operators, each with a book of its own.
 #[derive(Debug, Clone, Copy, PartialEq, Eq)]
@@ -26,7 +27,7 @@ pub enum Kind {
     Gas,
 }
 
-// A filing call with its arguments, as the fields of a filing give them.
+// A filing call with its arguments, as the fields of a filing give them: numbers and no enums, since a number out of range is refused by 5.
 #[derive(Debug, Clone, Copy, PartialEq, Eq)]
 pub enum Call {
     Join {
@@ -97,6 +98,18 @@ pub enum Reason {
     Exceptional,
 }
 
+impl fmt::Display for Reason {
+    fn fmt<W: fmt::Write>(&self, f: &mut fmt::Formatter<W>) -> fmt::Result {
+        f.write_str(match self {
+            Reason::Short => "short",
+            Reason::Planned => "planned",
+            Reason::Coupled => "coupled",
+            Reason::Exceptional => "exceptional",
+        })
+    }
+}
+
+// An own enum and no Result: 01 names it, with each answer beside the others.
 #[derive(Debug, Clone, Copy, PartialEq, Eq)]
 pub enum Answer {
     Yes,

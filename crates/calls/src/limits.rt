@@ -68,7 +68,7 @@ pub const LAST_END: i64 = 94607999;
 // The first second of the year before the three: an interruption may have begun then.
 pub const FIRST_START: i64 = -31536000;
 
-// The setting that has the cabins of a year.
+// The setting that has the cabins of a year. Both are numbers, as 01's calls carry them.
 pub fn cabins_in(year: u8) -> u8
     ensures { (result ≡ cabins_in year) × (result < setting_count) }
 {

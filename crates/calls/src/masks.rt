@@ -1,4 +1,4 @@
-// Sets of operators as masks of sixteen bits.
+// Sets of operators as masks of sixteen bits, which 01 prescribes.
 ghost use Rattle.std.specs.Prelude.{◌≡◌, ◌<◌};
 ghost use Rattle.calls.specs.Masks.{has, including, excluding, remasked};
 

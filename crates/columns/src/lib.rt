@@ -1,4 +1,4 @@
-// The columns of a line of the printed settlement, put into a slice at a place, and the sums of points that stand in them.
+// The columns of a line of the printed settlement, put into a slice at a place, and the sum of an operator's points that stands in one.
 // What puts something answers with the place after it.
 #![tactic(auto)]
 
@@ -9,7 +9,7 @@ ghost use Rattle.columns.specs.Columns.{columns_of, points_of_operator};
 ghost use Rattle.text.specs.Steps.{with_text_at};
 
 use calls::INDICATORS;
-use settlement::{POINT_PLACES, Settlement};
+use settlement::Settlement;
 use text::{put_byte, put_decimal, put_signed};
 
 // The numbers of a line.
@@ -58,11 +58,4 @@ pub fn points_of_operator(s: Settlement, operator: usize) -> u64
     (0..INDICATORS)
         .map(|number| s.points[16 * number + operator])
         .sum()
-}
-
-pub fn total_points(points: [u64; POINT_PLACES]) -> u64
-    requires { sum points < 2 ^ 60 }
-    ensures { result ≡ sum points }
-{
-    points.iter().sum()
 }

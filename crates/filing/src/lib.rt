@@ -5,7 +5,7 @@ use book::Book;
 use calls::Answer;
 
 // How far a reading has come: how many fields were applied, the offset of the next tag, and yes or the refusal. Of a reading that has
-// ended the offset is that of the refused tag (the filing's length if none).
+// ended the offset is that of the refused tag (the filing's length if none). 01 wants all three of a refused reading too.
 #[derive(Clone, Copy)]
 pub struct Progress {
     pub applied: usize,

@@ -22,9 +22,9 @@ pub const POINT_PLACES: usize = OPERATORS * INDICATORS;
 pub struct Gathered {
     // In hundredths, by the indicators' numbers; 0 where the kind has none.
     pub pools: [u64; INDICATORS],
-    // In hundredths, at indicator * 16 + operator.
+    // In hundredths, at indicator * 16 + operator: one flat list, since a settlement holds its points so.
     pub points: [u64; POINT_PLACES],
-    // In hundredths, by operator.
+    // In hundredths, by operator: a list of their own, as the settlement's are.
     pub totals: [u64; 16],
 }
 

@@ -15,7 +15,7 @@ pub fn read_fresh(bytes: &[u8]) -> Reading
     held::read(book::fresh(), bytes)
 }
 
-// The same of a filing of gas.
+// The same of a filing of gas, for which 02 wants calls of its own.
 pub fn read_fresh_gas(bytes: &[u8]) -> Reading
     ensures { told result ≡ read_gas fresh_book bytes.now }
 {

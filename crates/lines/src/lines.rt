@@ -6,7 +6,7 @@ ghost use Rattle.text.specs.Steps.{with_text_at};
 
 use apportion::sum_of;
 use book::{Book, is_joined};
-use columns::{Row, points_of_operator, put_columns, total_points};
+use columns::{Row, points_of_operator, put_columns};
 use settlement::Settlement;
 use text::{put_decimal, put_word};
 
@@ -61,7 +61,7 @@ fn put_last(out: &mut [u8], at: usize, s: Settlement) -> usize
     ensures { (out.new ≡ with_text_at out.old at (last_line s)) × (result ≡ at + length (last_line s)) }
 {
     let row = Row {
-        points: total_points(s.points),
+        points: sum_of(s.points),
         paid: sum_of(s.contributions),
         received: sum_of(s.returns),
         adjustment: 0,

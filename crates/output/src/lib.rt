@@ -23,7 +23,7 @@ pub fn output(filing: &[u8], out: &mut [u8; 2048]) -> usize
     output_as(Kind::Electricity, filing, out)
 }
 
-// Of a filing of gas.
+// Of a filing of gas, for which 02 wants calls of its own.
 pub fn output_gas(filing: &[u8], out: &mut [u8; 2048]) -> usize
     ensures value { result ≡ length (gas_output_of filing.now) }
     ensures out_after { out.new ≡ put_into out.old (gas_output_of filing.now) }

@@ -1,5 +1,5 @@
 // Prints lists of numbers, and answers.
-use calls::{Answer, Reason};
+use calls::Answer;
 use std::fmt::Display;
 use std::io;
 
@@ -21,16 +21,7 @@ pub fn answered(rt: &impl Print, answer: Answer) -> io::Result<()> {
     match answer {
         Answer::Yes => print!(rt; " = yes"),
         Answer::Counted { year } => print!(rt; " = counted {year}"),
-        Answer::LeftOut(reason) => print!(rt; " = left out {}", name_of(reason)),
+        Answer::LeftOut(reason) => print!(rt; " = left out {reason}"),
         Answer::Refused(refusal) => print!(rt; " = refused {}", calls::number_of(refusal)),
-    }
-}
-
-fn name_of(reason: Reason) -> &'static str {
-    match reason {
-        Reason::Short => "short",
-        Reason::Planned => "planned",
-        Reason::Coupled => "coupled",
-        Reason::Exceptional => "exceptional",
     }
 }

@@ -26,7 +26,7 @@ pub fn read_from(b: Book, bytes: &[u8], at: usize) -> Reading
     read_from_as(Kind::Electricity, b, bytes, at)
 }
 
-// Into a book of gas.
+// Into a book of gas, for which 02 wants calls of its own.
 pub fn read_from_gas(b: Book, bytes: &[u8], at: usize) -> Reading
     ensures { told result ≡ read_from_gas b bytes.now at }
 {

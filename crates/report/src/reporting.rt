@@ -20,7 +20,7 @@ pub fn report(b: Book, buffer: &mut [u8]) -> Result<usize, Refusal>
     report_as(Kind::Electricity, b, buffer)
 }
 
-// Of a book of gas.
+// Of a book of gas, for which 02 wants calls of its own.
 pub fn report_gas(b: Book, buffer: &mut [u8]) -> Result<usize, Refusal>
     ensures result_value { filled_said result ≡ gas_report_answer b buffer.old }
     ensures buffer_after { buffer.new ≡ gas_report_buffer b buffer.old }
@@ -46,6 +46,7 @@ fn print(b: Book, s: Settlement, buffer: &mut [u8]) -> Result<usize, Refusal>
     ensures result_value { filled_said result ≡ fitting buffer.old (printed b s) }
     ensures buffer_after { buffer.new ≡ buffer_after buffer.old (printed b s) (fitting buffer.old (printed b s)) }
 {
+    // An array, since there is no heap.
     let mut text = [0u8; 2048];
     let count = put_lines(&mut text, b, s);
     if buffer.len() < count {

@@ -16,6 +16,7 @@ use output::{LONGEST_FILING, put_refused_field};
 use text::put_word;
 use writer::{WRITTEN_MOST, WRITTEN_MOST_GAS, write_as};
 
+// An own enum: both texts are what the program is to print, so neither is an error as a `Result` would say.
 #[derive(Clone, Copy)]
 pub enum Stream {
     Output,
@@ -38,7 +39,7 @@ pub fn rewritten(filing: &[u8], out: &mut [u8; WRITTEN_MOST]) -> Printed
     rewritten_as(Kind::Electricity, filing, out)
 }
 
-// Of a filing of gas.
+// Of a filing of gas, for which 02 wants calls of its own.
 pub fn rewritten_gas(filing: &[u8], out: &mut [u8; WRITTEN_MOST_GAS]) -> Printed
     ensures count_value { (result.stream, result.count) ≡ told_of (gas_printout_of filing.now) }
     ensures out_after { out.new ≡ put_into out.old (gas_printout_of filing.now).text }

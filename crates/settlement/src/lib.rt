@@ -14,7 +14,7 @@ pub struct Settlement {
     pub pools: [u64; INDICATORS],
     // In hundredths, at indicator * 16 + operator.
     pub points: [u64; POINT_PLACES],
-    // Money in cents, by operator.
+    // Money in cents, by operator: a list each, as 01 has them.
     pub pot: u64,
     pub contributions: [u64; 16],
     pub returns: [u64; 16],

@@ -3,7 +3,7 @@
 #![tactic(auto)]
 
 use book::Book;
-use calls::{Answer, Kind, Reason};
+use calls::{Answer, Kind};
 use fields::Field;
 use load::load_filing;
 use std::fs::File;
@@ -63,16 +63,7 @@ fn put_answer<R: Print>(rt: &R, offset: usize, answer: Answer) {
     let _ = match answer {
         Answer::Yes => println!(rt; "{offset} yes"),
         Answer::Counted { year } => println!(rt; "{offset} counted {year}"),
-        Answer::LeftOut(reason) => println!(rt; "{offset} {}", name_of(reason)),
+        Answer::LeftOut(reason) => println!(rt; "{offset} {reason}"),
         Answer::Refused(refusal) => println!(rt; "{offset} refused {}", calls::number_of(refusal)),
     };
-}
-
-fn name_of(reason: Reason) -> &'static str {
-    match reason {
-        Reason::Short => "short",
-        Reason::Planned => "planned",
-        Reason::Coupled => "coupled",
-        Reason::Exceptional => "exceptional",
-    }
 }

@@ -24,10 +24,7 @@ pub fn is_better(mask: u16, score: u64, sum: u64, operator: u8) -> bool
     requires { score ≤ score_most }
     ensures { result ≡ has mask operator && ltb (ones mask * score) sum }
 {
-    if !has_bit(mask, operator) {
-        return false;
-    }
-    ones_of(mask) * score < sum
+    has_bit(mask, operator) && ones_of(mask) * score < sum
 }
 
 // The weight of one that takes part: each better operator takes the sum of their weights, each other g times its own. 0 for the others.

@@ -28,7 +28,7 @@ pub fn write(b: Book, buffer: &mut [u8]) -> Result<usize, Refusal>
     write_as(Kind::Electricity, b, buffer)
 }
 
-// Of a book of gas.
+// Of a book of gas, for which 02 wants calls of its own.
 pub fn write_gas(b: Book, buffer: &mut [u8]) -> Result<usize, Refusal>
     ensures result_value { filled_said result ≡ gas_writer_answer b buffer.old }
     ensures buffer_after { buffer.new ≡ gas_writer_buffer b buffer.old }

@@ -5,13 +5,11 @@ use native.Mathlib.Omega.{arith}
 use native.Mathlib.Nat.{mul-le-mul}
 use Rattle.weighing.proofs.is_better.Goals as goal
 
-pub returns-then-not-has_bit : goal.returns-then-not-has_bit
-returns-then-not-has_bit c = rw (sym c.has_bit.ensures ∙ c.if-not-has_bit.true) refl
+pub returns-else-has_bit : goal.returns-else-has_bit
+returns-else-has_bit c = rw (sym c.has_bit.ensures ∙ c.if-has_bit.false) c.if-has_bit.false
 
 pub overflow_mul-result : goal.overflow_mul-result
-overflow_mul-result c =
-    let product = mul-le-mul c.ones_of.ensures.1 c.requires in
-    record { fits = omega (arith, product) }
+overflow_mul-result c = record { fits = omega (arith, mul-le-mul c.ones_of.ensures.1 c.requires) }
 
-pub returns : goal.returns
-returns c = rw (sym c.has_bit.ensures ∙ c.if-not-has_bit.false, c.ones_of.ensures.0) refl
+pub returns-then-has_bit : goal.returns-then-has_bit
+returns-then-has_bit c = rw (sym c.has_bit.ensures ∙ c.if-has_bit.true, c.ones_of.ensures.0) refl

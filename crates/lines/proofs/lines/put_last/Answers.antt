@@ -10,7 +10,7 @@ use Rattle.lines.proofs.lines.put_last.Goals as goal
 pub returns : goal.returns
 returns c =
     rw (last-parts c.args.s c.requires.0.adjustments_cancel)
-    (put_then c.args.out.now c.args.at (97 ∷ 108 ∷ 108 ∷ []) (columns_of (last_row c.args.s)) (rw (last-parts c.args.s c.requires.0.adjustments_cancel) at c.requires.1) c.put_word-next.ensures (rw (c.total_points.ensures, c.sum_of.ensures, c.sum_of-2.ensures) at c.put_columns.ensures))
+    (put_then c.args.out.now c.args.at (97 ∷ 108 ∷ 108 ∷ []) (columns_of (last_row c.args.s)) (rw (last-parts c.args.s c.requires.0.adjustments_cancel) at c.requires.1) c.put_word-next.ensures (rw (c.sum_of.ensures, c.sum_of-2.ensures, c.sum_of-3.ensures) at c.put_columns.ensures))
 
 pub put_word-next-requires : goal.put_word-next-requires
 put_word-next-requires c =
@@ -18,4 +18,4 @@ put_word-next-requires c =
 
 pub put_columns-requires : goal.put_columns-requires
 put_columns-requires c =
-    rw (c.total_points.ensures, c.sum_of.ensures, c.sum_of-2.ensures) (room_after c.args.out.now c.args.at (97 ∷ 108 ∷ 108 ∷ []) (columns_of (last_row c.args.s)) (rw (last-parts c.args.s c.requires.0.adjustments_cancel) at c.requires.1) c.put_word-next.ensures)
+    rw (c.sum_of.ensures, c.sum_of-2.ensures, c.sum_of-3.ensures) (room_after c.args.out.now c.args.at (97 ∷ 108 ∷ 108 ∷ []) (columns_of (last_row c.args.s)) (rw (last-parts c.args.s c.requires.0.adjustments_cancel) at c.requires.1) c.put_word-next.ensures)
