@@ -89,7 +89,7 @@ fn weight_of(better: [bool; 16], own: [u64; 16]) -> u64
     requires { (place : ℕ) → get_or own place 0 ≤ first_weight }
     ensures { result ≡ sum_of_all (each (λ (operator : ℕ). cond (get_or better operator false) (get_or own operator 0) 0)) }
 {
-    apportion::sum_of(array::from_fn(|operator| {
+    apportion::sum_of::<16>(array::from_fn(|operator| {
         if better[operator] { own[operator] } else { 0 }
     }))
 }

@@ -1,6 +1,5 @@
-// What the test program `replay` prints: words, numbers, lists of numbers, answers and the arguments of calls.
+// What the test program `replay` prints: lists of numbers, answers and the arguments of calls.
 #![tactic(auto)]
 
 pub mod arguments;
 pub mod print;
-pub mod words;

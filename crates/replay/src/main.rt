@@ -8,6 +8,7 @@ mod commands;
 mod routes;
 mod show;
 mod stores;
+mod words;
 
 ghost use Rattle.std.specs.Prelude.{◌≤◌, length};
 
@@ -16,8 +17,8 @@ use bookkeeping::Answered;
 use calls::{Call, Kind};
 use commands::{Command, Commands, HEADER};
 use fields::{Field, field_at};
+use printing::arguments;
 use printing::print::answered;
-use printing::{arguments, words};
 use std::io;
 use std::io::Read;
 

@@ -1,9 +1,9 @@
 // Puts a raw value into a book, so that one out of range can be made.
 use crate::show;
+use crate::words::{self, word_of};
 use book::{Book, figure_slot, setting_slot};
 use calls::{Call, FIGURES, INDICATORS, INDICES, OPERATORS, SETTINGS, YEARS};
 use fields::Field;
-use printing::words::{self, word_of};
 use std::io;
 
 // The kinds of values, numbers of the input: one that there is not has some other word, and its value becomes a setting.

@@ -36,9 +36,9 @@ const WORDS: [&str; COUNT] = [
     "setting",
 ];
 
-pub const JOINED: u8 = 24;
+pub(crate) const JOINED: u8 = 24;
 
 // A number past the table has some word of it.
-pub fn word_of(number: u8) -> &'static str {
+pub(crate) fn word_of(number: u8) -> &'static str {
     WORDS[number as usize % COUNT]
 }
