@@ -6,24 +6,26 @@ use crate::Answered;
 use crate::dispatch::apply_in;
 use book::Book;
 use calls::{Answer, Call, Kind, Refusal};
-use range::Ranged;
+use range::{Ranged, in_range};
 
-// A call that is at hand as a value, on a book of a kind.
+// A call that is at hand as a value, on a book of a kind. Never in line: each call that passes a book on by value would then clear and copy it
+// once more.
+#[inline(never)]
 pub fn file_as(kind: Kind, b: Book, filing_call: Call) -> Answered
     ensures { FilesAs (indicators_of kind) b filing_call result.answer result.book }
 {
-    match Ranged::new(kind, b) {
-        None => Answered {
+    if !in_range(kind, b) {
+        return Answered {
             book: b,
             answer: Answer::Refused(Refusal::OutOfRange),
-        },
-        Some(mut ranged) => {
-            let answer = apply_in(&mut ranged, filing_call);
-            Answered {
-                book: ranged.book,
-                answer,
-            }
-        }
+        };
+    }
+    // Not by `Ranged::new`, whose Option is one more book to copy.
+    let mut ranged = Ranged { kind, book: b };
+    let answer = apply_in(&mut ranged, filing_call);
+    Answered {
+        book: ranged.book,
+        answer,
     }
 }
 

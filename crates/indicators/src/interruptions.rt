@@ -7,7 +7,9 @@ ghost use Rattle.exact.specs.Division.{over};
 ghost use Rattle.exponent.specs.Weight.{first_weight};
 ghost use Rattle.values.specs.Bounds.{score_most};
 ghost use Rattle.values.specs.Operators.{table, each, count};
+ghost use Rattle.book.specs.declared.Book.{Book};
 ghost use Rattle.values.specs.Indicator.{reliable_mask, numbered};
+ghost use Rattle.values.specs.Parts.{HasMeasures};
 ghost use Rattle.indicators.specs.Steps.{ScoresWithin, Thousandths, LevelAsked};
 ghost use Rattle.indicators.specs.Points.{is_better};
 ghost use Rattle.indicators.specs.Sequence.{thousandths as thousandths_of_sums, exponent_weights, levelled_weights, in_sequence};
@@ -21,7 +23,7 @@ use weighing::{is_better, levelled_weight, normalise};
 // The five steps in turn, for A1 to A4 alike. The last takes mask and sums again: who is better cannot be told from the weights.
 pub(crate) fn interruption_weights(mask: u16, m: Measured, number: u8) -> [u64; 16]
     requires { number < indicator_count }
-    ensures { mask ≡ reliable_mask m.entry.book.now (numbered number) → result ≡ in_sequence m.entry.book.now (numbered number) }
+    ensures { (b : Book) → HasMeasures b m.entry.book.now.settings m.entry.book.now.figures m.entry.book.now.indices → mask ≡ reliable_mask b (numbered number) → result ≡ in_sequence b (numbered number) }
 {
     let values = yearly_values(m, number);
     let sums = sums_of_years(mask, values);

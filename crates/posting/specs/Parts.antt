@@ -1,12 +1,12 @@
 -- A filing call on a book in range that is lent.
 -- Assumes nothing.
-use Rattle.std.specs.Prelude.{ℕ, ◌≡◌, List, Result, Ok, Err}
+use Rattle.std.specs.Prelude.{ℕ, ◌≡◌, false, List, Result, Ok, Err, IfOk}
 use Rattle.calls.specs.declared.Call.{Call}
 use Rattle.calls.specs.declared.Answer.{Answer}
 use Rattle.calls.specs.declared.Answer.TheVariants.{Yes, Refused}
 use Rattle.calls.specs.declared.Refusal.{Refusal}
 use Rattle.calls.specs.Indicators.{Indicator}
-use Rattle.calls.specs.Answers.{said}
+use Rattle.calls.specs.Answers.{said, is_refused}
 use Rattle.book.specs.declared.Book.{Book}
 use Rattle.calls.specs.Call.{interruption_entries, outcome}
 use Rattle.ledger.specs.Calls.{Outcome, apply}
@@ -28,6 +28,10 @@ yes_or = answer_as (λ done. Yes)
 -- of a call that has an answer of its own there
 abbrev pub answer_or : Result Answer Refusal → Answer
 answer_or = answer_as (λ answer. answer)
+
+-- a refusal is no answer of its own: it comes as one alone, so that what is said fixes the result
+abbrev pub NoneRefused : Result Answer Refusal → Type 0
+NoneRefused result = IfOk result (λ (answer : Answer). is_refused (said answer) ≡ false)
 
 -- an interruption that nothing refuses before 8 and 9: what its outcome enters, and the outcome as its answer
 abbrev pub EntersJudged : Book → ℕ → ℕ → ℕ → ℕ → ℕ → ℕ → ℕ → Answer → Book → Type 0

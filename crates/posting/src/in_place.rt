@@ -2,7 +2,7 @@
 // 5, an interruption 14 and 15, 6 or 7, then 8 and 9.
 ghost use Rattle.std.specs.Prelude.{List};
 ghost use Rattle.calls.specs.Indicators.{Indicator, indicators_of};
-ghost use Rattle.posting.specs.Parts.{Leaves, yes_or, answer_or, EntersJudged};
+ghost use Rattle.posting.specs.Parts.{Leaves, yes_or, answer_or, NoneRefused, EntersJudged};
 
 use admission::{admit, admit_interruption, mark_unattested};
 use arguments::{
@@ -52,7 +52,8 @@ pub fn interruption(
     end: i64,
     weight: u32,
 ) -> Result<Answer, Refusal>
-    ensures { Leaves (indicators_of kind) b.old (Call.Interruption operator sign level cause start end weight) (answer_or result) b.new }
+    ensures leaves { Leaves (indicators_of kind) b.old (Call.Interruption operator sign level cause start end weight) (answer_or result) b.new }
+    ensures none_refused { NoneRefused result }
 {
     if !takes_interruptions(kind) {
         return Err(Refusal::UnknownTag);
@@ -74,7 +75,8 @@ pub fn interruption(
 
 // What counts is entered whole, and of what is left out its count.
 fn enter_judged(b: &mut Book, cause: u8, admitted: Admitted) -> Result<Answer, Refusal>
-    ensures { EntersJudged b.old cause admitted.operator admitted.sign admitted.level admitted.weight admitted.seconds admitted.year (answer_or result) b.new }
+    ensures enters { EntersJudged b.old cause admitted.operator admitted.sign admitted.level admitted.weight admitted.seconds admitted.year (answer_or result) b.new }
+    ensures none_refused { NoneRefused result }
 {
     let year = admitted.year;
     match judge(cause, admitted.seconds) {

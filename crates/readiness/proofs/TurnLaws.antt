@@ -16,6 +16,7 @@ use Rattle.book.specs.declared.Book.{Book}
 use Rattle.book.specs.Book.{within_limits}
 use Rattle.values.specs.Indicator.{numbered, reliable_mask}
 use Rattle.values.specs.Operators.{any}
+use Rattle.values.specs.Parts.{HasMarks}
 use Rattle.values.proofs.Numbered.{numbered-at}
 use Rattle.readiness.specs.Readiness.{all_marked}
 use Rattle.readiness.proofs.MarkLaws.{marked-none, marked_more}
@@ -41,21 +42,28 @@ module _ (test : ℕ → Bool) where
   unfolding any
   any-in-turn n = any-from 0 n n (omega arith)
 
-module _ (b : Book) (ranged : within_limits b ≡ true) where
-  -- nobody takes part at an indicator
-  abbrev pub nobody : ℕ → Bool
-  nobody number = eqb (reliable_mask b (numbered number)) 0
+-- nobody takes part at an indicator, which a book's operators and marks tell
+abbrev pub nobody : Book → ℕ → Bool
+nobody b number = eqb (reliable_mask b (numbered number)) 0
 
+mask-same : (b other : Book) → HasMarks other b.joined b.marks → (number : ℕ) → reliable_mask b (numbered number) ≡ reliable_mask other (numbered number)
+unfolding reliable_mask
+mask-same b other marked number = rw (marked.joined_are, marked.marks_are) refl
+
+pub nobody-same : (b other : Book) → HasMarks other b.joined b.marks → nobody b ≡ nobody other
+nobody-same b other marked = λ i number. eqb (mask-same b other marked number i) 0
+
+module _ (b : Book) (ranged : within_limits b ≡ true) where
   -- the next indicator, and those after it
   next : (n : ℕ) → n < indicator_count → drop n electricity ≡ numbered n ∷ drop (n + 1) electricity
   unfolding electricity
   next n lt = rw (add-one, ← numbered-at n (numbered 0) lt) (drop-cons electricity n (numbered 0) lt)
 
-  pub marked-in-turn : (number left : ℕ) → number + left ≡ indicator_count → list_all nobody (range_with_len number left) ≡ all_marked b (drop number electricity)
+  pub marked-in-turn : (number left : ℕ) → number + left ≡ indicator_count → list_all (nobody b) (range_with_len number left) ≡ all_marked b (drop number electricity)
   unfolding electricity
   marked-in-turn number zero all =
       let last : number ≡ indicator_count = omega arith in
       rw last (sym (marked-none b))
   marked-in-turn number (suc left) all =
-      ap (λ (t : Bool). nobody number && t) (marked-in-turn (number + 1) left (omega arith))
+      ap (λ (t : Bool). nobody b number && t) (marked-in-turn (number + 1) left (omega arith))
       ∙ sym (ap (all_marked b) (next number (omega arith)) ∙ marked_more b ranged (numbered number) (drop (number + 1) electricity))

@@ -5,6 +5,8 @@ ghost use Rattle.std.specs.Prelude.{◌≡◌, true, ◌&&◌, ◌<◌, eqb};
 ghost use Rattle.calls.specs.Limits.{operators, setting_count};
 ghost use Rattle.book.specs.Book.{within_limits, is_joined, setting_of};
 ghost use Rattle.calls.specs.Indicators.{indicators_of, is_network};
+ghost use Rattle.book.specs.declared.Book.{Book as Declared-as-Book};
+ghost use Rattle.values.specs.Parts.{HasMarks};
 ghost use Rattle.readiness.specs.Readiness.{setting_missing, network_missing, all_marked};
 
 use book::{Book, setting_slot};
@@ -41,9 +43,9 @@ fn lacks(b: &Book, operator: u8, which: u8) -> bool
     has_bit(b.joined, operator) && b.settings[setting_slot(operator, which)] == 0
 }
 
-// Whether nobody takes part at any indicator of the kind.
+// Whether nobody takes part at any indicator of the kind. Operators and marks alone decide, whatever else a book within its limits holds.
 pub fn all_marked(kind: Kind, b: &Book) -> bool
-    ensures { within_limits b.now ≡ true → result ≡ all_marked b.now (indicators_of kind) }
+    ensures { (other : Declared-as-Book) → within_limits other ≡ true → HasMarks other b.now.joined b.now.marks → result ≡ all_marked other (indicators_of kind) }
 {
     (first_indicator(kind)..INDICATOR_COUNT).all(|number| reliable_mask(b, number) == 0)
 }

@@ -5,17 +5,7 @@ use mathlib.Core.Path.{◌≡◌, refl}
 use mathlib.Core.List.{List}
 use Rattle.book.specs.declared.Book.{Book}
 use Rattle.book.specs.Book.{with_joined, with_marks, with_settings, with_figures, with_indices, fresh_book}
-
--- a book has these operators and marks
-pub record HasMarks (b : Book) (joined : ℕ) (marks : List ℕ) : Type 0 where
-  pub joined_are : b.joined ≡ joined
-  pub marks_are : b.marks ≡ marks
-
--- a book has these settings, figures and indices, by which operators are measured
-pub record HasMeasures (b : Book) (settings figures indices : List ℕ) : Type 0 where
-  pub settings_are : b.settings ≡ settings
-  pub figures_are : b.figures ≡ figures
-  pub indices_are : b.indices ≡ indices
+use Rattle.values.specs.Parts.{HasMarks, HasMeasures}
 
 -- a book that lent parts belong to, and one that holds settings, figures and indices alone
 module _ (joined : ℕ) (marks settings figures indices : List ℕ) where

@@ -4,6 +4,7 @@ pub mod CountLaws
 pub mod InRange
 pub mod Numbered
 pub mod Scores
+pub mod SameMeasures
 pub mod FeeLaws
 pub mod AnyLaws
 pub mod Opened

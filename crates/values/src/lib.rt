@@ -12,6 +12,8 @@ ghost use Rattle.values.specs.Bounds.{yearly_most};
 ghost use Rattle.values.specs.Indicator.{yearly_values, reliable_mask, scores, numbered};
 ghost use Rattle.values.specs.Sequence.{values_by_year, sums_of_years};
 ghost use Rattle.values.specs.Steps.{YearsWithin};
+ghost use Rattle.values.specs.Parts.{HasMeasures};
+ghost use Rattle.book.specs.declared.Book.{Book as Declared-as-Book};
 
 use book::Book;
 use calls::has_bit;
@@ -19,10 +21,11 @@ pub use measured::Measured;
 pub use measures::settings_of;
 use measures::yearly_value;
 
-// The scores of the operators that take part in an indicator; 0 for the others.
+// The scores of the operators that take part in an indicator; 0 for the others. Whoever takes part, they are those of every book with these
+// measures.
 pub fn scores_of(mask: u16, m: Measured, number: u8) -> [u64; 16]
     requires { number < indicator_count }
-    ensures { mask ≡ reliable_mask m.entry.book.now (numbered number) → result ≡ scores m.entry.book.now (numbered number) }
+    ensures { (b : Declared-as-Book) → HasMeasures b m.entry.book.now.settings m.entry.book.now.figures m.entry.book.now.indices → mask ≡ reliable_mask b (numbered number) → result ≡ scores b (numbered number) }
 {
     sums_of_years(mask, yearly_values(m, number))
 }

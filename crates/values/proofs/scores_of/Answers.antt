@@ -3,6 +3,7 @@
 use mathlib.Core.Path.{◌∙◌}
 use Rattle.values.specs.Indicator.{numbered}
 use Rattle.values.proofs.Scores.{years-within, scores-in-turn}
+use Rattle.values.proofs.SameMeasures.{values-same}
 use Rattle.values.proofs.scores_of.Goals as goal
 
 pub sums_of_years-requires : goal.sums_of_years-requires
@@ -10,5 +11,7 @@ sums_of_years-requires c = rw c.yearly_values.ensures (years-within c.args.m.boo
 
 pub returns : goal.returns
 returns c =
-    λ taking.
-    c.sums_of_years.ensures ∙ rw (taking, c.yearly_values.ensures) (scores-in-turn c.args.m.book.now (numbered c.args.number))
+    λ b measured taking.
+    let indicator = numbered c.args.number in
+    let values = c.yearly_values.ensures ∙ values-same c.args.m.book.now b measured indicator.measure in
+    c.sums_of_years.ensures ∙ rw (taking, values) (scores-in-turn b indicator)

@@ -1,6 +1,6 @@
 -- `bookkeeping::by_value::file_as` meets its contract.
 -- Assumes nothing.
-use mathlib.Core.Path.{◌≡◌, refl}
+use mathlib.Core.Path.{◌≡◌, refl, sym, ◌∙◌}
 use mathlib.Core.Bool.{true, false}
 use Rattle.calls.specs.Indicators.{indicators_of}
 use Rattle.calls.specs.Answers.{on_answer}
@@ -9,15 +9,17 @@ use Rattle.ledger.specs.Calls.{outcome_of, file_as}
 use Rattle.bookkeeping.proofs.by_value.file_as.Goals as goal
 
 -- 5, of the book
-pub returns-in-None : goal.returns-in-None
+pub returns-then-not-in_range : goal.returns-then-not-in_range
 unfolding file_as outcome_of on_answer
-returns-in-None c =
-    let none : in_range (indicators_of c.args.kind) c.args.b ≡ false = c.in-None.ensures in
-    rw none (refl, refl)
+returns-then-not-in_range c =
+    let outside : in_range (indicators_of c.args.kind) c.args.b ≡ false = sym c.in_range.ensures ∙ c.if-not-in_range.true in
+    rw outside (refl, refl)
 
-pub returns-in-Some : goal.returns-in-Some
+pub invariant_of-ranged : goal.invariant_of-ranged
+invariant_of-ranged c = record { ranged = sym c.in_range.ensures ∙ c.if-not-in_range.false }
+
+pub returns : goal.returns
 unfolding file_as
-returns-in-Some c =
-    let taken = c.in-Some.ensures in
-    let here : in_range (indicators_of c.args.kind) c.args.b ≡ true = rw (taken.0, taken.1) at c.in-Some.ranged.ranged in
-    rw here (rw (taken.0, taken.1) at c.apply_in-answer.ensures.leaves)
+returns c =
+    let here : in_range (indicators_of c.args.kind) c.args.b ≡ true = sym c.in_range.ensures ∙ c.if-not-in_range.false in
+    rw here c.apply_in-answer.ensures.leaves

@@ -1,9 +1,11 @@
 -- `indicators::interruptions::interruption_weights` meets its contract: each step's result is the defined one of the results before it.
 -- Assumes nothing.
 use mathlib.Core.Path.{◌∙◌, ap}
+use Rattle.values.specs.Indicator.{numbered}
 use Rattle.values.specs.Sequence.{sums_of_years}
 use Rattle.values.specs.Steps.{YearsWithin}
 use Rattle.values.proofs.Scores.{sums_within, years-within}
+use Rattle.values.proofs.SameMeasures.{values-same}
 use Rattle.indicators.specs.Steps.{ScoresWithin}
 use Rattle.indicators.specs.Sequence.{thousandths, exponent_weights, levelled_weights, in_sequence}
 use Rattle.indicators.proofs.SequenceLaws.{thousandths-most, own_most}
@@ -20,8 +22,8 @@ sums-known m = rw m.sums_of_years-sums.ensures (sums_within _ _ (years-known m.b
 pub returns : goal.returns
 unfolding in_sequence
 returns c =
-    λ taking.
-    let values = c.yearly_values-values.ensures in
+    λ b measured taking.
+    let values = c.yearly_values-values.ensures ∙ values-same c.args.m.book.now b measured (numbered c.args.number).measure in
     let sums = c.sums_of_years-sums.ensures ∙ (λ i. sums_of_years (taking i) (values i)) in
     let ks = c.thousandths_of-thousandths.ensures ∙ ap thousandths sums in
     let own = c.exponent_weights-weights.ensures ∙ ap exponent_weights ks in

@@ -74,9 +74,9 @@ module _ (m : After-year_of-year) where
   seconds_within = rw seconds-is (seconds_most (lasts m.args.start m.args.end (passed known).ordered (passed known).timely))
 
 -- 2
-pub returns-then-not-takes_interruptions : goal.returns-then-not-takes_interruptions
+pub returns-then-not-takes_interruptions-clause-leaves : goal.returns-then-not-takes_interruptions-clause-leaves
 unfolding facts_of
-returns-then-not-takes_interruptions c =
+returns-then-not-takes_interruptions-clause-leaves c =
     rw
     (unknown-call (indicators_of c.args.kind) c.args.b.now
     (Interruption c.args.operator c.args.sign c.args.level c.args.cause c.args.start c.args.end c.args.weight)
@@ -84,8 +84,8 @@ returns-then-not-takes_interruptions c =
     (refl, refl)
 
 -- 4, 5, 14, 15 or 7
-pub returns-in_err-admit_interruption : goal.returns-in_err-admit_interruption
-returns-in_err-admit_interruption c =
+pub returns-in_err-admit_interruption-clause-leaves : goal.returns-in_err-admit_interruption-clause-leaves
+returns-in_err-admit_interruption-clause-leaves c =
     rw (
       refused-as _ _ _ c.from_residual.ensures.1,
       decided (indicators_of c.args.kind) c.args.b.now
@@ -117,8 +117,8 @@ invariant_of-admitted c =
     }
 
 -- judged
-pub returns : goal.returns
+pub returns-clause-leaves : goal.returns-clause-leaves
 unfolding facts_of
-returns c =
-    let m : After-year_of-year = (goal.at.returns c).After-year_of-year in
-    rw (entered (known m)) (rw (year-is m, seconds-is m) at c.enter_judged.ensures)
+returns-clause-leaves c =
+    let m : After-year_of-year = (goal.at.returns-clause-leaves c).After-year_of-year in
+    rw (entered (known m)) (rw (year-is m, seconds-is m) at c.enter_judged.ensures.enters)

@@ -7,6 +7,7 @@ use Rattle.calls.specs.Answers.{on_answer, first_of}
 use Rattle.book.specs.Book.{in_range}
 use Rattle.calls.specs.Indicators.{indicators_of}
 use Rattle.book.proofs.TakenLaws.{ranged-within}
+use Rattle.values.proofs.SameMeasures.{own-marks}
 use Rattle.readiness.specs.Readiness.{network_missing, all_marked}
 use Rattle.settlement.specs.Settlement.{settling_lines, settled_by}
 use Rattle.settlement.proofs.settling.settle_as.Goals as goal
@@ -20,7 +21,7 @@ missing : (c : After-network_missing) → c.network_missing.result ≡ network_m
 missing c = c.network_missing.ensures
 
 marked : (c : After-all_marked) → c.all_marked.result ≡ all_marked c.args.b (indicators_of c.args.kind)
-marked c = c.all_marked.ensures (ranged-within _ _ (sym c.in_range.ensures ∙ c.if-not-in_range.false))
+marked c = c.all_marked.ensures c.args.b (ranged-within _ _ (sym c.in_range.ensures ∙ c.if-not-in_range.false)) (own-marks c.args.b)
 
 -- 5
 pub returns-then-not-in_range : goal.returns-then-not-in_range
