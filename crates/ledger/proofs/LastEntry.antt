@@ -50,11 +50,11 @@ module _ (b : Book) (list : List Entry) (entry : Entry) (value : Acceptance) whe
   abbrev both : List Entry
   both = list ++ (entry ∷ [])
 
-  last-above : passes entry.sign entry.value (figure_at b entry) ≡ true → entering b both value ≡ refused_call b 8
+  pub last-above : passes entry.sign entry.value (figure_at b entry) ≡ true → entering b both value ≡ refused_call b 8
   unfolding entering first_of outcome_of on_answer passes_limit
   last-above e = rw (some-last (passes_limit (figure_of b)) list entry, e, or_true_right (some (passes_limit (figure_of b)) list)) refl
 
-  last-below : Signed list entry.sign → falls entry.sign entry.value (figure_at b entry) ≡ true → entering b both value ≡ refused_call b 9
+  pub last-below : Signed list entry.sign → falls entry.sign entry.value (figure_at b entry) ≡ true → entering b both value ≡ refused_call b 9
   unfolding entering first_of outcome_of on_answer passes_limit falls_below
   last-below signs e =
       rw (

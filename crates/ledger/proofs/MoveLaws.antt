@@ -158,11 +158,11 @@ module _ (b : Book) where
         (entered_all b (entry ∷ []) value (some-rest _ _ _ moves.below_limit (some-none _)) (some-rest _ _ _ moves.above_zero (some-none _)))
 
     module _ (rest : List Entry) where
-      first_above : passes entry.sign entry.value (figure_at entry) ≡ true → entering b (entry ∷ rest) value ≡ refused_call b 8
+      pub first_above : passes entry.sign entry.value (figure_at entry) ≡ true → entering b (entry ∷ rest) value ≡ refused_call b 8
       unfolding passes_limit
       first_above e = refused-above b (entry ∷ rest) value (some-here _ _ _ e)
 
-      first_below : Signed rest entry.sign → falls entry.sign entry.value (figure_at entry) ≡ true → entering b (entry ∷ rest) value ≡ refused_call b 9
+      pub first_below : Signed rest entry.sign → falls entry.sign entry.value (figure_at entry) ≡ true → entering b (entry ∷ rest) value ≡ refused_call b 9
       unfolding passes_limit falls_below
       first_below signs e =
           refused-below b (entry ∷ rest) value

@@ -34,7 +34,7 @@ module _ (more less limit : List ℕ) (bounded : (k : ℕ) → k < 16 → get_or
   pub cut-le : (k : ℕ) → k < 16 → get_or (capped more less limit) k 0 ≤ limit_most
   cut-le k lt = le_trans (capped-most more less limit k lt) (bounded k lt)
 
-  cut-sum-le : sum (capped more less limit) ≤ operators * limit_most
+  pub cut-sum-le : sum (capped more less limit) ≤ operators * limit_most
   cut-sum-le = sixteen-le (capped more less limit) limit_most (capped-length more less limit) cut-le
 
   pub balanced-le : (other sizes : List ℕ) (k : ℕ) → k < 16 → get_or (balanced (capped more less limit) other sizes) k 0 ≤ limit_most

@@ -6,3 +6,4 @@ pub mod LentLaws
 pub mod MovedBack
 pub mod LastFollows
 pub mod Quotients
+pub mod ListLimits

@@ -2,6 +2,7 @@
 -- Assumes nothing.
 use mathlib.Core.Path.{◌∙◌}
 use Rattle.values.specs.Indicator.{numbered}
+use Rattle.values.specs.Sequence.{sums_of_years}
 use Rattle.values.proofs.Scores.{years-within, scores-in-turn}
 use Rattle.values.proofs.SameMeasures.{values-same}
 use Rattle.values.proofs.scores_of.Goals as goal
@@ -14,4 +15,4 @@ returns c =
     λ b measured taking.
     let indicator = numbered c.args.number in
     let values = c.yearly_values.ensures ∙ values-same c.args.m.book.now b measured indicator.measure in
-    c.sums_of_years.ensures ∙ rw (taking, values) (scores-in-turn b indicator)
+    c.sums_of_years.ensures ∙ (λ i. sums_of_years (taking i) (values i)) ∙ scores-in-turn b indicator
