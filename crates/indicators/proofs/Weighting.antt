@@ -48,13 +48,18 @@ abbrev pub weighed : ℕ → List ℕ → List Bool → ℕ → ℕ → ℕ → 
 weighed mask own better g together operator =
     cond (has mask operator) (cond (eqb g 0) (get_or own operator 0) (cond (get_or better operator false) together (g * get_or own operator 0))) 0
 
+-- a table of who is better tells it of each
+pub told-better : (mask : ℕ) (sums : List ℕ) (better : List Bool) → better ≡ table operators (is_better mask sums) → (k : ℕ) → k < 16
+    → get_or better k false ≡ is_better mask sums k
+told-better mask sums better is k lt = rw is (table_at (is_better mask sums) 16 k false lt)
+
 -- it is the levelled one
 pub levelled-by : (mask : ℕ) (sums own : List ℕ) (better : List Bool) (g together : ℕ) → better ≡ table operators (is_better mask sums)
     → g ≡ count operators (λ (k : ℕ). get_or better k false) → together ≡ sum (each (λ (k : ℕ). cond (get_or better k false) (get_or own k 0) 0))
     → each (weighed mask own better g together) ≡ levelled_weights mask sums own
 unfolding levelled_weights levelled
 levelled-by mask sums own better g together is few all =
-    let here : (k : ℕ) → k < 16 → get_or better k false ≡ is_better mask sums k = λ k lt. rw is (table_at (is_better mask sums) 16 k false lt) in
+    let here : (k : ℕ) → k < 16 → get_or better k false ≡ is_better mask sums k = told-better mask sums better is in
     let counted : g ≡ count operators (is_better mask sums) = few ∙ count_same 16 _ _ here in
     let added : together ≡ sum (each (λ (k : ℕ). cond (is_better mask sums k) (get_or own k 0) 0)) = all ∙ ap sum (each_same _ _ (λ k lt. rw (here k lt) refl)) in
     each_same _ _ (λ k lt. rw (here k lt, counted, added) refl)

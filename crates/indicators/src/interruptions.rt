@@ -15,7 +15,6 @@ ghost use Rattle.indicators.specs.Points.{is_better};
 ghost use Rattle.indicators.specs.Sequence.{thousandths as thousandths_of_sums, exponent_weights, levelled_weights, in_sequence};
 
 use crate::weights::largest_of;
-use calls::has_bit;
 use std::array;
 use values::{Measured, sums_of_years, yearly_values};
 use weighing::{is_better, levelled_weight, normalise};
@@ -65,9 +64,17 @@ fn level(mask: u16, sums: [u64; 16], own: [u64; 16]) -> [u64; 16]
     let better = better_ones(mask, sums);
     let g = number_of(better);
     let together = weight_of(better, own);
+    let sum = apportion::sum_of(sums);
     array::from_fn(|operator| {
-        let takes_part = has_bit(mask, operator as u8);
-        levelled_weight(takes_part, better[operator], g, together, own[operator])
+        levelled_weight(
+            mask,
+            sums[operator],
+            sum,
+            operator as u8,
+            g,
+            together,
+            own[operator],
+        )
     })
 }
 

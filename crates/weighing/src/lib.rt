@@ -28,18 +28,28 @@ pub fn is_better(mask: u16, score: u64, sum: u64, operator: u8) -> bool
 }
 
 // The weight of one that takes part: each better operator takes the sum of their weights, each other g times its own. 0 for the others.
-pub fn levelled_weight(takes_part: bool, better: bool, g: u64, together: u64, own: u64) -> u64
+pub fn levelled_weight(
+    mask: u16,
+    score: u64,
+    sum: u64,
+    operator: u8,
+    g: u64,
+    together: u64,
+    own: u64,
+) -> u64
+    requires score_bounded { score ≤ score_most }
     requires few { g ≤ operators }
     requires own_most { own ≤ first_weight }
-    ensures { result ≡ cond takes_part (cond (eqb g 0) own (cond better together (g * own))) 0 }
+    ensures { result ≡ cond (has mask operator) (cond (eqb g 0) own (cond (has mask operator && ltb (ones mask * score) sum) together (g * own))) 0 }
 {
+    let takes_part = has_bit(mask, operator);
     if !takes_part {
         return 0;
     }
     if g == 0 {
         return own;
     }
-    if better {
+    if is_better(mask, score, sum, operator) {
         return together;
     }
     g * own
