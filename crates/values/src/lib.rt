@@ -21,8 +21,8 @@ pub use measured::Measured;
 pub use measures::settings_of;
 use measures::yearly_value;
 
-// The scores of the operators that take part in an indicator; 0 for the others. Whoever takes part, they are those of every book with these
-// measures.
+// The scores of the operators that take part in an indicator; 0 for the others. They are those of every book with these measures in which those
+// of the mask take part.
 pub fn scores_of(mask: u16, m: Measured, number: u8) -> [u64; 16]
     requires { number < indicator_count }
     ensures { (b : Declared-as-Book) → HasMeasures b m.entry.book.now.settings m.entry.book.now.figures m.entry.book.now.indices → mask ≡ reliable_mask b (numbered number) → result ≡ scores b (numbered number) }
